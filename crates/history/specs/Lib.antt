@@ -1,0 +1,9 @@
+pub mod Contents
+pub mod Eras
+pub mod Log
+pub mod Marks
+pub mod Next
+pub mod Room
+pub mod Rules
+pub mod Setup
+pub mod Tokens
