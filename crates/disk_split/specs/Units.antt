@@ -71,3 +71,8 @@ units_of size a z =
 unfoldable pub Tile : ℕ → ℕ → List Span → Type 0
 Tile a z [] = a ≡ z
 Tile a z (u ∷ rest) = (u.low ≡ a) × (u.low < u.high) × Tile u.high z rest
+
+-- each of these spans is a unit of the range
+unfoldable pub AreUnits : ℕ → ℕ → ℕ → List Span → Type 0
+AreUnits size a z [] = Unit {0}
+AreUnits size a z (u ∷ rest) = IsUnit size a z u × AreUnits size a z rest
