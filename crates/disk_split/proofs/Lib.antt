@@ -1,3 +1,4 @@
 pub mod Rounding
 pub mod Tiling
 pub mod Tiled
+pub mod Units

@@ -42,6 +42,13 @@ whole_end-within size a z some = elim (cases_lt z (up size a * size)) [
 pub behind : (size z : ℕ) → 0 < size → z < z / size * size + size
 behind size z some = omega arith
 
+-- a byte that is no block border has the next border behind its block
+pub up-inside : (size a : ℕ) → 0 < size → a < up size a * size → up size a ≡ a / size + 1
+up-inside size a some inside =
+    let below : a / size < up size a = lt_of_mul-lt-mul_right size (omega (arith, div-mul-le_self a size)) in
+    let above : up size a < a / size + 2 = lt_of_mul-lt-mul_right size (omega (arith, up-near size a some)) in
+    omega arith
+
 -- more blocks are more bytes
 pub wider : (size block count : ℕ) → 0 < size → 0 < count → block * size < (block + count) * size
 wider size block count some one =
