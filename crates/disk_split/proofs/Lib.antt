@@ -2,3 +2,4 @@ pub mod Rounding
 pub mod Tiling
 pub mod Tiled
 pub mod Units
+pub mod Shared
