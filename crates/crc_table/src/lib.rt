@@ -1,0 +1,2 @@
+//! CRC32 by a table.
+#![tactic(auto)]
