@@ -1,6 +1,6 @@
 -- CRC32 with the polynomial 04C11DB7 of UEFI 2.10, section 4.2, as the headers and the entry array of a GUID partition
 -- table use it (section 5.3). The order of the bits and the two inversions are written out as this project's own profile.
-use Rattle.std.specs.Prelude.{◌≡◌, ℕ, zero, suc, ◌+◌, ◌*◌, ◌/◌, ◌%◌, Bool, true, false, ◌==◌, if◌then◌else◌, not, List, [], ◌∷◌, ◌++◌, length, map, take, drop}
+use Rattle.std.specs.Prelude.{◌≡◌, ℕ, zero, suc, ◌+◌, ◌*◌, ◌/◌, ◌%◌, Bool, true, ◌==◌, if◌then◌else◌, not, List, [], ◌∷◌, ◌++◌, length, map, take, drop}
 use Rattle.crc_table.specs.Division.{zeros, divided}
 
 -- the n lowest bits of a number, the least one first
@@ -38,3 +38,7 @@ rest_of bytes = divided (length (message_bits bytes)) divisor_tail (dividend byt
 -- the CRC32 of these bytes: bit i is the coefficient of x^(31-i) of the rest, and all 32 bits are inverted
 unfoldable pub crc32_of : List ℕ → ℕ
 crc32_of bytes = number_of (map not (rest_of bytes))
+
+-- a `Crc`, which is seen as a number, has taken in these bytes
+abbrev pub Holds : ℕ → List ℕ → Type 0
+Holds crc bytes = crc ≡ crc32_of bytes

@@ -1,0 +1,12 @@
+-- The register of the private functions: the number whose bits, the least one first, are added to the first 32
+-- coefficients of the dividend that are left (own profile).
+use Rattle.std.specs.Prelude.{ℕ, zero, suc, ◌/◌, ◌%◌, ◌==◌, if◌then◌else◌, bit_xor}
+
+-- after one coefficient of the quotient
+abbrev pub shifted : ℕ → ℕ
+shifted register = bit_xor (register / 2) (if register % 2 == 1 then 0xEDB88320 else 0)
+
+-- after `count` coefficients of the quotient
+unfoldable pub shifted_by : ℕ → ℕ → ℕ
+shifted_by zero register = register
+shifted_by (suc count) register = shifted_by count (shifted register)
