@@ -69,55 +69,60 @@ length-times (x ∷ q) t =
     length-plus (scaled x (true ∷ t)) (false ∷ times q (true ∷ t)) (omega (arith, length-map (true ∷ t) (λ y. x && y), length-times q t))
     ∙ omega (arith, length-times q t)
 
-length-value : (q t r : List Bool) → length r ≡ length t → length (plus (times q (true ∷ t)) (zeros (length q) ++ r)) ≡ length q + length t
+-- the quotient times x^k + t, where t has k coefficients, plus the rest
+abbrev value : List Bool → List Bool → List Bool → List Bool
+value q t r = plus (times q (true ∷ t)) (zeros (length q) ++ r)
+
+length-value : (q t r : List Bool) → length r ≡ length t → length (value q t r) ≡ length q + length t
 length-value q t r short =
     length-plus (times q (true ∷ t)) (zeros (length q) ++ r) (omega (arith, length-times q t, length-padded (length q) r))
     ∙ omega (arith, length-padded (length q) r)
 
 -- one more coefficient of the quotient
-value-cons : (x : Bool) (q t r : List Bool) → plus (times (x ∷ q) (true ∷ t)) (zeros (suc (length q)) ++ r)
-    ≡ x ∷ plus (plus (times q (true ∷ t)) (zeros (length q) ++ r)) (scaled x t)
+value-cons : (x : Bool) (q t r : List Bool) → value (x ∷ q) t r ≡ x ∷ plus (value q t r) (scaled x t)
 unfolding plus times
 value-cons x q t r =
     let product = times q (true ∷ t) in
     let padded = zeros (length q) ++ r in
     cc (add_product x, plus_assoc (scaled x t) product padded, plus_comm (scaled x t) (plus product padded))
 
-divided-value : (q t r : List Bool) → length r ≡ length t → divided (length q) t (plus (times q (true ∷ t)) (zeros (length q) ++ r)) ≡ r
+length-scaled : (x : Bool) (t : List Bool) → length (scaled x t) ≡ length t
+length-scaled x t = length-map t (λ y. x && y)
+
+divided-value : (q t r : List Bool) → length r ≡ length t → divided (length q) t (value q t r) ≡ r
 unfolding times divided
 divided-value [] t r short = plus-zeros _ r (omega arith)
 divided-value (x ∷ q) t r short =
-    let value = plus (times q (true ∷ t)) (zeros (length q) ++ r) in
     ap (divided (suc (length q)) t) (value-cons x q t r)
-    ∙ ap (divided (length q) t) (plus_twice value (scaled x t) (omega (arith, length-value q t r short, length-map t (λ y. x && y))))
+    ∙ ap (divided (length q) t) (plus_twice (value q t r) (scaled x t) (omega (arith, length-value q t r short, length-scaled x t)))
     ∙ divided-value q t r short
+
+value-from : (x : Bool) (q t r m : List Bool) → length t ≤ length m → plus m (scaled x t) ≡ value q t r → x ∷ m ≡ value (x ∷ q) t r
+value-from x q t r m within is =
+    sym (value-cons x q t r ∙ ap (λ l. x ∷ plus l (scaled x t)) (sym is)
+    ∙ ap (λ l. x ∷ l) (plus_twice m (scaled x t) (omega (arith, length-scaled x t))))
 
 record Divides (n : ℕ) (t m : List Bool) : Type 0 where
   pub quotient : List Bool
-  pub long : length quotient ≡ n
   pub short : length (divided n t m) ≡ length t
-  pub sum : m ≡ plus (times quotient (true ∷ t)) (zeros (length quotient) ++ divided n t m)
+  pub sum : m ≡ value quotient t (divided n t m)
 
 divided-Divides : (n : ℕ) (t m : List Bool) → length m ≡ n + length t → Divides n t m
 unfolding times divided
 divided-Divides zero t m long = record {
   quotient = [];
-  long = refl;
   short = omega arith;
   sum = sym (plus-zeros _ m (omega arith));
 }
 divided-Divides (suc n) t [] long = absurd (omega arith)
 divided-Divides (suc n) t (x ∷ m) long =
-    let within : length (scaled x t) ≤ length m = omega (arith, length-map t (λ y. x && y)) in
-    let next = divided-Divides n t (plus m (scaled x t))
-    (ap length (plus_comm m (scaled x t)) ∙ length-plus (scaled x t) m within ∙ omega arith) in
+    let kept : length (plus m (scaled x t)) ≡ length m =
+        ap length (plus_comm m (scaled x t)) ∙ length-plus (scaled x t) m (omega (arith, length-scaled x t)) in
+    let next = divided-Divides n t (plus m (scaled x t)) (omega arith) in
     record {
       quotient = x ∷ next.quotient;
-      long = ap suc next.long;
       short = next.short;
-      sum =
-          sym (value-cons x next.quotient t (divided n t (plus m (scaled x t))) ∙ ap (λ l. x ∷ plus l (scaled x t)) (sym next.sum)
-          ∙ ap (λ l. x ∷ l) (plus_twice m (scaled x t) within));
+      sum = value-from x next.quotient t _ m (omega arith) next.sum;
     }
 
 pub divided-HasOneRest : (n : ℕ) (t m : List Bool) → length m ≡ n + length t → HasOneRest m (true ∷ t) (divided n t m)
@@ -126,14 +131,13 @@ divided-HasOneRest n t m long r = (only, found)
     only : IsRest m (true ∷ t) r → r ≡ divided n t m
     only rest =
         let short : length r ≡ length t = omega (arith, rest.short) in
-        let same : n ≡ length rest.quotient =
-        omega (arith, ap length rest.sum ∙ length-value rest.quotient t r short) in
+        let same : n ≡ length rest.quotient = omega (arith, ap length rest.sum ∙ length-value rest.quotient t r short) in
         sym (ap (λ k. divided k t m) same ∙ ap (divided (length rest.quotient) t) rest.sum ∙ divided-value rest.quotient t r short)
-
     found : r ≡ divided n t m → IsRest m (true ∷ t) r
     found is =
-        let division = divided-Divides n t m long in record {
+        let division = divided-Divides n t m long in
+        record {
           quotient = division.quotient;
           short = omega (arith, ap length is, division.short);
-          sum = division.sum ∙ ap (λ l. plus (times division.quotient (true ∷ t)) (zeros (length division.quotient) ++ l)) (sym is);
+          sum = division.sum ∙ ap (value division.quotient t) (sym is);
         }

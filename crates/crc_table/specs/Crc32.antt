@@ -1,12 +1,12 @@
--- CRC32 with the polynomial 04C11DB7 of UEFI 2.10, section 4.2, as the headers and the entry array of a GUID partition
--- table use it (section 5.3). The order of the bits and the two inversions are written out as this project's own profile.
+-- CRC32 as the rest of a division. UEFI 2.10 names the polynomial, 04C11DB7, in section 4.2, and the fields that hold a
+-- CRC32 in section 5.3.2. The order of the bits and the two inversions are written out here as this project's own profile.
 use Rattle.std.specs.Prelude.{◌≡◌, ℕ, zero, suc, ◌+◌, ◌*◌, ◌/◌, ◌%◌, Bool, true, ◌==◌, if◌then◌else◌, not, List, [], ◌∷◌, ◌++◌, length, map, take, drop}
 use Rattle.crc_table.specs.Division.{zeros, divided}
 
--- the n lowest bits of a number, the least one first
+-- the `count` lowest bits of a number, the least one first
 unfoldable pub bits_of : ℕ → ℕ → List Bool
 bits_of zero number = []
-bits_of (suc n) number = (number % 2 == 1) ∷ bits_of n (number / 2)
+bits_of (suc count) number = (number % 2 == 1) ∷ bits_of count (number / 2)
 
 -- the number with these bits, the least one first
 unfoldable pub number_of : List Bool → ℕ
@@ -18,16 +18,15 @@ unfoldable pub message_bits : List ℕ → List Bool
 message_bits [] = []
 message_bits (byte ∷ bytes) = bits_of 8 byte ++ message_bits bytes
 
--- the bits of the bytes and 32 zero bits, with the first 32 bits of that list inverted
+-- the bits of the bytes and then 32 zero bits, with the first 32 bits of that list inverted
 unfoldable pub dividend : List ℕ → List Bool
 dividend bytes =
     let all = message_bits bytes ++ zeros 32 in map not (take 32 all) ++ drop 32 all
 
--- the coefficients below x^32 of the divisor: that of x^(31-i) is bit i of this number
+-- the divisor below x^32: the coefficient of x^(31-i) is bit i of this number, which is 04C11DB7 read from its other end
 unfoldable pub divisor_tail : List Bool
 divisor_tail = bits_of 32 0xEDB88320
 
--- x^32 and its tail
 unfoldable pub divisor : List Bool
 divisor = true ∷ divisor_tail
 
@@ -35,10 +34,10 @@ divisor = true ∷ divisor_tail
 unfoldable pub rest_of : List ℕ → List Bool
 rest_of bytes = divided (length (message_bits bytes)) divisor_tail (dividend bytes)
 
--- the CRC32 of these bytes: bit i is the coefficient of x^(31-i) of the rest, and all 32 bits are inverted
+-- the CRC32 of the bytes: bit i is the coefficient of x^(31-i) of the rest, and all 32 bits are inverted
 unfoldable pub crc32_of : List ℕ → ℕ
 crc32_of bytes = number_of (map not (rest_of bytes))
 
--- a `Crc`, which is seen as a number, has taken in these bytes
+-- a `Crc`, which clauses see as a number, has taken in these bytes, all of them and in this order
 abbrev pub Holds : ℕ → List ℕ → Type 0
 Holds crc bytes = crc ≡ crc32_of bytes

@@ -1,33 +1,33 @@
-//! CRC32 by a table.
+//! The CRC32 that UEFI puts into table headers, over bytes that come at once or in pieces.
 #![tactic(auto)]
 
 ghost use Rattle.std.specs.Prelude.{◌≡◌, ℕ, ◌↔◌, List, [], ◌++◌};
 ghost use Rattle.crc_table.specs.Division.{HasOneRest};
-ghost use Rattle.crc_table.specs.Crc32.{dividend, divisor, rest_of, crc32_of};
+ghost use Rattle.crc_table.specs.Crc32.{dividend, divisor, rest_of, crc32_of, Holds};
 
 use std::marker::Model;
 
-mod table;
-
 use table::after_byte;
 
-/// A CRC32 over bytes that come in pieces: `new`, an `update` for each piece, and `value` (own profile).
+mod table;
+#[cfg(test)]
+mod tests;
+
+/// The CRC32 of bytes that come in pieces: `new`, an `update` for each piece, and `value` (own profile).
+///
+/// It takes no memory. A clause `Holds crc bytes` says that the pieces so far are `bytes`, one after the other.
 #[derive(Drop)]
 pub struct Crc {
     value: u32,
 }
 
 impl Model for Crc {
-    ghost use Rattle.std.specs.Prelude.{ℕ};
-
     ghost Value = { ℕ };
 
     ghost view = { λ c. c.value };
 }
 
 impl Crc {
-    ghost use Rattle.crc_table.specs.Crc32.{Holds};
-
     /// Of no bytes yet.
     pub fn new() -> Crc
         ensures { Holds result [] }
@@ -35,12 +35,12 @@ impl Crc {
         Crc { value: 0 }
     }
 
-    /// Adds the bytes `b` at the end.
-    pub fn update(&mut self, b: &[u8])
-        ensures { (before : List ℕ) → Holds self.old before → Holds self.new (before ++ b.now) }
+    /// Adds `bytes`, of any length, after the bytes so far.
+    pub fn update(&mut self, bytes: &[u8])
+        ensures { (before : List ℕ) → Holds self.old before → Holds self.new (before ++ bytes.now) }
     {
         let mut register = !self.value;
-        for byte in b {
+        for byte in bytes {
             register = after_byte(register, *byte);
         }
         self.value = !register;
@@ -54,12 +54,14 @@ impl Crc {
     }
 }
 
-/// The CRC32 of `b` (UEFI 2.10, sections 4.2 and 5.3; own profile).
-pub fn crc32(b: &[u8]) -> u32
-    ensures value { result ≡ crc32_of b.now }
-    ensures rest { HasOneRest (dividend b.now) divisor (rest_of b.now) }
+/// The CRC32 of `bytes` (UEFI 2.10, sections 4.2 and 5.3.2; the order of bits and the inversions are own profile).
+pub fn crc32(bytes: &[u8]) -> u32
+    ensures value { result ≡ crc32_of bytes.now }
+
+    // The rest that the definition takes is the only one that the division has.
+    ensures rest { HasOneRest (dividend bytes.now) divisor (rest_of bytes.now) }
 {
     let mut crc = Crc::new();
-    crc.update(b);
+    crc.update(bytes);
     crc.value()
 }
