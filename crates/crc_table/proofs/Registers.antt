@@ -1,20 +1,14 @@
 -- A register: the number whose bits, added to the first 32 of the bits that are left, are what long division has left.
-use Rattle.std.proofs.Common.{◌≡◌, ℕ, zero, suc, ◌+◌, ◌-◌, ◌/◌, ◌%◌, ◌^◌, ◌<◌, ◌≤◌, Bool, true, false, ◌==◌, not, List, [], ◌∷◌, ◌++◌, length, map, take, drop, replicate, refl, sym, ap, ◌∙◌, arith, length-append, append_assoc, bit_xor, get_or}
+use Rattle.std.proofs.Common.{◌≡◌, ℕ, zero, suc, ◌+◌, ◌-◌, ◌/◌, ◌%◌, ◌^◌, ◌<◌, ◌≤◌, Bool, true, false, ◌==◌, not, List, [], ◌∷◌, ◌++◌, length, map, take, drop, replicate, refl, sym, ap, ◌∙◌, arith, length-append, append_assoc, bit_xor}
 use Rattle.std.specs.Prelude.{if◌then◌else◌}
 use Rattle.std.proofs.Math.Numerals.{suc-eq-add-one}
 use Rattle.std.proofs.Math.Pow.{mod-mod-pow}
 use Rattle.std.proofs.Math.Nat.{pow-suc, zero-add, suc-add}
-use Rattle.std.proofs.lemmas.List.{take_more}
 use Rattle.std.proofs.lemmas.Nat.{xor_shr, xor_mod, xor_lt, field_of}
 use Rattle.crc_table.specs.Division.{add, plus, scaled, zeros, divided, HasOneRest}
 use Rattle.crc_table.specs.Crc32.{bits_of, number_of, message_bits, dividend, divisor_tail, divisor, rest_of, crc32_of, Holds}
-use Rattle.crc_table.specs.Registers.{shifted, shifted_by}
+use Rattle.crc_table.specs.Registers.{shifted, shifted_by, after}
 use Rattle.crc_table.proofs.Rests.{plus_comm, plus_assoc, plus-zeros, length-plus, divided-HasOneRest}
-
--- the register after these bytes
-unfoldable pub after : ℕ → List ℕ → ℕ
-after c [] = c
-after c (byte ∷ bytes) = after (shifted_by 8 (bit_xor c (byte % 256))) bytes
 
 -- ---- the bits of a number
 
@@ -227,16 +221,6 @@ pub after-append : (a b : List ℕ) (c : ℕ) → after c (a ++ b) ≡ after (af
 unfolding after
 after-append [] b c = refl
 after-append (byte ∷ bytes) b c = after-append bytes b (shifted_by 8 (bit_xor c (byte % 256)))
-
--- a register after one more of these bytes
-pub after-take : (start : ℕ) (bytes : List ℕ) (i register : ℕ) → i < length bytes → get_or bytes i 0 < 256
-    → register ≡ after start (take i bytes) → shifted_by 8 (bit_xor register (get_or bytes i 0)) ≡ after start (take (i + 1) bytes)
-unfolding after
-after-take start bytes i register within small so_far =
-    let byte = get_or bytes i 0 in
-    let low : byte ≡ byte % 256 = omega arith in
-    sym (ap (after start) (take_more bytes i 0 within) ∙ after-append (take i bytes) (byte ∷ []) start
-    ∙ ap (λ r. shifted_by 8 (bit_xor r (byte % 256))) (sym so_far) ∙ ap (λ b. shifted_by 8 (bit_xor register b)) (sym low))
 
 -- the register inverted, after more bytes
 pub Holds-append : (crc register : ℕ) (before bytes : List ℕ) → register ≡ after (2 ^ 32 - 1 - crc) bytes → Holds crc before

@@ -117,7 +117,7 @@ divided-Divides zero t m long = record {
 divided-Divides (suc n) t [] long = absurd (omega arith)
 divided-Divides (suc n) t (x ∷ m) long =
     let kept : length (plus m (scaled x t)) ≡ length m =
-        ap length (plus_comm m (scaled x t)) ∙ length-plus (scaled x t) m (omega (arith, length-scaled x t)) in
+    ap length (plus_comm m (scaled x t)) ∙ length-plus (scaled x t) m (omega (arith, length-scaled x t)) in
     let next = divided-Divides n t (plus m (scaled x t)) (omega arith) in
     record {
       quotient = x ∷ next.quotient;
@@ -133,6 +133,7 @@ divided-HasOneRest n t m long r = (only, found)
         let short : length r ≡ length t = omega (arith, rest.short) in
         let same : n ≡ length rest.quotient = omega (arith, ap length rest.sum ∙ length-value rest.quotient t r short) in
         sym (ap (λ k. divided k t m) same ∙ ap (divided (length rest.quotient) t) rest.sum ∙ divided-value rest.quotient t r short)
+
     found : r ≡ divided n t m → IsRest m (true ∷ t) r
     found is =
         let division = divided-Divides n t m long in

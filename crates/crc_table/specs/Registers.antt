@@ -1,6 +1,6 @@
--- The register of the private functions: the number whose bits, the least one first, are added to the first 32
--- coefficients of the dividend that are left (own profile).
-use Rattle.std.specs.Prelude.{ℕ, zero, suc, ◌/◌, ◌%◌, ◌==◌, if◌then◌else◌, bit_xor}
+-- The register of the private functions: the number whose bits, the least one first, added to the first 32 coefficients
+-- of the dividend that are left, are what long division has left (own profile).
+use Rattle.std.specs.Prelude.{ℕ, zero, suc, ◌/◌, ◌%◌, ◌==◌, if◌then◌else◌, bit_xor, List, [], ◌∷◌}
 
 -- after one coefficient of the quotient
 abbrev pub shifted : ℕ → ℕ
@@ -10,3 +10,8 @@ shifted register = bit_xor (register / 2) (if register % 2 == 1 then 0xEDB88320 
 unfoldable pub shifted_by : ℕ → ℕ → ℕ
 shifted_by zero register = register
 shifted_by (suc count) register = shifted_by count (shifted register)
+
+-- after these bytes, of each of which the eight lowest bits count
+unfoldable pub after : ℕ → List ℕ → ℕ
+after register [] = register
+after register (byte ∷ bytes) = after (shifted_by 8 (bit_xor register (byte % 256))) bytes

@@ -5,11 +5,11 @@ ghost use Rattle.std.specs.Prelude.{◌≡◌, ℕ, ◌↔◌, List, [], ◌++�
 ghost use Rattle.crc_table.specs.Division.{HasOneRest};
 ghost use Rattle.crc_table.specs.Crc32.{dividend, divisor, rest_of, crc32_of, Holds};
 
+use register::{after_bytes, after_eights};
 use std::marker::Model;
 
-use table::after_byte;
-
-mod table;
+mod register;
+mod tables;
 #[cfg(test)]
 mod tests;
 
@@ -39,11 +39,9 @@ impl Crc {
     pub fn update(&mut self, bytes: &[u8])
         ensures { (before : List ℕ) → Holds self.old before → Holds self.new (before ++ bytes.now) }
     {
-        let mut register = !self.value;
-        for byte in bytes {
-            register = after_byte(register, *byte);
-        }
-        self.value = !register;
+        let (eights, rest) = bytes.as_chunks::<8>();
+        let register = after_eights(!self.value, eights);
+        self.value = !after_bytes(register, rest);
     }
 
     /// The CRC32 of all bytes so far.
