@@ -1,3 +1,3 @@
 pub mod Rests
 pub mod Registers
-pub mod Entries
+pub mod LookUps

@@ -40,8 +40,8 @@ impl Crc {
         ensures { (before : List ℕ) → Holds self.old before → Holds self.new (before ++ bytes.now) }
     {
         let (eights, rest) = bytes.as_chunks::<8>();
-        let register = after_eights(!self.value, eights);
-        self.value = !after_bytes(register, rest);
+        let register = after_bytes(after_eights(!self.value, eights), rest);
+        self.value = !register;
     }
 
     /// The CRC32 of all bytes so far.

@@ -1,6 +1,6 @@
 use Rattle.std.proofs.Common.{refl, rules}
 use Rattle.crc_table.specs.Registers.{after}
-use Rattle.crc_table.proofs.Entries.{after-take}
+use Rattle.crc_table.proofs.LookUps.{after-take}
 use Rattle.crc_table.proofs.register.after_bytes.Goals as goal
 
 pub loop-byte-init : goal.loop-byte-init

@@ -1,7 +1,7 @@
 use Rattle.std.proofs.Common.{refl, rules, ap, ◌∙◌, bit_xor}
 use Rattle.std.proofs.lemmas.Nat.{xor_lt}
 use Rattle.crc_table.specs.Registers.{shifted_by}
-use Rattle.crc_table.proofs.Entries.{lookup-more, lookup_lt, lookup-end, after-eight}
+use Rattle.crc_table.proofs.LookUps.{lookup-more, lookup_lt, lookup-end, after-eight}
 use Rattle.crc_table.proofs.register.after_eight.Goals as goal
 
 pub loop-table-init : goal.loop-table-init

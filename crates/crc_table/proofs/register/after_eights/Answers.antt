@@ -1,6 +1,6 @@
 use Rattle.std.proofs.Common.{refl, ◌∙◌}
 use Rattle.crc_table.specs.Registers.{after}
-use Rattle.crc_table.proofs.Entries.{after-eights}
+use Rattle.crc_table.proofs.LookUps.{after-eights}
 use Rattle.crc_table.proofs.register.after_eights.Goals as goal
 
 pub loop-eight-init : goal.loop-eight-init

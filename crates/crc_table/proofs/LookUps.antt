@@ -1,5 +1,4 @@
--- The table's rule: its entries are the registers after eight coefficients, which is tested entry by entry, and one
--- look-up is eight coefficients of the quotient.
+-- A register as a sum of registers, the tables, and the look-ups that take in a byte or eight.
 use Rattle.std.proofs.Common.{◌≡◌, ℕ, zero, suc, ◌-◌, ◌+◌, ◌*◌, ◌/◌, ◌%◌, ◌^◌, ◌<◌, ◌≤◌, Bool, true, false, ◌&&◌, ◌==◌, List, [], ◌∷◌, ◌++◌, length, take, drop, get_or, subst, append_assoc, refl, sym, ap, ◌∙◌, arith, bit_xor, bit_and}
 use Rattle.std.specs.Prelude.{if◌then◌else◌}
 use Rattle.std.specs.Int.Bits.{xor_assoc, xor_zero_l, xor_zero_r}
@@ -16,7 +15,7 @@ use Rattle.crc_table.specs.declared.tables.TheConstants.{TABLES}
 use Rattle.crc_table.specs.Registers.{shifted, shifted_by, after}
 use Rattle.crc_table.proofs.Registers.{odd-xor, after-append}
 
--- ---- a register is a sum of registers
+-- ---- a sum of registers
 
 abbrev taken : Bool → ℕ
 taken x = if x then 0xEDB88320 else 0
