@@ -12,13 +12,14 @@ use Rattle.std.proofs.lemmas.Bool.{eqb-true, and_parts}
 use Rattle.std.proofs.lemmas.Nat.{xor_shr, xor_mod, xor_comm, xor_block, shr_split, pow_pos, mod_below, and_mask, shr_below}
 use Rattle.crc_table.specs.Division.{add}
 use Rattle.crc_table.specs.declared.tables.TheConstants.{TABLES}
+use Rattle.crc_table.specs.Crc32.{polynomial}
 use Rattle.crc_table.specs.Registers.{shifted, shifted_by, after}
 use Rattle.crc_table.proofs.Registers.{odd-xor, after-append}
 
 -- ---- a sum of registers
 
 abbrev taken : Bool → ℕ
-taken x = if x then 0xEDB88320 else 0
+taken x = if x then polynomial else 0
 
 taken-add : (x y : Bool) → taken (add x y) ≡ bit_xor (taken x) (taken y)
 taken-add false y = sym (xor_zero_l (taken y))

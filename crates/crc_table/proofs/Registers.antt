@@ -6,7 +6,7 @@ use Rattle.std.proofs.Math.Pow.{mod-mod-pow}
 use Rattle.std.proofs.Math.Nat.{pow-suc, zero-add, suc-add}
 use Rattle.std.proofs.lemmas.Nat.{xor_shr, xor_mod, xor_lt, field_of}
 use Rattle.crc_table.specs.Division.{add, plus, scaled, zeros, divided, HasOneRest}
-use Rattle.crc_table.specs.Crc32.{bits_of, number_of, message_bits, dividend, divisor_tail, divisor, rest_of, crc32_of, Holds}
+use Rattle.crc_table.specs.Crc32.{bits_of, number_of, message_bits, dividend, polynomial, divisor_tail, divisor, rest_of, crc32_of, Holds}
 use Rattle.crc_table.specs.Registers.{shifted, shifted_by, after}
 use Rattle.crc_table.proofs.Rests.{plus_comm, plus_assoc, plus-zeros, length-plus, divided-HasOneRest}
 
@@ -81,27 +81,27 @@ add_false false = refl
 add_false true = refl
 
 divided_shift : (w n c : ℕ) (l : List Bool) → c < 2 ^ suc w → suc w ≤ length l
-    → divided (suc n) (bits_of (suc w) 0xEDB88320) (plus (bits_of (suc w) c) (false ∷ l))
-    ≡ divided n (bits_of (suc w) 0xEDB88320) (plus (bits_of (suc w) (shifted c)) l)
+    → divided (suc n) (bits_of (suc w) polynomial) (plus (bits_of (suc w) c) (false ∷ l))
+    ≡ divided n (bits_of (suc w) polynomial) (plus (bits_of (suc w) (shifted c)) l)
 unfolding plus divided bits_of
 divided_shift w n c l small within =
-    let tail = bits_of (suc w) 0xEDB88320 in
+    let tail = bits_of (suc w) polynomial in
     let odd = c % 2 == 1 in
     let taken = scaled odd tail in
     let half = bits_of (suc w) (c / 2) in
     let rest : plus (bits_of w (c / 2)) l ≡ plus half l =
     sym (plus-bits_of w (suc w) (c / 2) l (halves w c small) (omega arith) within) in
     let register : bits_of (suc w) (shifted c) ≡ plus half taken =
-    bits_of-xor (suc w) (c / 2) (if odd then 0xEDB88320 else 0) ∙ ap (plus half) (bits_of-if (suc w) 0xEDB88320 odd) in
+    bits_of-xor (suc w) (c / 2) (if odd then polynomial else 0) ∙ ap (plus half) (bits_of-if (suc w) polynomial odd) in
     let turned : plus (plus half l) taken ≡ plus (plus half taken) l =
     plus_assoc half l taken ∙ ap (plus half) (plus_comm l taken) ∙ sym (plus_assoc half taken l) in
     ap (λ b. divided n tail (plus (plus (bits_of w (c / 2)) l) (scaled b tail))) (add_false odd)
     ∙ ap (divided n tail) (ap (λ r. plus r taken) rest ∙ turned ∙ ap (λ r. plus r l) (sym register))
 
 shifted_lt : (c : ℕ) → c < 2 ^ 32 → shifted c < 2 ^ 32
-shifted_lt c small = xor_lt 32 (c / 2) (if c % 2 == 1 then 0xEDB88320 else 0) (omega arith) (at_most (c % 2 == 1))
+shifted_lt c small = xor_lt 32 (c / 2) (if c % 2 == 1 then polynomial else 0) (omega arith) (at_most (c % 2 == 1))
   where
-    at_most : (x : Bool) → (if x then 0xEDB88320 else 0) < 2 ^ 32
+    at_most : (x : Bool) → (if x then polynomial else 0) < 2 ^ 32
     at_most true = omega arith
     at_most false = omega arith
 
@@ -196,7 +196,7 @@ rest_of-HasOneRest bytes =
     let padded = length-append (message_bits bytes) (zeros 32) in
     let long : length (dividend bytes) ≡ length all =
     ap length (dividend-plus bytes) ∙ length-plus (bits_of 32 0xFFFFFFFF) all (omega (arith, length-bits_of 32 0xFFFFFFFF, padded)) in
-    divided-HasOneRest (length (message_bits bytes)) divisor_tail (dividend bytes) (omega (arith, long, padded, length-bits_of 32 0xEDB88320))
+    divided-HasOneRest (length (message_bits bytes)) divisor_tail (dividend bytes) (omega (arith, long, padded, length-bits_of 32 polynomial))
 
 number_of-not : (n c : ℕ) → c < 2 ^ n → number_of (map not (bits_of n c)) + c + 1 ≡ 2 ^ n
 unfolding bits_of number_of

@@ -23,9 +23,13 @@ unfoldable pub dividend : List ℕ → List Bool
 dividend bytes =
     let all = message_bits bytes ++ zeros 32 in map not (take 32 all) ++ drop 32 all
 
--- the divisor below x^32: the coefficient of x^(31-i) is bit i of this number, which is 04C11DB7 read from its other end
+-- 04C11DB7 with its 32 bits in reverse
+abbrev pub polynomial : ℕ
+polynomial = 0xEDB88320
+
+-- the divisor below x^32: the coefficient of x^(31-i) is bit i of the polynomial
 unfoldable pub divisor_tail : List Bool
-divisor_tail = bits_of 32 0xEDB88320
+divisor_tail = bits_of 32 polynomial
 
 unfoldable pub divisor : List Bool
 divisor = true ∷ divisor_tail
