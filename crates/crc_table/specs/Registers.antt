@@ -1,0 +1,18 @@
+-- The register of the private functions: the number whose bits, the least one first, added to the first 32 coefficients
+-- of the dividend that are left, are what long division has left (own profile).
+use Rattle.std.specs.Prelude.{ℕ, zero, suc, ◌/◌, ◌%◌, ◌==◌, if◌then◌else◌, bit_xor, List, [], ◌∷◌}
+use Rattle.crc_table.specs.Crc32.{polynomial}
+
+-- after one coefficient of the quotient
+abbrev pub shifted : ℕ → ℕ
+shifted register = bit_xor (register / 2) (if register % 2 == 1 then polynomial else 0)
+
+-- after `count` coefficients of the quotient
+unfoldable pub shifted_by : ℕ → ℕ → ℕ
+shifted_by zero register = register
+shifted_by (suc count) register = shifted_by count (shifted register)
+
+-- after these bytes, of each of which the eight lowest bits count
+unfoldable pub after : ℕ → List ℕ → ℕ
+after register [] = register
+after register (byte ∷ bytes) = after (shifted_by 8 (bit_xor register (byte % 256))) bytes
