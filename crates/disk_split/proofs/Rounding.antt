@@ -62,6 +62,12 @@ whole_end-some size a z some long =
     let all : (up size a + whole_of size a z) * size ≡ z / size * size = ap (λ n. n * size) (whole_of-some size a z some long) in
     omega arith
 
+-- the whole blocks lie in the range
+pub whole-within : (size a z : ℕ) → 0 < whole_of size a z → (up size a + whole_of size a z) * size ≤ z
+whole-within size a z some =
+    let all : (up size a + whole_of size a z) * size ≡ z / size * size = ap (λ n. n * size) (omega arith) in
+    omega (arith, div-mul-le_self z size)
+
 pub whole_end-none : (size a z : ℕ) → 0 < size → z < up size a * size → whole_end size a z ≡ z
 whole_end-none size a z some short = rw (whole_of-none size a z some short) (omega arith)
 
