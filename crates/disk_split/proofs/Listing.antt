@@ -1,14 +1,15 @@
 -- The units of a range as a list that grows at its end, and how many they are.
-use Rattle.std.proofs.Common.{◌≡◌, ℕ, zero, suc, ◌+◌, ◌-◌, ◌/◌, ◌<◌, ◌≤◌, false, not, List, [], ◌∷◌, ◌++◌, length, Option, arith, refl, ap, inl, inr, ◌∙◌, append_assoc, length-append}
+use Rattle.std.proofs.Common.{◌≡◌, ℕ, zero, suc, ◌+◌, ◌-◌, ◌/◌, ◌<◌, ◌≤◌, Some, subst, false, true, not, List, [], ◌∷◌, ◌++◌, length, Option, arith, refl, ap, inl, inr, ◌∙◌, append_assoc, length-append}
 use Rattle.std.specs.List.{Contains, count_by}
 use Rattle.std.proofs.lemmas.Bool.{cases_lt, lt-ltb, le-ltb}
-use Rattle.std.proofs.lemmas.Option.{slice_get_within, get_or_from_slice_get}
+use Rattle.std.proofs.lemmas.Option.{slice_get-get_or, slice_get_within, get_or_from_slice_get}
 use Rattle.std.proofs.lemmas.List.Sums.{sum_by-append}
 use Rattle.disk_split.specs.declared.span.Span.{Span}
 use Rattle.disk_split.specs.declared.parts.Part.{Part}
 use Rattle.disk_split.specs.Parts.{part_of, spans_of}
-use Rattle.disk_split.specs.Units.{up, whole_of, whole_end, middle, part_in, run_at, runs_from, units_of, IsUnit}
-use Rattle.disk_split.proofs.Shared.{unit-listed}
+use Rattle.disk_split.specs.Units.{up, whole_of, whole_end, middle, part_in, run_at, runs_from, units_of, IsKind, IsRun, IsUnit, IsWhole, AreUnits}
+use Rattle.disk_split.proofs.Shared.{are-get, unit-listed}
+use Rattle.disk_split.proofs.Rounding.{whole-numbers}
 
 -- one run more stands behind the others
 pub runs-more : (size first whole n i : ℕ) → runs_from size first whole n i ++ (run_at size first whole (i + n) ∷ []) ≡ runs_from size first whole (n + 1) i
@@ -41,7 +42,7 @@ pub units-pushed : (size a z first whole : ℕ) (under over : Option Part) (es u
     → vs ≡ us ++ runs_from size first whole ((whole + 63) / 64) 0 → ws ≡ vs ++ spans_of size over → ws ≡ units_of size a z
 unfolding units_of
 units-pushed size a z first whole under over es us vs ws none begins count low high before runs behind =
-    behind ∙ rw (runs, before, none, low, high, begins, count, part-spans, part-spans, append_assoc) refl
+    behind ∙ rw (runs, before, none, low, high, begins, count, part-spans size a (middle size a z), part-spans size (whole_end size a z) z, append_assoc) refl
 
 length-part : (size a m : ℕ) → length (part_in size a m) ≤ 1
 length-part size a m = elim (cases_lt a m) [ inl less ↦ rw (lt-ltb a m less) (omega arith) | inr none ↦ rw (le-ltb a m none) (omega arith) ]
@@ -73,3 +74,11 @@ pub units-all : (size a z : ℕ) (u : Span) → 0 < size → IsUnit size a z u �
 units-all size a z u some unit =
     let (k, there) = unit-listed size a z u some unit in
     (k, slice_get_within _ k u there, get_or_from_slice_get _ k u u there)
+
+-- the blocks of a run are whole blocks of the range
+pub units-whole : (size a z : ℕ) (us : List Span) (u : Span) (block : ℕ) → 0 < size → AreUnits size a z us → Contains us u → u.whole ≡ true
+    → u.block ≤ block → block < u.block + u.count → IsWhole size a z block
+units-whole size a z us u block some units (k, inside, there) whole from until =
+    let unit : IsUnit size a z u = are-get size a z us k u units (slice_get-get_or us k u inside ∙ ap (λ v. Some v) there) in
+    let run : IsRun size a z u.block u.count = subst (λ w. IsKind size a z w u.block u.count) whole unit.kind in
+    (whole-numbers size a z block some).1 (omega arith, omega arith)

@@ -1,8 +1,8 @@
-ghost use Rattle.std.specs.Prelude.{◌≡◌, ℕ, ◌+◌, ◌*◌, ◌/◌, ◌^◌, ◌<◌, ◌≤◌, ◌++◌, length, not, IfOk, OnOk, IfSome};
+ghost use Rattle.std.specs.Prelude.{◌≡◌, ℕ, ◌+◌, ◌*◌, ◌/◌, ◌^◌, ◌<◌, ◌≤◌, ◌++◌, length, not, IfOk, OnOk, IfSome, IsTrue};
 ghost use Rattle.std.specs.List.{Contains, count_by};
 ghost use Rattle.disk_split.specs.Parts.{spans_of};
 ghost use Rattle.disk_split.specs.declared.span.Span.{Span};
-ghost use Rattle.disk_split.specs.Units.{IsUnit, AreUnits, Tile, run_at, runs_from, units_of, whole_of};
+ghost use Rattle.disk_split.specs.Units.{IsUnit, IsWhole, AreUnits, Tile, run_at, runs_from, units_of, whole_of};
 
 use super::parts::{Part, run, runs, split};
 use super::span::Span;
@@ -70,6 +70,7 @@ pub fn spans(alloc: Global, at: u64, len: u64, size: u32) -> Result<Vec<Span>, A
     ensures tile { IfOk result (λ units. Tile at (at + len) units.items) }
     ensures each { IfOk result (λ units. AreUnits size at (at + len) units.items) }
     ensures all { IfOk result (λ units. (unit : Span) → IsUnit size at (at + len) unit → Contains units.items unit) }
+    ensures whole { IfOk result (λ units. (unit : Span) (block : ℕ) → Contains units.items unit → IsTrue unit.whole → unit.block ≤ block → block < unit.block + unit.count → IsWhole size at (at + len) block) }
     ensures parts { IfOk result (λ units. count_by (λ unit. not unit.whole) units.items ≤ 2) }
     ensures count { IfOk result (λ units. length units.items ≤ (whole_of size at (at + len) + 63) / 64 + 2) }
 {

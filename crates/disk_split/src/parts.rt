@@ -2,6 +2,9 @@ ghost use Rattle.std.specs.Prelude.{◌≡◌, ℕ, ◌+◌, ◌-◌, ◌*◌, �
 ghost use Rattle.disk_split.specs.Parts.{part_of};
 ghost use Rattle.disk_split.specs.Units.{IsWhole, up, whole_of, whole_end, middle};
 
+/// The most blocks of one run (own profile).
+const RUN_BLOCKS: u64 = 64;
+
 /// A part of a range: some bytes of one block and not all (UEFI 2.10, 13.7).
 #[derive(Clone, Copy, Debug, PartialEq, Eq)]
 pub struct Part {
@@ -76,7 +79,7 @@ pub fn split(at: u64, len: u64, size: u32) -> Parts
 pub fn runs(whole: u64) -> u64
     ensures { result ≡ (whole + 63) / 64 }
 {
-    whole.div_ceil(64)
+    whole.div_ceil(RUN_BLOCKS)
 }
 
 /// Run number `i` of `whole` blocks from `first_whole` on: its first block, and how many it has (own profile).
@@ -86,6 +89,9 @@ pub fn run(first_whole: u64, whole: u64, i: u64) -> (u64, u32)
     ensures block { result.0 ≡ first_whole + 64 * i }
     ensures count { result.1 ≡ min 64 (whole - 64 * i) }
 {
-    let before = 64 * i;
-    (first_whole + before, (whole - before).min(64) as u32)
+    let before = RUN_BLOCKS * i;
+    (
+        first_whole + before,
+        (whole - before).min(RUN_BLOCKS) as u32,
+    )
 }
