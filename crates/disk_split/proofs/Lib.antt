@@ -3,3 +3,4 @@ pub mod Tiling
 pub mod Tiled
 pub mod Units
 pub mod Shared
+pub mod Listing

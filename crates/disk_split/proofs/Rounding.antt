@@ -1,8 +1,9 @@
 -- Rounding to block borders.
-use Rattle.std.proofs.Common.{◌≡◌, ℕ, ◌+◌, ◌*◌, ◌/◌, ◌<◌, ◌≤◌, arith, ap, inl, inr}
+use Rattle.std.proofs.Common.{◌≡◌, ℕ, ◌+◌, ◌*◌, ◌/◌, ◌%◌, ◌<◌, ◌↔◌, ◌≤◌, arith, ap, inl, inr}
 use Rattle.std.proofs.lemmas.Bool.{cases_lt}
 use Rattle.std.proofs.Math.Nat.{div-mul-le_self, le-div_iff_mul-le, lt_of_mul-lt-mul_right, mul-le-mul_right}
-use Rattle.disk_split.specs.Units.{up, whole_of, whole_end}
+use Rattle.std.specs.Int.{div_ceil}
+use Rattle.disk_split.specs.Units.{IsWhole, up, whole_of, whole_end}
 
 -- a block that begins at the byte or after it
 pub up-reaches : (size a : ℕ) → 0 < size → a ≤ up size a * size
@@ -11,6 +12,38 @@ up-reaches size a some = omega arith
 -- and the block before it begins before the byte
 pub up-near : (size a : ℕ) → 0 < size → up size a * size < a + size
 up-near size a some = omega arith
+
+-- no other block is so near
+pub up-only : (size a block : ℕ) → 0 < size → a ≤ block * size → block * size < a + size → up size a ≡ block
+up-only size a block some reaches near =
+    let left : up size a < block + 1 = lt_of_mul-lt-mul_right size (omega (arith, up-near size a some)) in
+    let right : block < up size a + 1 = lt_of_mul-lt-mul_right size (omega (arith, up-reaches size a some)) in
+    omega arith
+
+-- a border is its own
+pub border-here : (size a : ℕ) → 0 < size → a % size ≡ 0 → up size a ≡ a / size
+border-here size a some border = up-only size a (a / size) some (omega arith) (omega arith)
+
+-- any other byte has the next border behind its block
+pub border-next : (size a : ℕ) → 0 < size → 0 < a % size → up size a ≡ a / size + 1
+border-next size a some inside = up-only size a (a / size + 1) some (omega arith) (omega arith)
+
+-- bytes before the next border are those of a byte inside a block
+pub inside : (size a : ℕ) → 0 < size → a < up size a * size ↔ 0 < a % size
+inside size a some = elim (cases_lt 0 (a % size)) [
+  | inl inner ↦
+      let border : up size a * size ≡ (a / size + 1) * size = ap (λ n. n * size) (border-next size a some inner) in
+      (λ less. inner, λ less. omega arith)
+  | inr border ↦
+      let here : up size a * size ≡ a / size * size = ap (λ n. n * size) (border-here size a some (omega arith)) in
+      (λ less. omega arith, λ less. omega arith)
+]
+
+pub up-ceil : (size a : ℕ) → 0 < size → div_ceil a size ≡ up size a
+up-ceil size a some = elim (cases_lt 0 (a % size)) [
+  | inl inner ↦ omega (arith, border-next size a some inner)
+  | inr border ↦ omega (arith, border-here size a some (omega arith))
+]
 
 -- a range that does not reach the next block border has no whole block
 pub whole_of-none : (size a z : ℕ) → 0 < size → z < up size a * size → whole_of size a z ≡ 0
@@ -29,6 +62,12 @@ whole_end-some size a z some long =
     let all : (up size a + whole_of size a z) * size ≡ z / size * size = ap (λ n. n * size) (whole_of-some size a z some long) in
     omega arith
 
+-- the whole blocks lie in the range
+pub whole-within : (size a z : ℕ) → 0 < whole_of size a z → (up size a + whole_of size a z) * size ≤ z
+whole-within size a z some =
+    let all : (up size a + whole_of size a z) * size ≡ z / size * size = ap (λ n. n * size) (omega arith) in
+    omega (arith, div-mul-le_self z size)
+
 pub whole_end-none : (size a z : ℕ) → 0 < size → z < up size a * size → whole_end size a z ≡ z
 whole_end-none size a z some short = rw (whole_of-none size a z some short) (omega arith)
 
@@ -42,12 +81,18 @@ whole_end-within size a z some = elim (cases_lt z (up size a * size)) [
 pub behind : (size z : ℕ) → 0 < size → z < z / size * size + size
 behind size z some = omega arith
 
--- a byte that is no block border has the next border behind its block
-pub up-inside : (size a : ℕ) → 0 < size → a < up size a * size → up size a ≡ a / size + 1
-up-inside size a some inside =
-    let below : a / size < up size a = lt_of_mul-lt-mul_right size (omega (arith, div-mul-le_self a size)) in
-    let above : up size a < a / size + 2 = lt_of_mul-lt-mul_right size (omega (arith, up-near size a some)) in
-    omega arith
+-- the whole blocks by their numbers
+pub whole-numbers : (size a z block : ℕ) → 0 < size → IsWhole size a z block ↔ ((up size a ≤ block) × (block < up size a + whole_of size a z))
+whole-numbers size a z block some = (
+  λ whole.
+      let first : up size a < block + 1 = lt_of_mul-lt-mul_right size (omega (arith, up-near size a some, whole.begins)) in
+      let last : block + 1 ≤ z / size = (le-div_iff_mul-le some).1 (omega (arith, whole.ends)) in
+      (omega arith, omega arith),
+  λ (from, until).
+      let first : up size a * size ≤ block * size = mul-le-mul_right size from in
+      let last : (block + 1) * size ≤ z / size * size = mul-le-mul_right size (omega arith) in
+      record { begins = omega (arith, up-reaches size a some); ends = omega (arith, div-mul-le_self z size) },
+)
 
 -- more blocks are more bytes
 pub wider : (size block count : ℕ) → 0 < size → 0 < count → block * size < (block + count) * size

@@ -4,7 +4,7 @@ use Rattle.std.proofs.lemmas.Bool.{cases_lt, lt-ltb, le-ltb}
 use Rattle.std.proofs.Math.Nat.{div-mul-le_self, mul-le-mul_right, mul-div_left}
 use Rattle.disk_split.specs.declared.span.Span.{Span}
 use Rattle.disk_split.specs.Units.{up, whole_of, whole_end, middle, IsUnit, part_in, run_at, runs_from, units_of, AreUnits}
-use Rattle.disk_split.proofs.Rounding.{up-reaches, up-near, up-inside, whole_of-some, whole_end-some, whole_end-none, behind, wider}
+use Rattle.disk_split.proofs.Rounding.{up-reaches, up-near, border-next, inside, whole_of-some, whole_end-some, whole_end-none, behind, wider}
 
 pub are-append : (size a z : ℕ) (us vs : List Span) → AreUnits size a z us → AreUnits size a z vs → AreUnits size a z (us ++ vs)
 unfolding AreUnits
@@ -16,7 +16,7 @@ pub part-before : (size a z : ℕ) → 0 < size → AreUnits size a z (part_in s
 unfolding AreUnits
 part-before size a z some = elim (cases_lt a (middle size a z)) [
   | inl less ↦
-      let border : up size a * size ≡ (a / size + 1) * size = ap (λ n. n * size) (up-inside size a some (omega arith)) in
+      let border : up size a * size ≡ (a / size + 1) * size = ap (λ n. n * size) (border-next size a some ((inside size a some).0 (omega arith))) in
       rw (lt-ltb a (middle size a z) less) (record { low = omega arith; high = omega arith; some = less; kind = (record { some = omega arith; cut = inl (omega (arith, up-near size a some)) }, refl) }, tt)
   | inr same ↦ rw (le-ltb a (middle size a z) same) tt
 ]

@@ -1,6 +1,6 @@
 -- Ranges of bytes, blocks, and the units into which a range is cut (UEFI 2.10, 13.7; the cut into runs: own profile).
 -- A range [a, z) has the bytes from a on and before z.
-use Rattle.std.specs.Prelude.{◌≡◌, ℕ, zero, suc, ◌+◌, ◌-◌, ◌*◌, ◌/◌, ◌<◌, min, max, ◌⊎◌, Bool, true, false, nat_lt, if◌then◌else◌, List, [], ◌∷◌, ◌++◌}
+use Rattle.std.specs.Prelude.{◌≡◌, ℕ, zero, suc, ◌+◌, ◌-◌, ◌*◌, ◌/◌, ◌<◌, ◌≤◌, min, max, ◌⊎◌, Bool, true, false, nat_lt, if◌then◌else◌, List, [], ◌∷◌, ◌++◌}
 use Rattle.disk_split.specs.declared.span.Span.{Span}
 
 -- the least block that begins at this byte or after it
@@ -15,6 +15,11 @@ whole_of size a z = z / size - up size a
 pub record IsPart (size a z block : ℕ) : Type 0 where
   pub some : max a (block * size) < min z (block * size + size)
   pub cut : (block * size < a) ⊎ (z < block * size + size)
+
+-- a whole block: the range has all of its bytes
+pub record IsWhole (size a z block : ℕ) : Type 0 where
+  pub begins : a ≤ block * size
+  pub ends : block * size + size ≤ z
 
 -- the whole blocks in order are cut into runs of 64 from the first, and the last run has the rest
 pub record IsRun (size a z block count : ℕ) : Type 0 where
