@@ -90,8 +90,6 @@ pub fn run(first_whole: u64, whole: u64, i: u64) -> (u64, u32)
     ensures count { result.1 ≡ min 64 (whole - 64 * i) }
 {
     let before = RUN_BLOCKS * i;
-    (
-        first_whole + before,
-        (whole - before).min(RUN_BLOCKS) as u32,
-    )
+    let count = (whole - before).min(RUN_BLOCKS) as u32;
+    (first_whole + before, count)
 }
