@@ -30,10 +30,6 @@ trail_of start size fed = record { start = start; size = size; named = Some 0 �
 abbrev pub after : Trail → List ℕ → Trail
 after t block = record t { named = t.named ++ link_of block ∷ [] }
 
--- it names the block that stands so many blocks behind the start
-abbrev pub names : ℕ → Option ℕ → Bool
-names place link = option_map_or (λ x. x == place) link false
-
 -- how many extended boot records were fed
 abbrev pub count_of : Trail → ℕ
 count_of t = length t.named - 1
@@ -67,3 +63,7 @@ logical_at t own r =
 -- The logical partition that a block gives, as the next extended boot record of the chain. One without 55 AA gives none.
 abbrev pub logical_of : Trail → List ℕ → Option (ℕ × ℕ)
 logical_of t block = option_and_then (λ own. option_and_then (λ ebr. logical_at t own (record_at 0 ebr)) (mbr_of block)) (next_of t)
+
+-- A link names the block that stands so many blocks behind the start.
+abbrev pub names : ℕ → Option ℕ → Bool
+names place link = option_map_or (λ x. x == place) link false

@@ -1,5 +1,5 @@
-ghost use Rattle.std.specs.Prelude.{◌≡◌};
-ghost use Rattle.mbr_records.specs.Block.{is_marked};
+ghost use Rattle.std.specs.Prelude.{ℕ, ◌≡◌, ◌+◌, ◌≤◌, true, IfSome, slice_get};
+ghost use Rattle.mbr_records.specs.Block.{gives_partition, is_marked, overlaps_another, usable_of};
 
 use crate::partition_record::MbrRecord;
 use byteorder::{ByteOrder, LittleEndian};
@@ -23,7 +23,7 @@ impl Model for Mbr {
 impl Mbr {
     ghost use Rattle.std.specs.List.{list_any};
     ghost use Rattle.mbr_records.specs.Record.{is_protective};
-    ghost use Rattle.mbr_records.specs.Block.{extended_of, fields_of, gives_partition, mbr_of, overlaps_another, usable_of};
+    ghost use Rattle.mbr_records.specs.Block.{extended_of, fields_of, mbr_of};
 
     /// The record in the first 512 bytes of a block. None exactly where bytes 510 and 511 are not 55 AA (UEFI 2.10, 5.2.1).
     pub fn read(block: &[u8; 512]) -> Option<Mbr>
@@ -73,35 +73,18 @@ impl Mbr {
     /// Which records give a partition of a medium of so many blocks: a used record of a type other than 05, 0F and EE, whose end
     /// is at most the medium's and which shares no block with another used record (own profile).
     pub fn usable(&self, blocks: u64) -> [bool; 4]
-        ensures { result ≡ usable_of blocks self.now.records }
+        ensures exact { result ≡ usable_of blocks self.now.records }
+        ensures inside { (i : ℕ) → slice_get result i ≡ Some true →
+            IfSome (slice_get self.now.records i) (λ r. r.start + r.size ≤ blocks) }
     {
-        let [first, second, third, fourth] = self.records;
-        [
-            self.gives_partition(blocks, 0, first),
-            self.gives_partition(blocks, 1, second),
-            self.gives_partition(blocks, 2, third),
-            self.gives_partition(blocks, 3, fourth),
-        ]
-    }
-
-    fn gives_partition(&self, blocks: u64, place: usize, entry: MbrRecord) -> bool
-        ensures { result ≡ gives_partition blocks self.now.records place entry }
-    {
-        entry.is_data() && entry.is_on_medium(blocks) && !self.overlaps_another(place, entry)
-    }
-
-    fn overlaps_another(&self, place: usize, entry: MbrRecord) -> bool
-        ensures { result ≡ overlaps_another self.now.records place entry }
-    {
-        self.records.iter().enumerate().any(|(i, other)| i != place
-            && other.is_used()
-            && entry.shares_block(*other))
+        usable_flags(&self.records, blocks)
     }
 
     /// The first block and the number of blocks of the extended partition: the first used record of type 05 or 0F whose end is at
     /// most that of a medium of so many blocks. None exactly where there is no such record (own profile).
     pub fn extended(&self, blocks: u64) -> Option<(u64, u64)>
-        ensures { result ≡ extended_of blocks self.now.records }
+        ensures exact { result ≡ extended_of blocks self.now.records }
+        ensures inside { IfSome result (λ p. p.0 + p.1 ≤ blocks) }
     {
         self.records
             .iter()
@@ -115,4 +98,33 @@ fn is_marked(block: &[u8; 512]) -> bool
     ensures { result ≡ is_marked block.now }
 {
     block[510] == 0x55 && block[511] == 0xAA
+}
+
+/// Which of the four records give a partition of a medium of so many blocks.
+fn usable_flags(records: &[MbrRecord; 4], blocks: u64) -> [bool; 4]
+    ensures { result ≡ usable_of blocks records.now }
+{
+    let [first, second, third, fourth] = *records;
+    [
+        gives_partition(records, blocks, 0, first),
+        gives_partition(records, blocks, 1, second),
+        gives_partition(records, blocks, 2, third),
+        gives_partition(records, blocks, 3, fourth),
+    ]
+}
+
+/// Whether the record at this place gives a partition.
+fn gives_partition(records: &[MbrRecord; 4], blocks: u64, place: usize, entry: MbrRecord) -> bool
+    ensures { result ≡ gives_partition blocks records.now place entry }
+{
+    entry.is_data() && entry.is_on_medium(blocks) && !overlaps_another(records, place, entry)
+}
+
+/// Whether the record at this place shares a block with another used record.
+fn overlaps_another(records: &[MbrRecord; 4], place: usize, entry: MbrRecord) -> bool
+    ensures { result ≡ overlaps_another records.now place entry }
+{
+    records.iter().enumerate().any(|(i, other)| i != place
+        && other.is_used()
+        && entry.shares_block(*other))
 }
