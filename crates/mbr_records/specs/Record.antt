@@ -21,7 +21,7 @@ record_of bytes = record {
 abbrev pub is_used : MbrRecord → Bool
 is_used r = not (r.os_type == UNUSED) && not (r.size == 0)
 
--- it is the cover that a disk with a GPT shows, of whatever size (UEFI 2.10, 5.2.3)
+-- it is the cover that a disk with a GPT shows (UEFI 2.10, 5.2.3); its size is not asked (own profile)
 abbrev pub is_protective : MbrRecord → Bool
 is_protective r = r.os_type == GPT_PROTECTIVE && r.start == 1
 
