@@ -1,0 +1,47 @@
+-- A block that holds a master boot record, or an extended boot record, which has the same fields.
+use Rattle.std.specs.Prelude.{ℕ, ◌+◌, ◌*◌, ◌==◌, ◌&&◌, Bool, not, List, [], ◌∷◌, map, find, slice_index, slice_index_or, slice_range, Option, Some, None, if◌then◌else◌}
+use Rattle.std.specs.List.{list_any, enumerate_from}
+use Rattle.std.specs.Option.{option_map}
+use Rattle.mbr_records.specs.declared.partition_record.MbrRecord.{MbrRecord}
+use Rattle.mbr_records.specs.Record.{record_of, is_data, is_extended, is_on_medium, is_used, number_at, shares_block}
+
+-- what a master boot record tells
+pub record Fields : Type 0 where
+  pub signature : ℕ
+  pub records : List MbrRecord
+
+-- the block ends its first 512 bytes with 55 AA (UEFI 2.10, 5.2.1, "Legacy MBR")
+abbrev pub is_marked : List ℕ → Bool
+is_marked block = slice_index block 510 == 0x55 && slice_index block 511 == 0xAA
+
+-- the four records, from byte 446 on (UEFI 2.10, 5.2.1)
+abbrev pub records_of : List ℕ → List MbrRecord
+records_of block = map (λ i. record_of (slice_range block (446 + 16 * i) (462 + 16 * i))) (0 ∷ 1 ∷ 2 ∷ 3 ∷ [])
+
+-- the fields of the block: the disk signature is at byte 440 (UEFI 2.10, 5.2.1)
+abbrev pub fields_of : List ℕ → Fields
+fields_of block = record { signature = number_at 440 block; records = records_of block }
+
+-- the master boot record in the block, where it is marked
+abbrev pub mbr_of : List ℕ → Option Fields
+mbr_of block = if is_marked block then Some (fields_of block) else None
+
+-- the record at place i, of the four from 0 on
+abbrev pub record_at : ℕ → Fields → MbrRecord
+record_at i mbr = slice_index_or mbr.records i (record { boot = 0; os_type = 0; start = 0; size = 0 })
+
+-- the record at place i shares a block with another used record
+abbrev pub overlaps_another : List MbrRecord → ℕ → MbrRecord → Bool
+overlaps_another records i r = list_any (λ (j, s). not (j == i) && is_used s && shares_block r s) (enumerate_from 0 records)
+
+-- the record at place i gives a partition of a medium of so many blocks (own profile)
+abbrev pub gives_partition : ℕ → List MbrRecord → ℕ → MbrRecord → Bool
+gives_partition blocks records i r = is_data r && is_on_medium blocks r && not (overlaps_another records i r)
+
+-- which of the records give a partition
+abbrev pub usable_of : ℕ → List MbrRecord → List Bool
+usable_of blocks records = map (λ (i, r). gives_partition blocks records i r) (enumerate_from 0 records)
+
+-- where the extended partition begins, and how many blocks it has (own profile)
+abbrev pub extended_of : ℕ → List MbrRecord → Option (ℕ × ℕ)
+extended_of blocks records = option_map (λ r. (r.start, r.size)) (find (λ r. is_extended r && is_on_medium blocks r) records)
