@@ -1,0 +1,131 @@
+-- A disk stays sound over an entry of its first open token.
+use Rattle.std.proofs.Common.{◌≡◌, ◌≢◌, ℕ, zero, suc, ◌+◌, ◌*◌, ◌^◌, ◌<◌, ◌≤◌, inl, inr, Bool, true, false, List, [], ◌∷◌, slice_get, set, length, Option, None, Some, refl, sym, ◌∙◌, ap, arith}
+use Rattle.std.proofs.lemmas.Bool.{cases_eq}
+use Rattle.disk_split.specs.declared.span.Span.{Span}
+use Rattle.medium.specs.Device.{Device, StayPrepared}
+use Rattle.history.specs.declared.entry.Kind.TheVariants.{Write}
+use Rattle.history.specs.declared.entry.Command.{Command}
+use Rattle.history.specs.declared.entry.Entry.{Entry}
+use Rattle.history.specs.declared.entry.Entry.TheVariants.{Done, Fault}
+use Rattle.history.specs.Setup.{Setup}
+use Rattle.history.specs.Eras.{ejects, inserts, is_protected}
+use Rattle.history.specs.Tokens.{Request, accepted}
+use Rattle.history.specs.Rules.{IsLegal, MayFollow}
+use Rattle.history.specs.Room.{owed_entries, token_owed, tokens_owed}
+use Rattle.disk_core.specs.declared.record.Record.{Record}
+use Rattle.disk_core.specs.declared.record.Core.{Core}
+use Rattle.disk_core.specs.State.{Meets}
+use Rattle.disk_core.specs.Sound.{IsSound, IsGate, IsPlain, AreReady, AreFew, Tracks}
+use Rattle.disk_core.proofs.Silence.{IsSilent, done-silent, fault-silent}
+use Rattle.disk_core.proofs.Owed.{tokens-fall}
+use Rattle.disk_core.proofs.Tracked.{tracks-silent}
+use Rattle.disk_core.proofs.Places.{get-set-same, get-set-other, length-set-here, inside-some}
+
+-- an entry of one token that changes neither medium nor number of tokens
+pub record IsOwn (S : Setup) (H : List Entry) (e : Entry) (t : ℕ) : Type 0 where
+  pub silent : (u : ℕ) → t ≢ u → IsSilent S H e u
+  pub same_accepted : accepted (e ∷ H) ≡ accepted H
+  pub same_ejects : ejects (e ∷ H) ≡ ejects H
+  pub same_inserts : inserts (e ∷ H) ≡ inserts H
+  pub same_protection : is_protected S (e ∷ H) ≡ is_protected S H
+
+pub done-own : (S : Setup) (H : List Entry) (t : ℕ) (c : Command) → IsOwn S H (Done t c) t
+unfolding accepted ejects inserts is_protected
+done-own S H t c = record { silent = λ u ne. done-silent S H t u c ne; same_accepted = refl; same_ejects = refl; same_inserts = refl; same_protection = refl }
+
+pub fault-own : (S : Setup) (H : List Entry) (t : ℕ) (c : Command) (done : ℕ) → IsOwn S H (Fault t c done) t
+unfolding accepted ejects inserts is_protected
+fault-own S H t c done = record { silent = λ u ne. fault-silent S H t u c done ne; same_accepted = refl; same_ejects = refl; same_inserts = refl; same_protection = refl }
+
+-- all tokens together owe less where this one does
+pub owed-falls : (S : Setup) (H : List Entry) (e : Entry) (t : ℕ) → IsOwn S H e t → t < accepted H → token_owed S.size (e ∷ H) t + 1 ≤ token_owed S.size H t → owed_entries S (e ∷ H) + 1 ≤ owed_entries S H
+unfolding owed_entries
+owed-falls S H e t own token falls =
+    let sum : tokens_owed S.size (e ∷ H) (accepted H) + 1 ≤ tokens_owed S.size H (accepted H) = tokens-fall S H e (accepted H) t token falls own.silent in
+    rw (own.same_accepted, own.same_ejects, own.same_inserts) (omega arith)
+
+pub plain-own : (S : Setup) (H : List Entry) (e : Entry) (t : ℕ) → IsOwn S H e t → IsPlain S H → IsPlain S (e ∷ H)
+plain-own S H e t own plain = record {
+    ejects = own.same_ejects ∙ plain.ejects;
+    inserts = own.same_inserts ∙ plain.inserts;
+    unprotected = own.same_protection ∙ plain.unprotected;
+  }
+
+-- what the first open record is after the entry
+pub record Becomes (r r' : Record) : Type 0 where
+  pub units : r'.units.items ≡ r.units.items
+  pub kind : r'.kind ≡ r.kind
+  pub unended : r'.status ≡ None → r.status ≡ None
+
+-- what a step leaves
+pub record Leaves (S : Setup) (d d' : Device) (c c' : Core) (e : Entry) (r r' : Record) (q : Request) : Type 0 where
+  pub was : slice_get c.records.items c.first ≡ Some r
+  pub entries : c'.history.entries ≡ e ∷ c.history.entries
+  pub spare : c'.history.spare + 1 ≡ c.history.spare
+  pub records : c'.records.items ≡ set c.records.items c.first r'
+  pub first : c'.first ≡ c.first
+  pub block : length c'.block.items ≡ S.size
+  pub own : IsOwn S c.history.entries e c.first
+  pub may : MayFollow S c.history.entries e
+  pub meets : Meets S (e ∷ c.history.entries) d'
+  pub tracks : Tracks S (e ∷ c.history.entries) c.first r' q
+  pub gate : IsGate S (e ∷ c.history.entries) c'.records.items c.first c'.block.items c'.held
+  pub owed : token_owed S.size (e ∷ c.history.entries) c.first + 1 ≤ token_owed S.size c.history.entries c.first
+  pub becomes : Becomes r r'
+
+legal-more : (S : Setup) (H : List Entry) (e : Entry) → IsLegal S H → MayFollow S H e → IsLegal S (e ∷ H)
+unfolding IsLegal
+legal-more S H e legal may = (legal, may)
+
+tracked-after : (S : Setup) (H : List Entry) (e : Entry) (records : List Record) (t : ℕ) (r r' : Record) (q : Request) → IsOwn S H e t → slice_get records t ≡ Some r → Tracks S (e ∷ H) t r' q
+    → ((u : ℕ) (x : Record) → slice_get records u ≡ Some x → (p : Request) × Tracks S H u x p)
+    → (u : ℕ) (x : Record) → slice_get (set records t r') u ≡ Some x → (p : Request) × Tracks S (e ∷ H) u x p
+tracked-after S H e records t r r' q own was tracks each u x is =
+    elim (cases_eq t u) [
+      inl same ↦
+        let here : slice_get (set records t r') t ≡ Some x = rw (sym same) at is in
+        let one : r' ≡ x = some-is r' x (sym (get-set-same records t r r' was) ∙ here) in
+        (q, rw (sym same, sym one) tracks)
+    | inr other ↦
+        let before : (p : Request) × Tracks S H u x p = each u x (sym (get-set-other records t u r' other) ∙ is) in
+        (before.0, tracks-silent S H e u x before.0 (own.silent u other) before.1)
+    ]
+  where
+  some-is : (a b : Record) → Some a ≡ Some b → a ≡ b
+  some-is a b e = cc
+
+ready-after : (S : Setup) (prepared prepared' : ℕ → Type 0) (records : List Record) (t : ℕ) (r r' : Record) → StayPrepared prepared prepared' → slice_get records t ≡ Some r → Becomes r r' → AreReady S records prepared → AreReady S (set records t r') prepared'
+ready-after S prepared prepared' records t r r' stay was becomes ready u k b x v is unended writes unit from until =
+    stay b (elim (cases_eq t u) [
+      inl same ↦
+        let here : slice_get (set records t r') t ≡ Some x = rw (sym same) at is in
+        let one : r' ≡ x = some-is r' x (sym (get-set-same records t r r' was) ∙ here) in
+        ready t k b r v was (becomes.unended (ap (λ (y : Record). y.status) one ∙ unended)) (sym becomes.kind ∙ (ap (λ (y : Record). y.kind) one ∙ writes))
+          (ap (λ us. slice_get us k) (sym becomes.units) ∙ (ap (λ (y : Record). slice_get y.units.items k) one ∙ unit)) from until
+    | inr other ↦ ready u k b x v (sym (get-set-other records t u r' other) ∙ is) unended writes unit from until
+    ])
+  where
+  some-is : (a b : Record) → Some a ≡ Some b → a ≡ b
+  some-is a b e = cc
+
+-- the disk is sound after the entry
+pub sound-after : (S : Setup) (d d' : Device) (prepared prepared' : ℕ → Type 0) (c c' : Core) (e : Entry) (r r' : Record) (q : Request) → IsSound S d prepared c → StayPrepared prepared prepared' → Leaves S d d' c c' e r r' q → IsSound S d' prepared' c'
+sound-after S d d' prepared prepared' c c' e r r' q sound stay leaves =
+    let H = c.history.entries in
+    let token : c.first < accepted H = rw (sym sound.count) (inside-some c.records.items c.first r leaves.was) in
+    let falls : owed_entries S (e ∷ H) + 1 ≤ owed_entries S H = owed-falls S H e c.first leaves.own token leaves.owed in
+    let long : length (e ∷ H) ≡ suc (length H) = refl in
+    record {
+      legal = rw leaves.entries (legal-more S H e sound.legal leaves.may);
+      plain = rw leaves.entries (plain-own S H e c.first leaves.own sound.plain);
+      meets = rw leaves.entries leaves.meets;
+      count = rw (leaves.entries, leaves.records) (length-set-here c.records.items c.first r' ∙ (sound.count ∙ sym leaves.own.same_accepted));
+      tracked = rw (leaves.entries, leaves.records) (tracked-after S H e c.records.items c.first r r' q leaves.own leaves.was leaves.tracks sound.tracked);
+      prior = λ u x lt is. sound.prior u x (rw leaves.first at lt) (sym (get-set-other c.records.items c.first u r' (λ same. absurd (omega (arith, leaves.first)))) ∙ (rw leaves.records at is));
+      bound = rw (leaves.first, leaves.records) (rw (length-set-here c.records.items c.first r') sound.bound);
+      block = leaves.block;
+      gate = rw (leaves.entries, leaves.first) leaves.gate;
+      ready = rw leaves.records (ready-after S prepared prepared' c.records.items c.first r r' stay leaves.was leaves.becomes sound.ready);
+      few = rw leaves.entries (omega (arith, sound.few, leaves.spare));
+      room = rw leaves.entries (omega (arith, sound.room, leaves.spare));
+    }

@@ -1,0 +1,78 @@
+use Rattle.std.proofs.Common.{rules, arith, refl, sym, ap, ◌∙◌, ◌≡◌, ◌<◌, length, set, slice_get, Some}
+use Rattle.std.proofs.lemmas.Grind.{common_steps}
+use Rattle.history.specs.declared.entry.Kind.TheVariants.{Write}
+use Rattle.disk_core.specs.declared.record.Record.{Record}
+use Rattle.disk_core.proofs.Endings.{next-room, next-left, read-is}
+use Rattle.disk_core.proofs.Facts.{lies-of, part-transfer}
+use Rattle.disk_core.proofs.Places.{inside-some}
+use Rattle.disk_core.specs.Stepping.{UnitLies}
+use Rattle.disk_core.proofs.Wrote.{put-done, put-not}
+use Rattle.disk_core.proofs.stepping.put.Goals as goal
+
+pub index-kept-requires : goal.index-kept-requires
+index-kept-requires g c =
+    let (r, next) = c.requires.next in
+    omega (arith, inside-some c.args.core.now.records.items c.args.core.now.first r next.is)
+
+pub put_unit-requires : goal.put_unit-requires
+put_unit-requires g c =
+    let (r, next) = c.requires.next in
+    let one : c.index-kept.result.now ≡ r = read-is c.args.core.now.records.items c.args.core.now.first r c.index-kept.result.now next.is c.index-kept.ensures in
+    let lies = lies-of _ _ _ c.args.core.now r c.args.unit Write (g.met.M.Medium.shaped c.args.medium.now) c.requires.sound next in
+    record {
+      lies = rw (one, sym lies.block_is) lies;
+      whole = c.requires.whole;
+      ready = λ b from until. c.requires.sound.ready c.args.core.now.first r.finished b r c.args.unit next.is next.unended next.of_kind next.unit from until;
+    }
+
+pub finish-requires : goal.finish-requires
+finish-requires g c =
+    let (r, next) = c.requires.next in
+    let shaped = g.met.M.Medium.shaped c.args.medium.now in
+    record {
+      room = next-room _ _ _ c.args.core.now r c.args.unit Write shaped c.requires.sound next;
+      there = inside-some c.args.core.now.records.items c.args.core.now.first r next.is;
+      unit = λ x there. next-left _ _ _ c.args.core.now r x c.args.unit Write shaped c.requires.sound next there;
+    }
+
+pub fail-requires : goal.fail-requires
+fail-requires g c =
+    let (r, next) = c.requires.next in
+    record {
+      room = next-room _ _ _ c.args.core.now r c.args.unit Write (g.met.M.Medium.shaped c.args.medium.now) c.requires.sound next;
+      there = inside-some c.args.core.now.records.items c.args.core.now.first r next.is;
+    }
+
+pub returns-in-Ok : goal.returns-in-Ok
+returns-in-Ok g c =
+    let (r, next) = c.requires.next in
+    let one : c.index-kept.result.now ≡ r = read-is c.args.core.now.records.items c.args.core.now.first r c.index-kept.result.now next.is c.index-kept.ensures in
+    record {
+      stepped = put-done _ _ _ _ _ c.args.core.now c.finish.new.core r c.args.unit (g.met.M.Medium.shaped c.args.medium.now) c.requires.sound c.in-Ok.ensures.stay next
+        c.requires.whole (rw one at c.in-Ok.ensures.written)
+        (record {
+          entries = c.finish.ensures.entries;
+          spare = c.finish.ensures.spare;
+          records = c.finish.ensures.records r next.is;
+          first = c.finish.ensures.first;
+          block = ap (λ b. length b.items) c.finish.ensures.block;
+          held = c.finish.ensures.held;
+        });
+    }
+
+pub returns-in-Err : goal.returns-in-Err
+returns-in-Err g c =
+    let (r, next) = c.requires.next in
+    let one : c.index-kept.result.now ≡ r = read-is c.args.core.now.records.items c.args.core.now.first r c.index-kept.result.now next.is c.index-kept.ensures in
+    record {
+      stepped = put-not _ _ _ _ _ c.args.core.now c.fail.new.core r c.args.unit c.in-Err.failed (g.met.M.Medium.shaped c.args.medium.now) c.requires.sound c.in-Err.ensures.stay next
+        c.requires.whole (rw one at c.in-Err.ensures.written)
+        (record {
+          entries = c.fail.ensures.entries;
+          spare = c.fail.ensures.spare;
+          records = c.fail.ensures.records r next.is;
+          first = c.fail.ensures.first;
+          block = ap (λ b. length b.items) c.fail.ensures.block;
+          held = c.fail.ensures.held;
+        });
+    }

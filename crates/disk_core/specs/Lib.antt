@@ -1,0 +1,6 @@
+pub mod Bookkeeping
+pub mod Calls
+pub mod Moving
+pub mod Sound
+pub mod State
+pub mod Stepping

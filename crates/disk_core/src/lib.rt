@@ -1,0 +1,15 @@
+//! One disk: requests are accepted or refused, moved step by step, and handed back.
+#![tactic(auto)]
+
+mod answers;
+mod choosing;
+mod collecting;
+mod disk;
+mod moving;
+mod record;
+mod stepping;
+mod submitting;
+mod units;
+
+pub use answers::{Ask, Done, MediumBack, NotThere, Refused, Step, Token, Why};
+pub use disk::Disk;
