@@ -1,0 +1,161 @@
+ghost use Rattle.std.specs.Prelude.{◌≡◌, ℕ, ◌+◌, ◌*◌, ◌<◌, ◌≤◌, length, Err};
+ghost use Rattle.medium.specs.Counts.{adds};
+ghost use Rattle.medium.specs.Device.{IsFresh, IsTransfer, IsWrite, StayPrepared, failures};
+ghost use Rattle.medium.specs.Faults.{faulty_device, IsInside};
+
+use crate::{BlockFailed, Medium};
+use std::alloc::{AllocError, Global};
+
+/// A command that is to fail, for a write after some of its blocks (own profile).
+#[derive(Clone, Copy, Debug, PartialEq, Eq)]
+pub struct Planned {
+    /// The number of the command, counted from 0 on its medium.
+    pub call: u64,
+    /// How many blocks a write does before it fails, at most all but its last. A read or a sync does none.
+    pub done: u32,
+}
+
+/// A medium whose commands fail as planned. It has counts of its own (own profile).
+#[derive(Drop)]
+pub struct Faulty<M> {
+    inner: M,
+    plan: Vec<Planned>,
+    calls: u64,
+    failed: u64,
+    planned: u64,
+}
+
+impl<M: Medium> Faulty<M> {
+    /// The medium with a plan, of which the first entry for a command counts. Its commands are counted from here on.
+    pub fn make(inner: M, plan: Vec<Planned>) -> Faulty<M>
+        ensures device { ⟦<Faulty<M> as Medium>⟧.device result ≡ faulty_device (M.device inner) 0 0 0 }
+        ensures fresh { IsFresh (M.device inner) → IsFresh (⟦<Faulty<M> as Medium>⟧.device result) }
+    {
+        Faulty {
+            inner,
+            plan,
+            calls: 0,
+            failed: 0,
+            planned: 0,
+        }
+    }
+}
+
+impl<M: Medium> Faulty<M> {
+    /// The medium inside, which holds the same bytes.
+    pub fn inner(self) -> M
+        ensures { IsInside (M.device result) (⟦<Faulty<M> as Medium>⟧.device self) }
+    {
+        let Faulty { inner, .. } = self;
+        inner
+    }
+
+    /// How many of its commands failed, counted to the end of 64 bits.
+    pub fn failed(&self) -> u64
+        ensures { result ≡ (⟦<Faulty<M> as Medium>⟧.device self.now).failed }
+    {
+        self.failed
+    }
+
+    /// How many blocks the next command does before it fails, where it is planned to fail.
+    fn next_planned(&self) -> Option<u32> {
+        let call = self.calls;
+        self.plan
+            .iter()
+            .find(|planned| planned.call == call)
+            .map(|planned| planned.done)
+    }
+
+    /// Writes the first `done` blocks, at most all but the last, and then fails by the plan.
+    fn write_front(&mut self, lba: u64, bytes: &[u8], done: u32) -> Result<(), BlockFailed>
+        requires transfer { IsTransfer (M.device self.old.inner) lba (length bytes.now) }
+        requires ready { (b : ℕ) → lba ≤ b → b * (M.device self.old.inner).size < lba * (M.device self.old.inner).size + length bytes.now → M.prepared self.old.inner b }
+        ensures written { IsWrite (⟦<Faulty<M> as Medium>⟧.device self.old) lba bytes.now result (⟦<Faulty<M> as Medium>⟧.device self.new) }
+        ensures stay { StayPrepared (M.prepared self.old.inner) (M.prepared self.new.inner) }
+    {
+        let size = self.inner.size() as usize;
+        let last = bytes.len() / size - 1;
+        let done = last.min(done as usize);
+        if done == 0 {
+            return self.fail(0);
+        }
+        match self.inner.write_blocks(lba, &bytes[..done * size]) {
+            Ok(()) => self.fail(done as u32),
+            Err(fault) => self.fail(fault.done),
+        }
+    }
+
+    /// Counts a command and its answer.
+    fn counted(&mut self, answer: Result<(), BlockFailed>) -> Result<(), BlockFailed>
+        ensures answer { result ≡ answer }
+        ensures counted { self.new ≡ record self.old { calls = adds self.old.calls 1; failed = adds self.old.failed (failures answer) } }
+    {
+        self.calls = self.calls.saturating_add(1);
+        self.failed = self.failed.saturating_add(match answer {
+            Ok(()) => 0,
+            Err(_) => 1,
+        });
+        answer
+    }
+
+    /// Fails the command by the plan, after so many blocks.
+    fn fail(&mut self, done: u32) -> Result<(), BlockFailed>
+        ensures answer { result ≡ Err (record { done = done }) }
+        ensures counted { self.new ≡ record self.old { calls = adds self.old.calls 1; failed = adds self.old.failed 1; planned = adds self.old.planned 1 } }
+    {
+        self.planned = self.planned.saturating_add(1);
+        self.counted(Err(BlockFailed { done }))
+    }
+}
+
+impl<M: Medium> Medium for Faulty<M> {
+    ghost device = { λ m. faulty_device (M.device m.inner) m.calls m.failed m.planned };
+
+    ghost prepared = { λ m b. M.prepared m.inner b };
+
+    fn blocks(&self) -> u64 {
+        self.inner.blocks()
+    }
+
+    fn size(&self) -> u32 {
+        self.inner.size()
+    }
+
+    fn prepare(&mut self, alloc: Global, lba: u64, count: u64) -> Result<(), AllocError> {
+        self.inner.prepare(alloc, lba, count)
+    }
+
+    fn read_blocks(&mut self, lba: u64, out: &mut [u8]) -> Result<(), BlockFailed> {
+        match self.next_planned() {
+            Some(_) => self.fail(0),
+            None => {
+                let answer = self.inner.read_blocks(lba, out);
+                self.counted(answer)
+            }
+        }
+    }
+
+    fn write_blocks(&mut self, lba: u64, bytes: &[u8]) -> Result<(), BlockFailed> {
+        match self.next_planned() {
+            Some(done) => self.write_front(lba, bytes, done),
+            None => {
+                let answer = self.inner.write_blocks(lba, bytes);
+                self.counted(answer)
+            }
+        }
+    }
+
+    fn sync(&mut self) -> Result<(), BlockFailed> {
+        match self.next_planned() {
+            Some(_) => self.fail(0),
+            None => {
+                let answer = self.inner.sync();
+                self.counted(answer)
+            }
+        }
+    }
+
+    ghost use Rattle.medium.specs.Faults.{faulty_shaped};
+
+    ghost shaped = { λ m. faulty_shaped (M.device m.inner) m.calls m.failed m.planned (M.shaped m.inner) };
+}
