@@ -1,5 +1,5 @@
 -- Images by name: where each is, and what taking it and putting it back does (own profile).
-use Rattle.std.specs.Prelude.{◌≡◌, ◌≢◌, ℕ, ◌*◌, ◌/◌, ◌<◌, ◌≤◌, Bool, List, ◌++◌, length, take, drop, Option, None, Some, Result, Ok, Err}
+use Rattle.std.specs.Prelude.{◌≡◌, ◌≢◌, ℕ, ◌*◌, ◌/◌, ◌<◌, ◌≤◌, Bool, false, List, ◌++◌, length, take, drop, Option, None, Some, Result, Ok, Err}
 use Rattle.medium.specs.Device.{Device, IsFresh}
 
 -- an image is not there, is there with these bytes, was taken and left this tail, or is not taken and does not tell
@@ -29,6 +29,13 @@ IsTaken (Here bytes) = ⊥
 IsTaken (Taken tail) = Unit {0}
 IsTaken Untold = ⊥
 
+-- the name is there, and tells its bytes
+abbrev pub IsHere : Place → Type 0
+IsHere Missing = ⊥
+IsHere (Here bytes) = Unit {0}
+IsHere (Taken tail) = ⊥
+IsHere Untold = ⊥
+
 -- how many bytes of an image of n bytes lie in whole blocks of this size
 abbrev pub whole_length : ℕ → ℕ → ℕ
 whole_length size n = n / size * size
@@ -40,6 +47,15 @@ whole_blocks size bytes = take (whole_length size (length bytes)) bytes
 -- the rest of less than a block
 abbrev pub tail_of : ℕ → List ℕ → List ℕ
 tail_of size bytes = drop (whole_length size (length bytes)) bytes
+
+-- an image cut into a fresh medium of its whole blocks and a tail
+pub record IsCut (block : ℕ) (bytes : List ℕ) (medium : Device) (rest : List ℕ) : Type 0 where
+  pub fresh : IsFresh medium
+  pub size : medium.size ≡ block
+  pub cached : medium.cached ≡ false
+  pub blocks : medium.blocks ≡ length bytes / block
+  pub first : medium.first ≡ Some (whole_blocks block bytes)
+  pub tail : rest ≡ tail_of block bytes
 
 -- the medium has the image's whole blocks, and the name keeps its tail; an image that is missing or taken gives none
 unfoldable pub GivesBlocks : Place → Place → ℕ → Device → Type 0

@@ -6,7 +6,7 @@ ghost use Rattle.image_store.specs.Place.{Image, IsFree, IsTaken, IsTaking, MayB
 
 use crate::PutFault;
 use medium::Medium;
-use std::alloc::Global;
+use std::alloc::{AllocError, Global};
 
 /// Why an image could not be taken (own profile).
 #[derive(Clone, Copy, Debug, PartialEq, Eq)]
@@ -17,6 +17,16 @@ pub enum TakeFault {
     Short,
     /// Memory ran out.
     Memory,
+}
+
+impl From<AllocError> for TakeFault {
+    ghost use Rattle.image_store.specs.declared.images.TakeFault.TheVariants.{Memory};
+
+    ghost from_gives = { λ _ fault. fault ≡ Memory };
+
+    fn from(_: AllocError) -> TakeFault {
+        TakeFault::Memory
+    }
 }
 
 /// Disk images by name, of which media are made (own profile).

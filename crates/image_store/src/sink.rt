@@ -1,5 +1,7 @@
-ghost use Rattle.std.specs.Prelude.{ℕ, List, Option};
+ghost use Rattle.std.specs.Prelude.{◌≡◌, ℕ, List, Option};
 ghost use Rattle.image_store.specs.Edge.{PutsText, HasCauseOf};
+
+use std::alloc::AllocError;
 
 /// Why bytes could not be put (own profile).
 #[derive(Clone, Copy, Debug, PartialEq, Eq)]
@@ -8,6 +10,16 @@ pub enum PutFault {
     Failed,
     /// Memory ran out.
     Memory,
+}
+
+impl From<AllocError> for PutFault {
+    ghost use Rattle.image_store.specs.declared.sink.PutFault.TheVariants.{Memory};
+
+    ghost from_gives = { λ _ fault. fault ≡ Memory };
+
+    fn from(_: AllocError) -> PutFault {
+        PutFault::Memory
+    }
 }
 
 /// Where bytes go (own profile).

@@ -1,0 +1,22 @@
+ghost use Rattle.std.specs.Prelude.{◌≡◌};
+
+/// The calls of an object in memory that are to fail, and the number of its next call.
+#[derive(Drop)]
+pub struct Failing {
+    list: Vec<u64>,
+    calls: u64,
+}
+
+impl Failing {
+    /// The calls of this list fail, numbered from 0.
+    pub fn make(list: Vec<u64>) -> Failing {
+        Failing { list, calls: 0 }
+    }
+
+    /// Counts a call, and tells whether it is to fail.
+    pub fn next_fails(&mut self) -> bool {
+        let call = self.calls;
+        self.calls = self.calls.saturating_add(1);
+        self.list.contains(&call)
+    }
+}

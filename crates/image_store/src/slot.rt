@@ -1,0 +1,143 @@
+ghost use Rattle.std.specs.Prelude.{◌≡◌, ◌*◌, ◌/◌, ◌%◌, ◌<◌, ◌≤◌, ℕ, false, IfOk, OnErr, IsErrOf, length, take, drop, Some};
+ghost use Rattle.medium.specs.Counts.{adds};
+ghost use Rattle.medium.specs.Device.{IsBlockSize};
+ghost use Rattle.image_store.specs.Edge.{HasCauseOf};
+ghost use Rattle.image_store.specs.Place.{IsFree, IsTaken, IsTaking, MayBeShort, put_place, IsCut};
+
+use crate::{PutFault, TakeFault};
+use medium::{Faulty, Medium, MemMedium, Planned};
+use std::alloc::{AllocError, Global};
+use std::mem;
+
+/// The bytes of an image in memory.
+#[derive(Drop)]
+pub enum Stored {
+    /// There are none.
+    Gone,
+    /// The image as it is.
+    Whole(Vec<u8>),
+    /// The image was taken and left this tail.
+    Tail(Vec<u8>),
+}
+
+/// What is kept of a name.
+#[derive(Drop)]
+pub struct Slot {
+    pub stored: Stored,
+    pub plan: Vec<Planned>,
+    pub faults: u64,
+    pub worn: u64,
+}
+
+/// An image cut into a medium and a tail.
+struct Cut {
+    medium: Faulty<MemMedium>,
+    tail: Vec<u8>,
+}
+
+/// Cuts an image of at least one block.
+fn cut_image(alloc: Global, bytes: &[u8], plan: &[Planned], size: u32) -> Result<Cut, AllocError>
+    requires size { IsBlockSize size }
+    requires long { size ≤ length bytes.now }
+    ensures { IfOk result (λ cut. IsCut size bytes.now (⟦<Faulty<MemMedium> as Medium>⟧.device cut.medium) cut.tail.items) }
+{
+    let whole = bytes.len() / size as usize * size as usize;
+    let tail = Vec::from_slice(alloc, &bytes[whole..])?;
+    let medium = MemMedium::make(alloc, Vec::from_slice(alloc, &bytes[..whole])?, size)?;
+    let plan = Vec::from_slice(alloc, plan)?;
+    Ok(Cut {
+        medium: Faulty::make(medium, plan),
+        tail,
+    })
+}
+
+impl Slot {
+    ghost use Rattle.image_store.specs.Slots.{place_of};
+
+    /// A name with no image.
+    pub fn new(alloc: Global) -> Slot
+        ensures stored { result.stored ≡ Stored.Gone }
+        ensures faults { result.faults ≡ 0 }
+        ensures worn { result.worn ≡ 0 }
+    {
+        Slot {
+            stored: Stored::Gone,
+            plan: Vec::new(alloc),
+            faults: 0,
+            worn: 0,
+        }
+    }
+
+    /// A name with no image that was asked for once.
+    pub fn missed(alloc: Global) -> Slot
+        ensures stored { result.stored ≡ Stored.Gone }
+        ensures faults { result.faults ≡ 1 }
+        ensures worn { result.worn ≡ 0 }
+    {
+        Slot {
+            faults: 1,
+            ..Slot::new(alloc)
+        }
+    }
+
+    /// Sets the image and its plan.
+    pub fn refill(&mut self, bytes: Vec<u8>, plan: Vec<Planned>)
+        ensures { self.new ≡ record self.old { stored = Stored.Whole bytes; plan = plan } }
+    {
+        self.stored = Stored::Whole(bytes);
+        self.plan = plan;
+    }
+
+    /// Takes the image out, or fails.
+    #[tactic(auto, unfolding(crate::specs::Place::GivesBlocks))]
+    pub fn take_out(
+        &mut self,
+        alloc: Global,
+        size: u32,
+        fails: bool,
+    ) -> Result<Faulty<MemMedium>, TakeFault>
+        requires size { IsBlockSize size }
+        requires free { IsFree (place_of self.old.stored) }
+        ensures taken { IfOk result (λ medium. IsTaking (place_of self.old.stored) (place_of self.new.stored) size false (⟦<Faulty<MemMedium> as Medium>⟧.device medium)) }
+        ensures stays { OnErr result (place_of self.new.stored ≡ place_of self.old.stored) }
+        ensures short { IsErrOf result TakeFault.Short → MayBeShort (place_of self.old.stored) size }
+        ensures cause { HasCauseOf TakeFault.Failed self.old.faults self.new.faults result }
+        ensures worn { self.new.worn ≡ self.old.worn }
+    {
+        let Stored::Whole(bytes) = &self.stored else {
+            self.faults = self.faults.saturating_add(1);
+            return Err(TakeFault::Failed);
+        };
+        if fails {
+            self.faults = self.faults.saturating_add(1);
+            return Err(TakeFault::Failed);
+        }
+        if bytes.len() < size as usize {
+            return Err(TakeFault::Short);
+        }
+        let Cut { medium, tail } = cut_image(alloc, bytes, &self.plan, size)?;
+        self.stored = Stored::Tail(tail);
+        Ok(medium)
+    }
+
+    /// Puts a medium back, or fails. The image is gone after a fault.
+    pub fn put_in(&mut self, medium: Faulty<MemMedium>, fails: bool) -> Result<(), PutFault>
+        requires taken { IsTaken (place_of self.old.stored) }
+        ensures place { place_of self.new.stored ≡ put_place (place_of self.old.stored) (⟦<Faulty<MemMedium> as Medium>⟧.device medium).kept result }
+        ensures cause { HasCauseOf PutFault.Failed self.old.faults self.new.faults result }
+        ensures worn { self.new.worn ≡ adds self.old.worn (⟦<Faulty<MemMedium> as Medium>⟧.device medium).failed }
+    {
+        self.worn = self.worn.saturating_add(medium.failed());
+        let stored = mem::replace(&mut self.stored, Stored::Gone);
+        if fails {
+            self.faults = self.faults.saturating_add(1);
+            return Err(PutFault::Failed);
+        }
+        let mut bytes = medium.inner().into_bytes()?;
+        if let Stored::Tail(tail) = stored {
+            bytes.extend_from_slice(&tail)?;
+        }
+        self.stored = Stored::Whole(bytes);
+        Ok(())
+    }
+}
