@@ -9,6 +9,11 @@ pub none_put : (kept new b : List ℕ) → new ≡ kept → AppendsFront (Some k
 unfolding Appends
 none_put kept new b same = (b, record { front = []; is = refl; appended = rw same (ap Some (sym (append-nil kept))) })
 
+-- it is not told what was put
+pub untold_put : (b : List ℕ) → AppendsFront None None b
+unfolding Appends
+untold_put b = (b, record { front = []; is = refl; appended = refl })
+
 -- the next n bytes were copied to the front of out
 pub front_taken : (bytes copied out : List ℕ) (at n : ℕ) → copied ≡ take n (drop at bytes) → length copied ≡ n → n ≤ length out → (n ≡ 0 → 0 < length out → length bytes ≤ at) → (n ≤ length (copied ++ drop n out)) × TakesFront (Some (drop at bytes)) (Some (drop (at + n) bytes)) n (copied ++ drop n out)
 unfolding TakesFront

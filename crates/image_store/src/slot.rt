@@ -2,8 +2,9 @@ ghost use Rattle.std.specs.Prelude.{◌≡◌, ◌*◌, ◌/◌, ◌%◌, ◌<�
 ghost use Rattle.medium.specs.Counts.{adds};
 ghost use Rattle.medium.specs.Device.{IsBlockSize};
 ghost use Rattle.image_store.specs.Edge.{HasCauseOf};
-ghost use Rattle.image_store.specs.Place.{IsFree, IsTaken, IsTaking, MayBeShort, put_place, IsCut};
+ghost use Rattle.image_store.specs.Place.{IsFree, IsTaken, IsTaking, MayBeShort, put_place};
 
+use crate::cut_image::{Cut, cut_image};
 use crate::{PutFault, TakeFault};
 use medium::{Faulty, Medium, MemMedium, Planned};
 use std::alloc::{AllocError, Global};
@@ -27,28 +28,6 @@ pub struct Slot {
     pub plan: Vec<Planned>,
     pub faults: u64,
     pub worn: u64,
-}
-
-/// An image cut into a medium and a tail.
-struct Cut {
-    medium: Faulty<MemMedium>,
-    tail: Vec<u8>,
-}
-
-/// Cuts an image of at least one block.
-fn cut_image(alloc: Global, bytes: &[u8], plan: &[Planned], size: u32) -> Result<Cut, AllocError>
-    requires size { IsBlockSize size }
-    requires long { size ≤ length bytes.now }
-    ensures { IfOk result (λ cut. IsCut size bytes.now (⟦<Faulty<MemMedium> as Medium>⟧.device cut.medium) cut.tail.items) }
-{
-    let whole = bytes.len() / size as usize * size as usize;
-    let tail = Vec::from_slice(alloc, &bytes[whole..])?;
-    let medium = MemMedium::make(alloc, Vec::from_slice(alloc, &bytes[..whole])?, size)?;
-    let plan = Vec::from_slice(alloc, plan)?;
-    Ok(Cut {
-        medium: Faulty::make(medium, plan),
-        tail,
-    })
 }
 
 impl Slot {
@@ -115,9 +94,10 @@ impl Slot {
         if bytes.len() < size as usize {
             return Err(TakeFault::Short);
         }
-        let Cut { medium, tail } = cut_image(alloc, bytes, &self.plan, size)?;
+        let plan = Vec::from_slice(alloc, &self.plan)?;
+        let Cut { medium, tail } = cut_image(alloc, bytes, size)?;
         self.stored = Stored::Tail(tail);
-        Ok(medium)
+        Ok(Faulty::make(medium, plan))
     }
 
     /// Puts a medium back, or fails. The image is gone after a fault.
