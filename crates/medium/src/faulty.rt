@@ -1,7 +1,7 @@
-ghost use Rattle.std.specs.Prelude.{◌≡◌, ℕ, ◌+◌, ◌*◌, ◌<◌, ◌≤◌, length, Err};
+ghost use Rattle.std.specs.Prelude.{◌≡◌, ℕ, ◌+◌, ◌*◌, ◌<◌, ◌≤◌, length, Err, OnSome, IfSome, IfNone};
 ghost use Rattle.medium.specs.Counts.{adds};
-ghost use Rattle.medium.specs.Device.{IsFresh, IsTransfer, IsWrite, StayPrepared, failures};
-ghost use Rattle.medium.specs.Faults.{faulty_device, IsInside};
+ghost use Rattle.medium.specs.Device.{IsFresh, IsTransfer, IsRead, IsWrite, IsSync, StayPrepared, failures};
+ghost use Rattle.medium.specs.Faults.{faulty_device, inner_of, plan_of, next_of, planned_count, IsPlannedWrite};
 
 use crate::{BlockFailed, Medium};
 use std::alloc::{AllocError, Global};
@@ -29,6 +29,8 @@ impl<M: Medium> Faulty<M> {
     /// The medium with a plan, of which the first entry for a command counts. Its commands are counted from here on.
     pub fn make(inner: M, plan: Vec<Planned>) -> Faulty<M>
         ensures device { ⟦<Faulty<M> as Medium>⟧.device result ≡ faulty_device (M.device inner) 0 0 0 }
+        ensures inner { inner_of result ≡ inner }
+        ensures plan { plan_of result ≡ plan.items }
         ensures fresh { IsFresh (M.device inner) → IsFresh (⟦<Faulty<M> as Medium>⟧.device result) }
     {
         Faulty {
@@ -42,9 +44,9 @@ impl<M: Medium> Faulty<M> {
 }
 
 impl<M: Medium> Faulty<M> {
-    /// The medium inside, which holds the same bytes.
+    /// The medium inside.
     pub fn inner(self) -> M
-        ensures { IsInside (M.device result) (⟦<Faulty<M> as Medium>⟧.device self) }
+        ensures { result ≡ inner_of self }
     {
         let Faulty { inner, .. } = self;
         inner
@@ -58,7 +60,9 @@ impl<M: Medium> Faulty<M> {
     }
 
     /// How many blocks the next command does before it fails, where it is planned to fail.
-    fn next_planned(&self) -> Option<u32> {
+    fn next_planned(&self) -> Option<u32>
+        ensures { result ≡ next_of self.now }
+    {
         let call = self.calls;
         self.plan
             .iter()
@@ -72,6 +76,8 @@ impl<M: Medium> Faulty<M> {
         requires ready { (b : ℕ) → lba ≤ b → b * (M.device self.old.inner).size < lba * (M.device self.old.inner).size + length bytes.now → M.prepared self.old.inner b }
         ensures written { IsWrite (⟦<Faulty<M> as Medium>⟧.device self.old) lba bytes.now result (⟦<Faulty<M> as Medium>⟧.device self.new) }
         ensures stay { StayPrepared (M.prepared self.old.inner) (M.prepared self.new.inner) }
+        ensures plan { self.new.plan ≡ self.old.plan }
+        ensures planned { IsPlannedWrite (M.device self.old.inner) lba (planned_count (length bytes.now) (M.device self.old.inner).size done) bytes.now result (M.device self.new.inner) }
     {
         let size = self.inner.size() as usize;
         let last = bytes.len() / size - 1;
@@ -125,7 +131,15 @@ impl<M: Medium> Medium for Faulty<M> {
         self.inner.prepare(alloc, lba, count)
     }
 
-    fn read_blocks(&mut self, lba: u64, out: &mut [u8]) -> Result<(), BlockFailed> {
+    /// Fails where it is planned to, and then makes no command inside.
+    fn read_blocks(&mut self, lba: u64, out: &mut [u8]) -> Result<(), BlockFailed>
+        requires { IsTransfer (⟦<Faulty<M> as Medium>⟧.device self.old) lba (length out.old) }
+        ensures read { IsRead (⟦<Faulty<M> as Medium>⟧.device self.old) lba result (⟦<Faulty<M> as Medium>⟧.device self.new) out.old out.new }
+        ensures stay { StayPrepared (⟦<Faulty<M> as Medium>⟧.prepared self.old) (⟦<Faulty<M> as Medium>⟧.prepared self.new) }
+        ensures plan { plan_of self.new ≡ plan_of self.old }
+        ensures planned { OnSome (next_of self.old) ((result ≡ Err (record { done = 0 })) × (inner_of self.new ≡ inner_of self.old)) }
+        ensures passed { IfNone (next_of self.old) (IsRead (M.device (inner_of self.old)) lba result (M.device (inner_of self.new)) out.old out.new) }
+    {
         match self.next_planned() {
             Some(_) => self.fail(0),
             None => {
@@ -135,7 +149,16 @@ impl<M: Medium> Medium for Faulty<M> {
         }
     }
 
-    fn write_blocks(&mut self, lba: u64, bytes: &[u8]) -> Result<(), BlockFailed> {
+    /// Fails where it is planned to. It then writes the first planned blocks inside, at most all but the last.
+    fn write_blocks(&mut self, lba: u64, bytes: &[u8]) -> Result<(), BlockFailed>
+        requires transfer { IsTransfer (⟦<Faulty<M> as Medium>⟧.device self.old) lba (length bytes.now) }
+        requires ready { (b : ℕ) → lba ≤ b → b * (⟦<Faulty<M> as Medium>⟧.device self.old).size < lba * (⟦<Faulty<M> as Medium>⟧.device self.old).size + length bytes.now → ⟦<Faulty<M> as Medium>⟧.prepared self.old b }
+        ensures written { IsWrite (⟦<Faulty<M> as Medium>⟧.device self.old) lba bytes.now result (⟦<Faulty<M> as Medium>⟧.device self.new) }
+        ensures stay { StayPrepared (⟦<Faulty<M> as Medium>⟧.prepared self.old) (⟦<Faulty<M> as Medium>⟧.prepared self.new) }
+        ensures plan { plan_of self.new ≡ plan_of self.old }
+        ensures planned { IfSome (next_of self.old) (λ planned. IsPlannedWrite (M.device (inner_of self.old)) lba (planned_count (length bytes.now) (⟦<Faulty<M> as Medium>⟧.device self.old).size planned) bytes.now result (M.device (inner_of self.new))) }
+        ensures passed { IfNone (next_of self.old) (IsWrite (M.device (inner_of self.old)) lba bytes.now result (M.device (inner_of self.new))) }
+    {
         match self.next_planned() {
             Some(done) => self.write_front(lba, bytes, done),
             None => {
@@ -145,7 +168,14 @@ impl<M: Medium> Medium for Faulty<M> {
         }
     }
 
-    fn sync(&mut self) -> Result<(), BlockFailed> {
+    /// Fails where it is planned to, and then makes no command inside.
+    fn sync(&mut self) -> Result<(), BlockFailed>
+        ensures synced { IsSync (⟦<Faulty<M> as Medium>⟧.device self.old) result (⟦<Faulty<M> as Medium>⟧.device self.new) }
+        ensures stay { StayPrepared (⟦<Faulty<M> as Medium>⟧.prepared self.old) (⟦<Faulty<M> as Medium>⟧.prepared self.new) }
+        ensures plan { plan_of self.new ≡ plan_of self.old }
+        ensures planned { OnSome (next_of self.old) ((result ≡ Err (record { done = 0 })) × (inner_of self.new ≡ inner_of self.old)) }
+        ensures passed { IfNone (next_of self.old) (IsSync (M.device (inner_of self.old)) result (M.device (inner_of self.new))) }
+    {
         match self.next_planned() {
             Some(_) => self.fail(0),
             None => {
