@@ -6,6 +6,7 @@ use Rattle.std.specs.declared.vec.Vec.{Vec}
 use Rattle.std.specs.declared.string.String.{String}
 use Rattle.image_store.specs.Place.{Place, Missing, Here, Taken, Untold, Image}
 use Rattle.image_store.specs.declared.file_slot.FileSlot.{FileSlot}
+use Rattle.image_store.specs.declared.mem_images.MemImages.{MemImages}
 use Rattle.image_store.specs.declared.slot.Slot.{Slot}
 use Rattle.image_store.specs.declared.slot.Stored.{Stored}
 use Rattle.image_store.specs.declared.slot.Stored.TheVariants.{Gone, Whole, Tail}
@@ -30,6 +31,9 @@ image_or_unused (Some slot) = image_of slot
 -- the image of each name
 abbrev pub image_at : BTreeMap (String Global) Slot → List ℕ → Image
 image_at slots name = image_or_unused (get_by_text slots name)
+
+abbrev pub images_at : MemImages → List ℕ → Image
+images_at images = image_at images.slots
 
 -- where a file is: its bytes and its tail are not told
 abbrev pub file_place : Option (Vec ℕ Global) → Place

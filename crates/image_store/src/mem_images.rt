@@ -1,10 +1,13 @@
-ghost use Rattle.std.specs.Prelude.{◌≡◌, ℕ, List, IfSome, IfNone, OnOk, OnErr};
-ghost use Rattle.image_store.specs.Place.{Here, ChangesOnly, IsHere};
+ghost use Rattle.std.specs.Prelude.{◌≡◌, ◌↔◌, ◌⊎◌, ℕ, List, false, Err, IfOk, IfSome, IfNone, IsErrOf, IsTrue, OnOk, OnErr};
+ghost use Rattle.medium.specs.Counts.{adds};
+ghost use Rattle.medium.specs.Device.{IsBlockSize};
+ghost use Rattle.image_store.specs.Edge.{HasCauseOf};
+ghost use Rattle.image_store.specs.Place.{Missing, Here, ChangesOnly, IsFree, IsHere, IsTaken, IsTaking, MayBeShort, put_place};
 
 use crate::failing::Failing;
 use crate::slot::{Slot, Stored};
 use crate::{Images, PutFault, TakeFault};
-use medium::{Faulty, MemMedium, Planned};
+use medium::{Faulty, Medium, MemMedium, Planned};
 use std::alloc::{AllocError, Global};
 use std::collections::BTreeMap;
 
@@ -17,11 +20,13 @@ pub struct MemImages {
 }
 
 impl MemImages {
-    ghost use Rattle.image_store.specs.Slots.{unused};
+    ghost use Rattle.image_store.specs.Calls.{IsUncalled, images_calls};
+    ghost use Rattle.image_store.specs.Slots.{images_at, unused};
 
     /// No images. The calls of this list fail, where `take` and `put_back` are numbered together from 0.
     pub fn make(alloc: Global, failing: Vec<u64>) -> MemImages
-        ensures { (name : List ℕ) → ⟦<MemImages as Images>⟧.at result name ≡ unused }
+        ensures unused { (name : List ℕ) → images_at result name ≡ unused }
+        ensures calls { IsUncalled failing.items (images_calls result) }
     {
         MemImages {
             alloc,
@@ -34,9 +39,10 @@ impl MemImages {
     /// The error is want of memory, and nothing has then changed.
     #[tactic(auto, using(std::proofs::lemmas::Map::Text::text_keys))]
     pub fn add(&mut self, name: &str, bytes: &[u8], plan: Vec<Planned>) -> Result<(), AllocError>
-        ensures here { OnOk result (⟦<MemImages as Images>⟧.at self.new name.now ≡ record (⟦<MemImages as Images>⟧.at self.old name.now) { place = Here bytes.now }) }
-        ensures err { OnErr result (⟦<MemImages as Images>⟧.at self.new name.now ≡ ⟦<MemImages as Images>⟧.at self.old name.now) }
-        ensures others { ChangesOnly name.now (⟦<MemImages as Images>⟧.at self.old) (⟦<MemImages as Images>⟧.at self.new) }
+        ensures here { OnOk result (images_at self.new name.now ≡ record (images_at self.old name.now) { place = Here bytes.now }) }
+        ensures err { OnErr result (images_at self.new name.now ≡ images_at self.old name.now) }
+        ensures others { ChangesOnly name.now (images_at self.old) (images_at self.new) }
+        ensures calls { images_calls self.new ≡ images_calls self.old }
     {
         let bytes = Vec::from_slice(self.alloc, bytes)?;
         match self.slots.get_mut(name) {
@@ -57,8 +63,8 @@ impl MemImages {
     /// The bytes of an image. None exactly where the name has none, or is taken.
     #[tactic(auto, using(std::proofs::lemmas::Map::Text::text_keys))]
     pub fn bytes_of(&self, name: &str) -> Option<&[u8]>
-        ensures some { IfSome result (λ bytes. (⟦<MemImages as Images>⟧.at self.now name.now).place ≡ Here bytes.now) }
-        ensures none { IfNone result (¬ IsHere (⟦<MemImages as Images>⟧.at self.now name.now).place) }
+        ensures some { IfSome result (λ bytes. (images_at self.now name.now).place ≡ Here bytes.now) }
+        ensures none { IfNone result (¬ IsHere (images_at self.now name.now).place) }
     {
         match &self.slots.get(name)?.stored {
             Stored::Whole(bytes) => Some(bytes),
@@ -71,18 +77,33 @@ impl MemImages {
 impl Images for MemImages {
     type M = Faulty<MemMedium>;
 
-    ghost use Rattle.image_store.specs.Slots.{image_at};
+    ghost use Rattle.image_store.specs.Calls.{is_next_failing, IsCalled, images_calls};
+    ghost use Rattle.image_store.specs.Slots.{images_at};
 
-    ghost at = { λ images. image_at images.slots };
+    ghost at = { images_at };
 
+    /// Fails exactly where the call is in the list or the image is missing, but for want of memory.
     #[tactic(auto, using(std::proofs::lemmas::Map::Text::text_keys))]
     fn take(
         &mut self,
         alloc: Global,
         name: &str,
         size: u32,
-        _cached: bool,
-    ) -> Result<Faulty<MemMedium>, TakeFault> {
+        cached: bool,
+    ) -> Result<Faulty<MemMedium>, TakeFault>
+        requires size { IsBlockSize size }
+        requires free { IsFree (images_at self.old name.now).place }
+        requires uncached { cached ≡ false }
+        ensures taken { IfOk result (λ medium. IsTaking (images_at self.old name.now).place (images_at self.new name.now).place size cached (⟦<Faulty<MemMedium> as Medium>⟧.device medium)) }
+        ensures stays { OnErr result ((images_at self.new name.now).place ≡ (images_at self.old name.now).place) }
+        ensures short { IsErrOf result TakeFault.Short → MayBeShort (images_at self.old name.now).place size }
+        ensures cause { HasCauseOf TakeFault.Failed (images_at self.old name.now).faults (images_at self.new name.now).faults result }
+        ensures worn { (images_at self.new name.now).worn ≡ (images_at self.old name.now).worn }
+        ensures others { ChangesOnly name.now (images_at self.old) (images_at self.new) }
+        ensures failing { IsTrue (is_next_failing (images_calls self.old)) → (result ≡ Err TakeFault.Failed) ⊎ (result ≡ Err TakeFault.Memory) }
+        ensures failed { result ≡ Err TakeFault.Failed → IsTrue (is_next_failing (images_calls self.old)) ⊎ ((images_at self.old name.now).place ≡ Missing) }
+        ensures called { IsCalled (images_calls self.old) (images_calls self.new) }
+    {
         let fails = self.failing.next_fails();
         match self.slots.get_mut(name) {
             Some(slot) => slot.take_out(alloc, size, fails),
@@ -96,13 +117,22 @@ impl Images for MemImages {
         }
     }
 
+    /// Fails exactly where the call is in the list.
     #[tactic(auto, using(std::proofs::lemmas::Map::Text::text_keys))]
     fn put_back(
         &mut self,
-        _alloc: Global,
+        alloc: Global,
         name: &str,
         medium: Faulty<MemMedium>,
-    ) -> Result<(), PutFault> {
+    ) -> Result<(), PutFault>
+        requires taken { IsTaken (images_at self.old name.now).place }
+        ensures place { (images_at self.new name.now).place ≡ put_place (images_at self.old name.now).place (⟦<Faulty<MemMedium> as Medium>⟧.device medium).kept result }
+        ensures cause { HasCauseOf PutFault.Failed (images_at self.old name.now).faults (images_at self.new name.now).faults result }
+        ensures worn { (images_at self.new name.now).worn ≡ adds (images_at self.old name.now).worn (⟦<Faulty<MemMedium> as Medium>⟧.device medium).failed }
+        ensures others { ChangesOnly name.now (images_at self.old) (images_at self.new) }
+        ensures failing { IsTrue (is_next_failing (images_calls self.old)) ↔ (result ≡ Err PutFault.Failed) }
+        ensures called { IsCalled (images_calls self.old) (images_calls self.new) }
+    {
         let fails = self.failing.next_fails();
         match self.slots.get_mut(name) {
             Some(slot) => slot.put_in(medium, fails),

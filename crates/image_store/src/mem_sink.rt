@@ -1,4 +1,5 @@
-ghost use Rattle.std.specs.Prelude.{◌≡◌, [], Some};
+ghost use Rattle.std.specs.Prelude.{◌≡◌, ◌↔◌, [], Some, Err, IsTrue, OnErr};
+ghost use Rattle.image_store.specs.Edge.{PutsText, HasCauseOf};
 
 use crate::failing::Failing;
 use crate::{PutFault, Sink};
@@ -13,10 +14,13 @@ pub struct MemSink {
 }
 
 impl MemSink {
+    ghost use Rattle.image_store.specs.Calls.{IsUncalled, sink_calls};
+
     /// An empty sink whose calls of this list fail, numbered from 0.
     pub fn make(alloc: Global, failing: Vec<u64>) -> MemSink
         ensures wrote { ⟦<MemSink as Sink>⟧.wrote result ≡ Some [] }
         ensures faults { ⟦<MemSink as Sink>⟧.faults result ≡ 0 }
+        ensures calls { IsUncalled failing.items (sink_calls result) }
     {
         MemSink {
             bytes: Vec::new(alloc),
@@ -34,12 +38,21 @@ impl MemSink {
 }
 
 impl Sink for MemSink {
+    ghost use Rattle.image_store.specs.Calls.{is_next_failing, IsCalled, sink_calls};
+
     ghost wrote = { λ sink. Some sink.bytes.items };
 
     ghost faults = { λ sink. sink.faults };
 
+    /// Fails exactly where the call is in the list. After a fault nothing was added.
     #[tactic(auto, using(crate::proofs::Fronts::none_put), unfolding(crate::specs::Edge::Appends))]
-    fn put(&mut self, bytes: &[u8]) -> Result<(), PutFault> {
+    fn put(&mut self, bytes: &[u8]) -> Result<(), PutFault>
+        ensures text { PutsText (⟦<MemSink as Sink>⟧.wrote self.old) (⟦<MemSink as Sink>⟧.wrote self.new) result bytes.now }
+        ensures cause { HasCauseOf PutFault.Failed (⟦<MemSink as Sink>⟧.faults self.old) (⟦<MemSink as Sink>⟧.faults self.new) result }
+        ensures failing { IsTrue (is_next_failing (sink_calls self.old)) ↔ (result ≡ Err PutFault.Failed) }
+        ensures unwritten { OnErr result (⟦<MemSink as Sink>⟧.wrote self.new ≡ ⟦<MemSink as Sink>⟧.wrote self.old) }
+        ensures called { IsCalled (sink_calls self.old) (sink_calls self.new) }
+    {
         if self.failing.next_fails() {
             self.faults = self.faults.saturating_add(1);
             return Err(PutFault::Failed);

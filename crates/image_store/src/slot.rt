@@ -1,8 +1,8 @@
-ghost use Rattle.std.specs.Prelude.{◌≡◌, ◌*◌, ◌/◌, ◌%◌, ◌<◌, ◌≤◌, ℕ, false, IfOk, OnErr, IsErrOf, length, take, drop, Some};
+ghost use Rattle.std.specs.Prelude.{◌≡◌, ◌↔◌, ◌⊎◌, false, Err, IfOk, OnErr, IsErrOf, IsTrue};
 ghost use Rattle.medium.specs.Counts.{adds};
 ghost use Rattle.medium.specs.Device.{IsBlockSize};
 ghost use Rattle.image_store.specs.Edge.{HasCauseOf};
-ghost use Rattle.image_store.specs.Place.{IsFree, IsTaken, IsTaking, MayBeShort, put_place};
+ghost use Rattle.image_store.specs.Place.{Missing, IsFree, IsTaken, IsTaking, MayBeShort, put_place};
 
 use crate::cut_image::{Cut, cut_image};
 use crate::{PutFault, TakeFault};
@@ -82,6 +82,8 @@ impl Slot {
         ensures short { IsErrOf result TakeFault.Short → MayBeShort (place_of self.old.stored) size }
         ensures cause { HasCauseOf TakeFault.Failed self.old.faults self.new.faults result }
         ensures worn { self.new.worn ≡ self.old.worn }
+        ensures failing { IsTrue fails → result ≡ Err TakeFault.Failed }
+        ensures failed { result ≡ Err TakeFault.Failed → IsTrue fails ⊎ (place_of self.old.stored ≡ Missing) }
     {
         let Stored::Whole(bytes) = &self.stored else {
             self.faults = self.faults.saturating_add(1);
@@ -105,6 +107,7 @@ impl Slot {
         requires taken { IsTaken (place_of self.old.stored) }
         ensures place { place_of self.new.stored ≡ put_place (place_of self.old.stored) (⟦<Faulty<MemMedium> as Medium>⟧.device medium).kept result }
         ensures cause { HasCauseOf PutFault.Failed self.old.faults self.new.faults result }
+        ensures failing { IsTrue fails ↔ (result ≡ Err PutFault.Failed) }
         ensures worn { self.new.worn ≡ adds self.old.worn (⟦<Faulty<MemMedium> as Medium>⟧.device medium).failed }
     {
         self.worn = self.worn.saturating_add(medium.failed());
