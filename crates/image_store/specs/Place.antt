@@ -69,9 +69,17 @@ pub record IsTaking (old new : Place) (asked_size : ℕ) (asked_cached : Bool) (
   pub fresh : IsFresh medium
   pub size : medium.size ≡ asked_size
   pub cached : medium.cached ≡ asked_cached
+  pub taken : IsTaken new
   pub blocks : GivesBlocks old new asked_size medium
 
--- the image is there and shorter than one block, where it tells
+-- the image is there and shorter than one block
+abbrev pub IsShort : Place → ℕ → Type 0
+IsShort (Here bytes) size = length bytes < size
+IsShort Untold size = ⊥
+IsShort Missing size = ⊥
+IsShort (Taken tail) size = ⊥
+
+-- the image is shorter than one block, or does not tell
 abbrev pub MayBeShort : Place → ℕ → Type 0
 MayBeShort (Here bytes) size = length bytes < size
 MayBeShort Untold size = Unit {0}

@@ -1,12 +1,12 @@
-ghost use Rattle.std.specs.Prelude.{◌≡◌, false, None, IfOk, OnErr};
+ghost use Rattle.std.specs.Prelude.{◌≡◌, false, None, IfOk, OnErr, IsErrOf};
 ghost use Rattle.medium.specs.Device.{IsBlockSize};
 ghost use Rattle.image_store.specs.Edge.{HasCauseOf};
-ghost use Rattle.image_store.specs.Place.{IsFree, IsTaken, IsTaking};
+ghost use Rattle.image_store.specs.Place.{IsFree, IsTaken, IsTaking, MayBeShort};
 
 use crate::cut_image::{Cut, cut_image};
 use crate::{PutFault, TakeFault};
 use medium::{Medium, MemMedium};
-use std::alloc::Global;
+use std::alloc::{AllocError, Global};
 use std::fs::{OpenFile, OpenOptions};
 use std::io::{Read, Write};
 use std::rt::Files;
@@ -20,31 +20,40 @@ pub struct FileSlot {
     pub faults: u64,
 }
 
-/// Reads an existing regular file whole.
-fn read_whole<F: Files>(alloc: Global, files: &F, name: &str) -> Result<Vec<u8>, PutFault> {
-    let Ok(about) = fs::metadata(files, name) else {
-        return Err(PutFault::Failed);
-    };
-    if !about.is_file() {
-        return Err(PutFault::Failed);
+/// Opens an existing regular file.
+fn open_regular<F: Files>(files: &F, name: &str, how: &OpenOptions) -> io::Result<F::File> {
+    if fs::metadata(files, name)?.is_file() {
+        how.open(files, name)
+    } else {
+        Err(io::Error::from(io::ErrorKind::InvalidInput))
     }
-    let Ok(mut file) = fs::open(files, name) else {
-        return Err(PutFault::Failed);
+}
+
+/// Reads an existing regular file whole. None where it cannot be read.
+fn read_whole<F: Files>(
+    alloc: Global,
+    files: &F,
+    name: &str,
+) -> Result<Option<Vec<u8>>, AllocError> {
+    let Ok(mut file) = open_regular(files, name, OpenOptions::new().read(true)) else {
+        return Ok(None);
+    };
+    let Ok(about) = file.metadata() else {
+        return Ok(None);
     };
     let mut bytes = vec![in alloc; 0; about.len() as usize]?;
     match file.read_exact(&mut bytes) {
-        Ok(()) => Ok(bytes),
-        Err(_) => Err(PutFault::Failed),
+        Ok(()) => Ok(Some(bytes)),
+        Err(_) => Ok(None),
     }
 }
 
 /// Writes an existing regular file whole, in place: it keeps its mode.
 fn write_whole<F: Files>(files: &F, name: &str, front: &[u8], tail: &[u8]) -> io::Result<()> {
-    let length = front.len() as u64 + tail.len() as u64;
-    let mut file = OpenOptions::new().write(true).open(files, name)?;
+    let mut file = open_regular(files, name, OpenOptions::new().write(true))?;
     file.write_all(front)?;
     file.write_all(tail)?;
-    file.set_len(length)
+    file.set_len(front.len() as u64 + tail.len() as u64)
 }
 
 impl FileSlot {
@@ -74,15 +83,12 @@ impl FileSlot {
         requires free { IsFree (file_place self.old.tail) }
         ensures taken { IfOk result (λ medium. IsTaking (file_place self.old.tail) (file_place self.new.tail) size false (⟦<MemMedium as Medium>⟧.device medium)) }
         ensures stays { OnErr result (self.new.tail ≡ self.old.tail) }
+        ensures short { IsErrOf result TakeFault.Short → MayBeShort (file_place self.old.tail) size }
         ensures cause { HasCauseOf TakeFault.Failed self.old.faults self.new.faults result }
     {
-        let bytes = match read_whole(alloc, files, name) {
-            Ok(bytes) => bytes,
-            Err(PutFault::Failed) => {
-                self.faults = self.faults.saturating_add(1);
-                return Err(TakeFault::Failed);
-            }
-            Err(PutFault::Memory) => return Err(TakeFault::Memory),
+        let Some(bytes) = read_whole(alloc, files, name)? else {
+            self.faults = self.faults.saturating_add(1);
+            return Err(TakeFault::Failed);
         };
         if bytes.len() < size as usize {
             return Err(TakeFault::Short);

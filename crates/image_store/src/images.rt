@@ -1,8 +1,8 @@
-ghost use Rattle.std.specs.Prelude.{◌≡◌, ℕ, List, false, IfOk, OnErr, IsErrOf};
+ghost use Rattle.std.specs.Prelude.{◌≡◌, ℕ, List, false, IfOk, IsErr, OnErr, IsErrOf};
 ghost use Rattle.medium.specs.Counts.{adds};
 ghost use Rattle.medium.specs.Device.{IsBlockSize};
 ghost use Rattle.image_store.specs.Edge.{HasCauseOf};
-ghost use Rattle.image_store.specs.Place.{Image, IsFree, IsTaken, IsTaking, MayBeShort, put_place, ChangesOnly};
+ghost use Rattle.image_store.specs.Place.{Image, Missing, IsFree, IsTaken, IsTaking, IsShort, MayBeShort, put_place, ChangesOnly};
 
 use crate::PutFault;
 use medium::Medium;
@@ -34,7 +34,7 @@ impl From<AllocError> for TakeFault {
 /// A call changes nothing of any other name.
 pub trait Images {
     /// The media that it gives.
-    type M: Medium;
+    type M: Medium + Send;
 
     /// Where the image of each name is, and what is counted of it.
     ghost at: { Self → List ℕ → Image };
@@ -56,6 +56,8 @@ pub trait Images {
         requires uncached { cached ≡ false }
         ensures taken { IfOk result (λ medium. IsTaking (at self.old name.now).place (at self.new name.now).place size cached (Self.M.device medium)) }
         ensures stays { OnErr result ((at self.new name.now).place ≡ (at self.old name.now).place) }
+        ensures missing { (at self.old name.now).place ≡ Missing → IsErr result }
+        ensures short_only { IsShort (at self.old name.now).place size → IsErr result }
         ensures short { IsErrOf result TakeFault.Short → MayBeShort (at self.old name.now).place size }
         ensures cause { HasCauseOf TakeFault.Failed (at self.old name.now).faults (at self.new name.now).faults result }
         ensures worn { (at self.new name.now).worn ≡ (at self.old name.now).worn }

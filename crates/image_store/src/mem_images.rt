@@ -1,8 +1,8 @@
-ghost use Rattle.std.specs.Prelude.{◌≡◌, ◌↔◌, ◌⊎◌, ℕ, List, false, Err, IfOk, IfSome, IfNone, IsErrOf, IsTrue, OnOk, OnErr};
+ghost use Rattle.std.specs.Prelude.{◌≡◌, ◌↔◌, ◌⊎◌, ℕ, List, false, Err, IfOk, IfSome, IfNone, IsErr, IsErrOf, IsTrue, OnOk, OnErr};
 ghost use Rattle.medium.specs.Counts.{adds};
 ghost use Rattle.medium.specs.Device.{IsBlockSize};
 ghost use Rattle.image_store.specs.Edge.{HasCauseOf};
-ghost use Rattle.image_store.specs.Place.{Missing, Here, ChangesOnly, IsFree, IsHere, IsTaken, IsTaking, MayBeShort, put_place};
+ghost use Rattle.image_store.specs.Place.{Missing, Here, ChangesOnly, IsFree, IsHere, IsTaken, IsTaking, IsShort, MayBeShort, put_place};
 
 use crate::failing::Failing;
 use crate::slot::{Slot, Stored};
@@ -89,13 +89,15 @@ impl Images for MemImages {
         alloc: Global,
         name: &str,
         size: u32,
-        cached: bool,
+        _cached: bool,
     ) -> Result<Faulty<MemMedium>, TakeFault>
         requires size { IsBlockSize size }
         requires free { IsFree (images_at self.old name.now).place }
-        requires uncached { cached ≡ false }
-        ensures taken { IfOk result (λ medium. IsTaking (images_at self.old name.now).place (images_at self.new name.now).place size cached (⟦<Faulty<MemMedium> as Medium>⟧.device medium)) }
+        requires uncached { _cached ≡ false }
+        ensures taken { IfOk result (λ medium. IsTaking (images_at self.old name.now).place (images_at self.new name.now).place size _cached (⟦<Faulty<MemMedium> as Medium>⟧.device medium)) }
         ensures stays { OnErr result ((images_at self.new name.now).place ≡ (images_at self.old name.now).place) }
+        ensures missing { (images_at self.old name.now).place ≡ Missing → IsErr result }
+        ensures short_only { IsShort (images_at self.old name.now).place size → IsErr result }
         ensures short { IsErrOf result TakeFault.Short → MayBeShort (images_at self.old name.now).place size }
         ensures cause { HasCauseOf TakeFault.Failed (images_at self.old name.now).faults (images_at self.new name.now).faults result }
         ensures worn { (images_at self.new name.now).worn ≡ (images_at self.old name.now).worn }
@@ -121,7 +123,7 @@ impl Images for MemImages {
     #[tactic(auto, using(std::proofs::lemmas::Map::Text::text_keys))]
     fn put_back(
         &mut self,
-        alloc: Global,
+        _alloc: Global,
         name: &str,
         medium: Faulty<MemMedium>,
     ) -> Result<(), PutFault>

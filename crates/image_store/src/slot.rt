@@ -1,8 +1,8 @@
-ghost use Rattle.std.specs.Prelude.{◌≡◌, ◌↔◌, ◌⊎◌, false, Err, IfOk, OnErr, IsErrOf, IsTrue};
+ghost use Rattle.std.specs.Prelude.{◌≡◌, ◌↔◌, ◌⊎◌, false, Err, IfOk, OnErr, IsErr, IsErrOf, IsTrue};
 ghost use Rattle.medium.specs.Counts.{adds};
 ghost use Rattle.medium.specs.Device.{IsBlockSize};
 ghost use Rattle.image_store.specs.Edge.{HasCauseOf};
-ghost use Rattle.image_store.specs.Place.{Missing, IsFree, IsTaken, IsTaking, MayBeShort, put_place};
+ghost use Rattle.image_store.specs.Place.{Missing, IsFree, IsTaken, IsTaking, IsShort, MayBeShort, put_place};
 
 use crate::cut_image::{Cut, cut_image};
 use crate::{PutFault, TakeFault};
@@ -79,6 +79,8 @@ impl Slot {
         requires free { IsFree (place_of self.old.stored) }
         ensures taken { IfOk result (λ medium. IsTaking (place_of self.old.stored) (place_of self.new.stored) size false (⟦<Faulty<MemMedium> as Medium>⟧.device medium)) }
         ensures stays { OnErr result (place_of self.new.stored ≡ place_of self.old.stored) }
+        ensures missing { place_of self.old.stored ≡ Missing → IsErr result }
+        ensures short_only { IsShort (place_of self.old.stored) size → IsErr result }
         ensures short { IsErrOf result TakeFault.Short → MayBeShort (place_of self.old.stored) size }
         ensures cause { HasCauseOf TakeFault.Failed self.old.faults self.new.faults result }
         ensures worn { self.new.worn ≡ self.old.worn }
