@@ -1,0 +1,52 @@
+ghost use Rattle.std.specs.Prelude.{◌≤◌, length, [], IfOk};
+ghost use Rattle.script_text.specs.declared.grammar.limits.TheConstants.{SCRIPT_BYTES};
+ghost use Rattle.script_text.specs.Answers.{SaysLines, Reads};
+ghost use Rattle.script_text.specs.Fit.{AreDisks};
+ghost use Rattle.script_text.specs.Script.{script_of, lines_say};
+ghost use Rattle.script_text.specs.Words.{lines_of};
+
+use crate::grammar::draft::Draft;
+use crate::grammar::limits::SCRIPT_BYTES;
+use crate::grammar::lines;
+use crate::grammar::plans::Script;
+use crate::grammar::refusal::{LineRefused, Reason, ScriptRefused};
+use crate::grammar::words;
+use std::alloc::Global;
+
+/// Reads a script (own profile). It answers the plans that the bytes say, or the first faulty line with its reason, or
+/// want of memory. In this version a script has one disk with one client; one without either is refused at line 0.
+pub fn read_script(alloc: Global, bytes: &[u8]) -> Result<Script, ScriptRefused>
+    ensures reads { Reads result (script_of bytes.now) }
+    ensures fit { IfOk result (λ script. AreDisks script.disks) }
+{
+    if bytes.len() as u64 > SCRIPT_BYTES {
+        return Err(ScriptRefused::Fault { line: 0, reason: Reason::Size });
+    }
+    let mut draft = Draft::make(alloc);
+    read_lines(alloc, &mut draft, bytes)?;
+    if !draft.has_client() {
+        return Err(ScriptRefused::Fault { line: 0, reason: Reason::Order });
+    }
+    Ok(draft.into_script())
+}
+
+fn read_lines(alloc: Global, draft: &mut Draft, bytes: &[u8]) -> Result<(), ScriptRefused>
+    requires { length bytes.now ≤ SCRIPT_BYTES }
+    ensures { SaysLines (lines_say 1 draft.old (lines_of bytes.now)) result draft.new }
+{
+    let mut number = 1;
+    let mut left = Some(bytes);
+    'lines: while let Some(rest) = left {
+        let (line, after) = words::cut_line(rest);
+        match lines::read_line(alloc, draft, words::without_return(line)) {
+            Ok(()) => {}
+            Err(LineRefused::Faulty(reason)) => {
+                return Err(ScriptRefused::Fault { line: number, reason });
+            }
+            Err(LineRefused::Memory) => return Err(ScriptRefused::Memory),
+        }
+        number += 1;
+        left = after;
+    }
+    Ok(())
+}

@@ -1,0 +1,105 @@
+ghost use Rattle.std.specs.Prelude.{◌≡◌, ◌==◌, ◌<◌, ◌∷◌, [], length, map, IfOk, IfSome, option_map};
+ghost use Rattle.std.specs.List.{list_any, list_all, slice_split};
+ghost use Rattle.std.specs.Option.{option_map_or};
+ghost use Rattle.std.specs.Str.{all_ascii_digits};
+ghost use Rattle.std.specs.Str.Lines.{strip_carriage_return};
+ghost use Rattle.script_text.specs.Words.{words_of, is_comment, is_line_byte, is_fixed, number_of, hex_of};
+
+use hex::FromHexError;
+use std::alloc::{AllocError, Global};
+use std::str;
+
+/// The bytes before the first line feed, and those behind it where there is one.
+pub fn cut_line(bytes: &[u8]) -> (&[u8], Option<&[u8]>)
+    ensures cut { slice_split (λ b. b == 10) bytes.now
+        ≡ result.0.now ∷ option_map_or (λ rest. slice_split (λ b. b == 10) rest.now) result.1 [] }
+    ensures shorter { IfSome result.1 (λ rest. length rest.now < length bytes.now) }
+{
+    match bytes.iter().position(|b| *b == b'\n') {
+        Some(place) => (&bytes[..place], Some(&bytes[place + 1..])),
+        None => (bytes, None),
+    }
+}
+
+/// The line without one carriage return at its end.
+pub fn without_return(line: &[u8]) -> &[u8]
+    ensures { result.now ≡ strip_carriage_return line.now }
+{
+    let count = line.len();
+    if count > 0 && line[count - 1] == b'\r' {
+        &line[..count - 1]
+    } else {
+        line
+    }
+}
+
+/// Whether the line begins with `#`.
+pub fn is_comment(line: &[u8]) -> bool
+    ensures { result ≡ is_comment line.now }
+{
+    !line.is_empty() && line[0] == b'#'
+}
+
+/// Whether each byte is a space or a printable one.
+pub fn is_clean(line: &[u8]) -> bool
+    ensures { result ≡ list_all is_line_byte line.now }
+{
+    line.iter().all(|b| *b >= b' ' && *b <= b'~')
+}
+
+/// The words of a line. The error is want of memory.
+pub fn words_of<'a>(alloc: Global, line: &'a [u8]) -> Result<Vec<&'a [u8]>, AllocError>
+    ensures { IfOk result (λ words. map (λ word. word.now) words.items ≡ words_of line.now) }
+{
+    line.split(|b| *b == b' ')
+        .filter(|word| !word.is_empty())
+        .collect(alloc)
+}
+
+/// Whether the word is wrong where it stands.
+pub fn is_fixed(word: &[u8]) -> bool
+    ensures { result ≡ is_fixed word.now }
+{
+    (!word.is_empty() && word[0] == b'@')
+        || word == b"cached".as_slice()
+        || word == b"protected".as_slice()
+        || word == b"part".as_slice()
+        || word == b"on".as_slice()
+        || word == b"off".as_slice()
+}
+
+/// The number that the word writes in decimal digits.
+pub fn number_of(word: &[u8]) -> Option<u64>
+    ensures { result ≡ number_of word.now }
+{
+    if word.len() > 20 || !is_digits(word) {
+        return None;
+    }
+    match str::from_utf8(word) {
+        Ok(text) => text.parse::<u64>().ok(),
+        Err(_) => None,
+    }
+}
+
+fn is_digits(word: &[u8]) -> bool
+    ensures { result ≡ all_ascii_digits word.now }
+{
+    word.iter().all(|b| b.is_ascii_digit())
+}
+
+/// The bytes that the word writes in hexadecimal digits. The error is want of memory.
+pub fn hex_of(alloc: Global, word: &[u8]) -> Result<Option<Vec<u8>>, AllocError>
+    ensures { IfOk result (λ found. option_map (λ bytes. bytes.items) found ≡ hex_of word.now) }
+{
+    if word == b"-".as_slice() {
+        return Ok(Some(Vec::new(alloc)));
+    }
+    if word.len() < 2 {
+        return Ok(None);
+    }
+    match hex::decode(alloc, word) {
+        Ok(bytes) => Ok(Some(bytes)),
+        Err(FromHexError::OutOfMemory) => Err(AllocError),
+        Err(_) => Ok(None),
+    }
+}
