@@ -1,5 +1,5 @@
 -- The line of an entry (own profile).
-use Rattle.std.specs.Prelude.{ℕ, ◌+◌, Bool, true, false, List, [], ◌∷◌, ◌++◌, codes, decimal}
+use Rattle.std.specs.Prelude.{ℕ, Bool, true, false, List, [], ◌∷◌, ◌++◌, codes, decimal}
 use Rattle.efi_status.specs.StatusTable.{name_of}
 use Rattle.history.specs.declared.entry.View.{View}
 use Rattle.history.specs.declared.entry.Kind.{Kind}
@@ -9,16 +9,12 @@ use Rattle.history.specs.declared.entry.Command.{Command}
 use Rattle.history.specs.declared.entry.Command.TheVariants.{Fetch, Store, Put, Get, Sync}
 use Rattle.history.specs.declared.entry.Entry.{Entry}
 use Rattle.history.specs.declared.entry.Entry.TheVariants.{Accept, Refuse, Done, Fault, Collect, Cancel, Reset, Eject, Insert, Protect}
-use Rattle.script_text.specs.Text.{line_of, hex_text, view_text, kind_text, unit_text}
-
--- unit, place and length of a request
-abbrev pub range_words : Asked → List (List ℕ) → List (List ℕ)
-range_words asked more = unit_text asked.unit ∷ decimal asked.at ∷ decimal asked.length ∷ more
+use Rattle.script_text.specs.Text.{lines_text, line_of, hex_text, view_text, asked_text}
 
 -- what was accepted; a flush has no range, and only a write has bytes
 abbrev pub accepted_words : Kind → Asked → List ℕ → List (List ℕ)
-accepted_words Read asked bytes = codes "read" ∷ range_words asked []
-accepted_words Write asked bytes = codes "write" ∷ range_words asked (hex_text bytes ∷ [])
+accepted_words Read asked bytes = asked_text asked ∷ []
+accepted_words Write asked bytes = asked_text asked ∷ hex_text bytes ∷ []
 accepted_words Flush asked bytes = codes "flush" ∷ []
 
 -- a command that was done
@@ -45,7 +41,7 @@ switch_text false = codes "off"
 unfoldable pub entry_words : Entry → List (List ℕ)
 entry_words (Accept tag view asked bytes) = codes "accept" ∷ decimal tag ∷ view_text view ∷ accepted_words asked.kind asked bytes
 entry_words (Refuse tag view asked media_id status) =
-    codes "refuse" ∷ decimal tag ∷ view_text view ∷ kind_text asked.kind ∷ range_words asked (decimal media_id ∷ name_of status ∷ [])
+    codes "refuse" ∷ decimal tag ∷ view_text view ∷ asked_text asked ∷ decimal media_id ∷ name_of status ∷ []
 entry_words (Done token command) = done_words token command
 entry_words (Fault token command done) = codes "fault" ∷ decimal token ∷ failed_words command done
 entry_words (Collect tag token) = codes "collect" ∷ decimal tag ∷ decimal token ∷ []
@@ -59,7 +55,6 @@ entry_words (Protect tag on) = codes "protect" ∷ decimal tag ∷ switch_text o
 unfoldable pub line_text : ℕ → Entry → List ℕ
 line_text place entry = line_of (decimal place ∷ entry_words entry)
 
--- the lines of these entries, the first of them at this place
-unfoldable pub entries_text : ℕ → List Entry → List ℕ
-entries_text place [] = []
-entries_text place (entry ∷ more) = line_text place entry ++ entries_text (place + 1) more
+-- the lines of entries from the oldest on
+abbrev pub entries_text : List Entry → List ℕ
+entries_text entries = lines_text line_text 0 entries

@@ -1,5 +1,5 @@
 -- The report of a disk (own profile).
-use Rattle.std.specs.Prelude.{◌≡◌, ◌≢◌, ℕ, ◌+◌, ◌<◌, Bool, true, false, not, ◌&&◌, nat_eq, List, [], ◌∷◌, ◌++◌, length, map, reverse, slice_get, slice_index, codes, decimal, Option, Some, None, is_some, IfSome}
+use Rattle.std.specs.Prelude.{◌≡◌, ℕ, ◌+◌, ◌<◌, Bool, true, false, not, ◌&&◌, nat_eq, List, [], ◌∷◌, ◌++◌, length, map, reverse, slice_get, slice_index, codes, decimal, Option, Some, None, is_some, IfSome}
 use Rattle.efi_status.specs.declared.Status.{Status}
 use Rattle.efi_status.specs.declared.Status.TheVariants.{Success}
 use Rattle.efi_status.specs.StatusTable.{name_of}
@@ -10,7 +10,7 @@ use Rattle.history.specs.Marks.{mark_of}
 use Rattle.history.specs.Contents.{bytes_read}
 use Rattle.script_text.specs.declared.report.parts.KeptMedium.{KeptMedium}
 use Rattle.script_text.specs.declared.report.parts.TokenLine.{TokenLine}
-use Rattle.script_text.specs.Text.{line_of, hex_text}
+use Rattle.script_text.specs.Text.{line_of, hex_text, lines_text}
 use Rattle.script_text.specs.Entries.{entries_text}
 
 -- the first line of a disk: its number from 1, its image, the size of a block in bytes, and its blocks
@@ -31,22 +31,21 @@ given_words (Some bytes) = hex_text bytes ∷ []
 unfoldable pub token_text : ℕ → Option Status → Option (List ℕ) → List ℕ
 token_text token mark given = line_of (codes "token" ∷ decimal token ∷ mark_words mark (given_words given))
 
--- the lines of the tokens from this one on, with what each gave back
-unfoldable pub tokens_text : ℕ → List Entry → ℕ → List (Option (List ℕ)) → List ℕ
-tokens_text size H token [] = []
-tokens_text size H token (given ∷ more) = token_text token (mark_of size H token) given ++ tokens_text size H (token + 1) more
+-- the lines of the tokens in order, with what each gave back
+abbrev pub tokens_text : ℕ → List Entry → List (Option (List ℕ)) → List ℕ
+tokens_text size H given = lines_text (λ t. token_text t (mark_of size H t)) 0 given
 
 -- a medium that was kept: its id, its name, and its bytes in whole blocks
 unfoldable pub medium_text : ℕ → KeptMedium → List ℕ
 medium_text id medium = line_of (codes "medium" ∷ decimal id ∷ medium.name ∷ codes "kept" ∷ decimal medium.bytes ∷ [])
 
-unfoldable pub media_text : ℕ → List KeptMedium → List ℕ
-media_text id [] = []
-media_text id (medium ∷ more) = medium_text id medium ++ media_text (id + 1) more
+-- the lines of the media from id 1 on
+abbrev pub media_text : List KeptMedium → List ℕ
+media_text media = lines_text medium_text 1 media
 
 -- the lines behind the first: entries from the oldest on, tokens, and media from id 1 on
 unfoldable pub body_text : ℕ → List Entry → List (Option (List ℕ)) → List KeptMedium → List ℕ
-body_text size H given media = entries_text 0 (reverse H) ++ (tokens_text size H 0 given ++ media_text 1 media)
+body_text size H given media = entries_text (reverse H) ++ (tokens_text size H given ++ media_text media)
 
 -- the report of a disk
 unfoldable pub report_text : ℕ → List ℕ → ℕ → ℕ → List Entry → List (Option (List ℕ)) → List KeptMedium → List ℕ

@@ -1,6 +1,8 @@
+#![tactic(auto, unfolding(crate::specs::Text::line_of, crate::specs::Text::hex_text, crate::specs::Text::view_text, crate::specs::Text::asked_text, crate::specs::Text::kind_text, crate::specs::Text::unit_text, crate::specs::Entries::line_text, crate::specs::Entries::entry_words))]
+
 ghost use Rattle.std.specs.Prelude.{◌≡◌, ◌∷◌, [], decimal, string_bytes, Some, IfOk};
-ghost use Rattle.script_text.specs.Text.{line_of, hex_text, view_text, kind_text, unit_text};
-ghost use Rattle.script_text.specs.Entries.{line_text, accepted_words, done_words, failed_words};
+ghost use Rattle.script_text.specs.Text.{hex_text, kind_text, unit_text};
+ghost use Rattle.script_text.specs.Entries.{line_text};
 ghost use Rattle.history.specs.declared.entry.Entry.TheVariants.{Accept, Refuse, Done, Fault, Protect};
 
 use efi_status::Status;
@@ -23,6 +25,26 @@ impl fmt::Display for ViewText {
     fn fmt<W: fmt::Write>(&self, f: &mut fmt::Formatter<W>) -> fmt::Result {
         let View { start, length, media_id, index } = self.view;
         write!(f, "{start}+{length}@{media_id}/{index}")
+    }
+}
+
+/// The text of what was asked.
+#[derive(Clone, Copy)]
+pub struct AskedText {
+    pub asked: Asked,
+}
+
+impl fmt::Display for AskedText {
+    ghost use Rattle.std.specs.Prelude.{Some};
+    ghost use Rattle.script_text.specs.Text.{asked_text};
+
+    ghost output = { λ shown. Some (asked_text shown.asked) };
+
+    fn fmt<W: fmt::Write>(&self, f: &mut fmt::Formatter<W>) -> fmt::Result {
+        let kind = kind_word(self.asked.kind);
+        let unit = unit_word(self.asked.unit);
+        let Asked { at, length, .. } = self.asked;
+        write!(f, "{kind} {unit} {at} {length}")
     }
 }
 
@@ -101,13 +123,13 @@ fn accept_line(
     ensures { IfOk result (λ text. string_bytes text ≡ line_text place (Accept tag view asked bytes.now)) }
 {
     let view = ViewText { view };
-    let unit = unit_word(asked.unit);
-    let Asked { at, length, .. } = asked;
-    match asked.kind {
-        Kind::Read => format!(in alloc; "{place} accept {tag} {view} read {unit} {at} {length}\n"),
+    let kind = asked.kind;
+    let asked = AskedText { asked };
+    match kind {
+        Kind::Read => format!(in alloc; "{place} accept {tag} {view} {asked}\n"),
         Kind::Write => {
             let bytes = hex_text(alloc, bytes)?;
-            format!(in alloc; "{place} accept {tag} {view} write {unit} {at} {length} {bytes}\n")
+            format!(in alloc; "{place} accept {tag} {view} {asked} {bytes}\n")
         }
         Kind::Flush => format!(in alloc; "{place} accept {tag} {view} flush\n"),
     }
@@ -125,11 +147,9 @@ fn refuse_line(
     ensures { IfOk result (λ text. string_bytes text ≡ line_text place (Refuse tag view asked media_id status)) }
 {
     let view = ViewText { view };
-    let kind = kind_word(asked.kind);
-    let unit = unit_word(asked.unit);
-    let Asked { at, length, .. } = asked;
+    let asked = AskedText { asked };
     let status = status.name();
-    format!(in alloc; "{place} refuse {tag} {view} {kind} {unit} {at} {length} {media_id} {status}\n")
+    format!(in alloc; "{place} refuse {tag} {view} {asked} {media_id} {status}\n")
 }
 
 fn done_line(alloc: Global, place: u64, token: u64, command: Command) -> Result<String, AllocError>

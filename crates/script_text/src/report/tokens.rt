@@ -1,3 +1,5 @@
+#![tactic(auto, unfolding(crate::specs::Text::line_of, crate::specs::Report::head_text, crate::specs::Report::token_text, crate::specs::Report::medium_text))]
+
 ghost use Rattle.std.specs.Prelude.{◌≡◌, string_bytes, Some, IfOk};
 ghost use Rattle.script_text.specs.Report.{head_text, token_text, medium_text};
 

@@ -1,10 +1,8 @@
-ghost use Rattle.std.specs.Prelude.{string_bytes, reverse};
+ghost use Rattle.std.specs.Prelude.{string_bytes};
 ghost use Rattle.image_store.specs.Edge.{PutsText, HasCauseOf};
 ghost use Rattle.script_text.specs.Held.{Adds};
 ghost use Rattle.script_text.specs.Entries.{entries_text};
 ghost use Rattle.script_text.specs.Report.{head_text, body_text, tokens_text, media_text, givens_of, AreEnds};
-ghost use Rattle.history.specs.declared.entry.Entry.{Entry as TheEntry};
-ghost use Rattle.std.specs.Prelude.{List};
 
 use crate::grammar::plans::DiskPlan;
 use crate::report::entries::entry_line;
@@ -15,6 +13,7 @@ use history::{Entry, History};
 use image_store::Sink;
 use std::alloc::Global;
 
+#[tactic(auto, using(crate::proofs::HeldText::none_put))]
 /// Writes the first line of a disk: its number from 1, its image, its block size in bytes, and its blocks (own profile).
 /// After a fault a front of the line was written. `Failed` comes only where the sink's faults rose.
 pub fn report_head<O: Sink>(
@@ -68,16 +67,13 @@ fn add_entries<O: Sink>(
     held: &mut String,
     out: &mut O,
 ) -> Result<(), ReportFault>
-    ensures text { Adds (O.wrote out.old) (string_bytes held.old) result (O.wrote out.new) (string_bytes held.new) (entries_text 0 entries.now) }
+    ensures text { Adds (O.wrote out.old) (string_bytes held.old) result (O.wrote out.new) (string_bytes held.new) (entries_text entries.now) }
     ensures cause { HasCauseOf ReportFault.Failed (O.faults out.old) (O.faults out.new) result }
 {
     for (place, entry) in entries.iter().enumerate() {
-        match entry_line(alloc, place as u64, entry) {
-            Ok(line) => match pieces::add(held, out, line.as_str()) {
-                Ok(()) => {}
-                Err(fault) => return Err(fault),
-            },
-            Err(_) => return Err(ReportFault::Memory),
+        match pieces::add_made(held, out, entry_line(alloc, place as u64, entry)) {
+            Ok(()) => {}
+            Err(fault) => return Err(fault),
         }
     }
     Ok(())
@@ -92,16 +88,13 @@ fn add_tokens<O: Sink>(
     out: &mut O,
 ) -> Result<(), ReportFault>
     requires { AreEnds size history.now.entries ends.now }
-    ensures text { Adds (O.wrote out.old) (string_bytes held.old) result (O.wrote out.new) (string_bytes held.new) (tokens_text size history.now.entries 0 (givens_of ends.now)) }
+    ensures text { Adds (O.wrote out.old) (string_bytes held.old) result (O.wrote out.new) (string_bytes held.new) (tokens_text size history.now.entries (givens_of ends.now)) }
     ensures cause { HasCauseOf ReportFault.Failed (O.faults out.old) (O.faults out.new) result }
 {
     for (token, end) in ends.iter().enumerate() {
-        match tokens::token_line(alloc, token as u64, end) {
-            Ok(line) => match pieces::add(held, out, line.as_str()) {
-                Ok(()) => {}
-                Err(fault) => return Err(fault),
-            },
-            Err(_) => return Err(ReportFault::Memory),
+        match pieces::add_made(held, out, tokens::token_line(alloc, token as u64, end)) {
+            Ok(()) => {}
+            Err(fault) => return Err(fault),
         }
     }
     Ok(())
@@ -113,16 +106,13 @@ fn add_media<O: Sink>(
     held: &mut String,
     out: &mut O,
 ) -> Result<(), ReportFault>
-    ensures text { Adds (O.wrote out.old) (string_bytes held.old) result (O.wrote out.new) (string_bytes held.new) (media_text 1 media.now) }
+    ensures text { Adds (O.wrote out.old) (string_bytes held.old) result (O.wrote out.new) (string_bytes held.new) (media_text media.now) }
     ensures cause { HasCauseOf ReportFault.Failed (O.faults out.old) (O.faults out.new) result }
 {
     for (place, medium) in media.iter().enumerate() {
-        match tokens::medium_line(alloc, place as u64 + 1, medium) {
-            Ok(line) => match pieces::add(held, out, line.as_str()) {
-                Ok(()) => {}
-                Err(fault) => return Err(fault),
-            },
-            Err(_) => return Err(ReportFault::Memory),
+        match pieces::add_made(held, out, tokens::medium_line(alloc, place as u64 + 1, medium)) {
+            Ok(()) => {}
+            Err(fault) => return Err(fault),
         }
     }
     Ok(())
