@@ -1,7 +1,7 @@
-ghost use Rattle.std.specs.Prelude.{◌≡◌, ◌==◌, ◌<◌, ◌∷◌, [], length, map, IfOk, IfSome, option_map};
+ghost use Rattle.std.specs.Prelude.{◌≡◌, ◌==◌, ◌<◌, ◌∷◌, [], length, map, position, IfOk, IfSome, option_map};
 ghost use Rattle.std.specs.List.{list_any, list_all, slice_split};
 ghost use Rattle.std.specs.Option.{option_map_or};
-ghost use Rattle.std.specs.Str.{all_ascii_digits};
+ghost use Rattle.std.specs.Char.{is_ascii_digit};
 ghost use Rattle.std.specs.Str.Lines.{strip_carriage_return};
 ghost use Rattle.script_text.specs.Words.{words_of, is_comment, is_line_byte, is_fixed, number_of, hex_of};
 
@@ -9,16 +9,23 @@ use hex::FromHexError;
 use std::alloc::{AllocError, Global};
 use std::str;
 
+#[tactic(auto, using(crate::proofs::Cuts::cut_found, crate::proofs::Cuts::cut_nowhere))]
 /// The bytes before the first line feed, and those behind it where there is one.
 pub fn cut_line(bytes: &[u8]) -> (&[u8], Option<&[u8]>)
     ensures cut { slice_split (λ b. b == 10) bytes.now
         ≡ result.0.now ∷ option_map_or (λ rest. slice_split (λ b. b == 10) rest.now) result.1 [] }
     ensures shorter { IfSome result.1 (λ rest. length rest.now < length bytes.now) }
 {
-    match bytes.iter().position(|b| *b == b'\n') {
+    match line_end(bytes) {
         Some(place) => (&bytes[..place], Some(&bytes[place + 1..])),
         None => (bytes, None),
     }
+}
+
+fn line_end(bytes: &[u8]) -> Option<usize>
+    ensures { result ≡ position (λ b. b == 10) bytes.now }
+{
+    bytes.iter().position(|b| *b == b'\n')
 }
 
 /// The line without one carriage return at its end.
@@ -68,6 +75,7 @@ pub fn is_fixed(word: &[u8]) -> bool
         || word == b"off".as_slice()
 }
 
+#[tactic(auto, using(crate::proofs::Numbers::digits_are_text, crate::proofs::Numbers::number_parsed, crate::proofs::Numbers::no_number_long, crate::proofs::Numbers::no_number_other), unfolding(crate::specs::Words::number_of))]
 /// The number that the word writes in decimal digits.
 pub fn number_of(word: &[u8]) -> Option<u64>
     ensures { result ≡ number_of word.now }
@@ -82,11 +90,12 @@ pub fn number_of(word: &[u8]) -> Option<u64>
 }
 
 fn is_digits(word: &[u8]) -> bool
-    ensures { result ≡ all_ascii_digits word.now }
+    ensures { result ≡ list_all is_ascii_digit word.now }
 {
     word.iter().all(|b| b.is_ascii_digit())
 }
 
+#[tactic(auto, unfolding(crate::specs::Words::hex_of))]
 /// The bytes that the word writes in hexadecimal digits. The error is want of memory.
 pub fn hex_of(alloc: Global, word: &[u8]) -> Result<Option<Vec<u8>>, AllocError>
     ensures { IfOk result (λ found. option_map (λ bytes. bytes.items) found ≡ hex_of word.now) }
