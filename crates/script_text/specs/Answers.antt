@@ -8,16 +8,17 @@ use Rattle.script_text.specs.declared.grammar.refusal.LineRefused.TheVariants as
 use Rattle.script_text.specs.declared.grammar.refusal.ScriptRefused.{ScriptRefused}
 use Rattle.script_text.specs.declared.grammar.refusal.ScriptRefused.TheVariants.{Fault, Memory}
 
--- the line's answer, and the plans behind it
-abbrev pub SaysLine : Result (List DiskPlan) Reason → Result (Unit {0}) LineRefused → List DiskPlan → Type 0
-SaysLine said (Ok done) plans = said ≡ Ok plans
-SaysLine said (Err (line.Faulty reason)) plans = said ≡ Err reason
-SaysLine said (Err line.Memory) plans = Unit {0}
+-- the plans behind a line are what it says
+abbrev pub Says : Result (List DiskPlan) Reason → Result (List DiskPlan) LineRefused → Type 0
+Says said (Ok plans) = said ≡ Ok plans
+Says said (Err (line.Faulty reason)) = said ≡ Err reason
+Says said (Err line.Memory) = Unit {0}
 
-abbrev pub SaysLines : Result (List DiskPlan) (ℕ × Reason) → Result (Unit {0}) ScriptRefused → List DiskPlan → Type 0
-SaysLines said (Ok done) plans = said ≡ Ok plans
-SaysLines said (Err (Fault number reason)) plans = said ≡ Err (number, reason)
-SaysLines said (Err Memory) plans = Unit {0}
+-- the plans behind all lines are what they say
+abbrev pub SaysAll : Result (List DiskPlan) (ℕ × Reason) → Result (List DiskPlan) ScriptRefused → Type 0
+SaysAll said (Ok plans) = said ≡ Ok plans
+SaysAll said (Err (Fault number reason)) = said ≡ Err (number, reason)
+SaysAll said (Err Memory) = Unit {0}
 
 -- the script is what was said
 abbrev pub Reads : Result Script ScriptRefused → Result (List DiskPlan) (ℕ × Reason) → Type 0

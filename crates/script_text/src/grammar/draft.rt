@@ -1,10 +1,10 @@
-ghost use Rattle.std.specs.Prelude.{◌≡◌, ◌+◌, ◌≤◌, ◌<◌, true, length, [], OnOk, nat_lt, nat_le, ◌&&◌};
+ghost use Rattle.std.specs.Prelude.{◌≡◌, ◌+◌, ◌≤◌, ◌<◌, true, length, [], OnOk, IfOk, nat_lt, nat_le, ◌&&◌};
 ghost use Rattle.script_text.specs.Plans.{has_some, last_is, disk_plan, with_disk, with_client, with_order, has_client, has_image, requested, request_bytes};
 ghost use Rattle.script_text.specs.declared.grammar.limits.TheConstants.{ALL_REQUEST_BYTES, REQUEST_BYTES, CLIENTS, DISKS};
 
 use crate::grammar::limits::{ALL_REQUEST_BYTES, CLIENTS, DISKS, REQUEST_BYTES};
 use crate::grammar::plans::{DiskPlan, Items, Name, Script};
-use history::{Order};
+use history::Order;
 use std::alloc::{AllocError, Global};
 use std::marker::Model;
 
@@ -29,6 +29,7 @@ impl Model for Draft {
 }
 
 impl Draft {
+    #[tactic(auto, using(crate::proofs::PlanLemmas::requested_none))]
     pub fn make(alloc: Global) -> Draft
         ensures { result ≡ [] }
     {
@@ -54,6 +55,7 @@ impl Draft {
         !self.disks.is_empty()
     }
 
+    #[tactic(auto, using(crate::proofs::PlanLemmas::last_from_get, crate::proofs::PlanLemmas::no_last, crate::proofs::PlanLemmas::some_is))]
     pub fn has_client(&self) -> bool
         ensures { result ≡ has_client self.now }
     {
@@ -77,6 +79,7 @@ impl Draft {
         (self.disks.len() as u64) < DISKS
     }
 
+    #[tactic(auto, using(crate::proofs::PlanLemmas::last_from_get, crate::proofs::PlanLemmas::no_last))]
     pub fn has_client_room(&self) -> bool
         ensures { result ≡ last_is (λ disk. nat_lt (length disk.clients) CLIENTS) self.now }
     {
@@ -93,40 +96,66 @@ impl Draft {
     }
 
     /// Adds a disk without clients. The error is want of memory.
-    pub fn add_disk(&mut self, alloc: Global, image: Name, size: u32) -> Result<(), AllocError>
-        ensures { OnOk result (self.new ≡ with_disk (disk_plan image size) self.old) }
+    #[tactic(auto, using(crate::proofs::PlanLemmas::requested_disk))]
+    pub fn add_disk(self, alloc: Global, image: Name, size: u32) -> Result<Draft, AllocError>
+        ensures { IfOk result (λ next. next ≡ with_disk (disk_plan image size) self) }
     {
-        self.disks.push(DiskPlan {
+        let Draft { mut disks, bytes } = self;
+        disks.push(DiskPlan {
             image,
             size,
             clients: Items::from_vec(Vec::new(alloc)),
         })?;
-        Ok(())
+        Ok(Draft { disks, bytes })
     }
 
     /// Adds a client to the last disk. The error is want of memory.
-    pub fn add_client(&mut self, alloc: Global) -> Result<(), AllocError>
-        requires { has_some self.old ≡ true }
-        ensures { OnOk result (self.new ≡ with_client self.old) }
+    #[tactic(auto, using(crate::proofs::PlanLemmas::requested_client))]
+    pub fn add_client(self, alloc: Global) -> Result<Draft, AllocError>
+        requires { has_some self ≡ true }
+        ensures { IfOk result (λ next. next ≡ with_client self) }
     {
-        let last = self.disks.len() - 1;
-        let disk = &mut self.disks[last];
-        disk.add_client(alloc)
+        let Draft { mut disks, bytes } = self;
+        client_to_last(alloc, &mut disks)?;
+        Ok(Draft { disks, bytes })
     }
 
     /// Adds a line to the last client of the last disk. The error is want of memory.
-    pub fn add_order(&mut self, order: Order) -> Result<(), AllocError>
-        requires client { has_client self.old ≡ true }
-        requires room { requested self.old + request_bytes order ≤ ALL_REQUEST_BYTES }
-        ensures { OnOk result (self.new ≡ with_order order self.old) }
+    #[tactic(auto, using(crate::proofs::PlanLemmas::requested_order))]
+    pub fn add_order(self, order: Order) -> Result<Draft, AllocError>
+        requires client { has_client self ≡ true }
+        requires room { requested self + request_bytes order ≤ ALL_REQUEST_BYTES }
+        ensures { IfOk result (λ next. next ≡ with_order order self) }
     {
-        let bytes = bytes_of(&order);
-        let last = self.disks.len() - 1;
-        let disk = &mut self.disks[last];
-        disk.add_order(order)?;
-        self.bytes += bytes;
-        Ok(())
+        let Draft { mut disks, bytes } = self;
+        let more = bytes_of(&order);
+        order_to_last(&mut disks, order)?;
+        Ok(Draft {
+            disks,
+            bytes: bytes + more,
+        })
     }
+}
+
+fn client_to_last(alloc: Global, disks: &mut Vec<DiskPlan>) -> Result<(), AllocError>
+    requires { has_some disks.old.items ≡ true }
+    ensures { OnOk result (disks.new.items ≡ with_client disks.old.items) }
+{
+    let last = disks.len() - 1;
+    let disk = &mut disks[last];
+    disk.add_client(alloc)?;
+    Ok(())
+}
+
+#[tactic(auto, using(crate::proofs::PlanLemmas::client_length, crate::proofs::PlanLemmas::last_passes, crate::proofs::PlanLemmas::set_last))]
+fn order_to_last(disks: &mut Vec<DiskPlan>, order: Order) -> Result<(), AllocError>
+    requires { has_client disks.old.items ≡ true }
+    ensures { OnOk result (disks.new.items ≡ with_order order disks.old.items) }
+{
+    let last = disks.len() - 1;
+    let disk = &mut disks[last];
+    disk.add_order(order)?;
+    Ok(())
 }
 
 /// How many bytes the line asks for.

@@ -1,10 +1,9 @@
-ghost use Rattle.std.specs.Prelude.{map};
-ghost use Rattle.std.specs.List.{list_any};
-ghost use Rattle.script_text.specs.Answers.{SaysLine};
+ghost use Rattle.std.specs.Prelude.{◌≡◌, map};
+ghost use Rattle.medium.specs.Device.{is_block_size};
+ghost use Rattle.script_text.specs.Answers.{Says};
 ghost use Rattle.script_text.specs.Script.{planned_disk, planned_client, planned_order, disk_line, client_line, write_line, read_line, wait_line, kind_of_line, line_of_words, line_says};
-ghost use Rattle.script_text.specs.Words.{is_fixed};
 
-use crate::grammar::draft::Draft;
+use crate::grammar::draft::{Draft, bytes_of};
 use crate::grammar::limits::{NAME_BYTES, WORKERS};
 use crate::grammar::plans::Name;
 use crate::grammar::refusal::{LineRefused, Reason};
@@ -14,12 +13,13 @@ use history::{Asked, Kind, Order, Payload, UnitKind};
 use std::alloc::Global;
 use std::str;
 
+#[tactic(auto, unfolding(crate::specs::Script::line_says))]
 /// A line of the script.
-pub fn read_line(alloc: Global, draft: &mut Draft, line: &[u8]) -> Result<(), LineRefused>
-    ensures { SaysLine (line_says draft.old line.now) result draft.new }
+pub fn read_line(alloc: Global, draft: Draft, line: &[u8]) -> Result<Draft, LineRefused>
+    ensures { Says (line_says draft line.now) result }
 {
     if words::is_comment(line) {
-        return Ok(());
+        return Ok(draft);
     }
     if !words::is_clean(line) {
         return Err(LineRefused::Faulty(Reason::Form));
@@ -28,11 +28,12 @@ pub fn read_line(alloc: Global, draft: &mut Draft, line: &[u8]) -> Result<(), Li
     words_say(alloc, draft, &words)
 }
 
-fn words_say(alloc: Global, draft: &mut Draft, words: &[&[u8]]) -> Result<(), LineRefused>
-    ensures { SaysLine (line_of_words draft.old (map (λ word. word.now) words.now)) result draft.new }
+#[tactic(auto, unfolding(crate::specs::Script::line_of_words))]
+fn words_say(alloc: Global, draft: Draft, words: &[&[u8]]) -> Result<Draft, LineRefused>
+    ensures { Says (line_of_words draft (map (λ word. word.now) words.now)) result }
 {
     match words {
-        [] => Ok(()),
+        [] => Ok(draft),
         [first, rest @ ..] => {
             if rest.iter().any(|word| words::is_fixed(word)) {
                 Err(LineRefused::Faulty(Reason::Form))
@@ -43,13 +44,14 @@ fn words_say(alloc: Global, draft: &mut Draft, words: &[&[u8]]) -> Result<(), Li
     }
 }
 
+#[tactic(auto, unfolding(crate::specs::Script::kind_of_line))]
 fn kind_of_line(
     alloc: Global,
-    draft: &mut Draft,
+    draft: Draft,
     first: &[u8],
     rest: &[&[u8]],
-) -> Result<(), LineRefused>
-    ensures { SaysLine (kind_of_line draft.old first.now (map (λ word. word.now) rest.now)) result draft.new }
+) -> Result<Draft, LineRefused>
+    ensures { Says (kind_of_line draft first.now (map (λ word. word.now) rest.now)) result }
 {
     if first == b"disk".as_slice() {
         disk_line(alloc, draft, rest)
@@ -66,8 +68,9 @@ fn kind_of_line(
     }
 }
 
-fn disk_line(alloc: Global, draft: &mut Draft, words: &[&[u8]]) -> Result<(), LineRefused>
-    ensures { SaysLine (disk_line draft.old (map (λ word. word.now) words.now)) result draft.new }
+#[tactic(auto, unfolding(crate::specs::Script::disk_line))]
+fn disk_line(alloc: Global, draft: Draft, words: &[&[u8]]) -> Result<Draft, LineRefused>
+    ensures { Says (disk_line draft (map (λ word. word.now) words.now)) result }
 {
     let [image, size, workers] = words else {
         return Err(LineRefused::Faulty(Reason::Form));
@@ -81,14 +84,15 @@ fn disk_line(alloc: Global, draft: &mut Draft, words: &[&[u8]]) -> Result<(), Li
     plan_disk(alloc, draft, image, size, workers)
 }
 
+#[tactic(auto, unfolding(crate::specs::Script::planned_disk))]
 fn plan_disk(
     alloc: Global,
-    draft: &mut Draft,
+    draft: Draft,
     image: &[u8],
     size: u64,
     workers: u64,
-) -> Result<(), LineRefused>
-    ensures { SaysLine (planned_disk draft.old image.now size workers) result draft.new }
+) -> Result<Draft, LineRefused>
+    ensures { Says (planned_disk draft image.now size workers) result }
 {
     if image.len() as u64 > NAME_BYTES || draft.has_image(image) {
         return Err(LineRefused::Faulty(Reason::Name));
@@ -99,16 +103,19 @@ fn plan_disk(
     let Ok(text) = str::from_utf8(image) else {
         return Err(LineRefused::Faulty(Reason::Form));
     };
-    draft.add_disk(alloc, Name::copy_of(alloc, text)?, size as u32)?;
-    Ok(())
+    let image = Name::copy_of(alloc, text)?;
+    Ok(draft.add_disk(alloc, image, size as u32)?)
 }
 
-fn is_block_size(size: u64) -> bool {
+fn is_block_size(size: u64) -> bool
+    ensures { result ≡ is_block_size size }
+{
     size == 512 || size == 1024 || size == 2048 || size == 4096
 }
 
-fn client_line(alloc: Global, draft: &mut Draft, words: &[&[u8]]) -> Result<(), LineRefused>
-    ensures { SaysLine (client_line draft.old (map (λ word. word.now) words.now)) result draft.new }
+#[tactic(auto, unfolding(crate::specs::Script::client_line, crate::specs::Script::planned_client))]
+fn client_line(alloc: Global, draft: Draft, words: &[&[u8]]) -> Result<Draft, LineRefused>
+    ensures { Says (client_line draft (map (λ word. word.now) words.now)) result }
 {
     if !words.is_empty() {
         return Err(LineRefused::Faulty(Reason::Form));
@@ -119,12 +126,12 @@ fn client_line(alloc: Global, draft: &mut Draft, words: &[&[u8]]) -> Result<(), 
     if !draft.has_client_room() {
         return Err(LineRefused::Faulty(Reason::Limit));
     }
-    draft.add_client(alloc)?;
-    Ok(())
+    Ok(draft.add_client(alloc)?)
 }
 
-fn write_line(alloc: Global, draft: &mut Draft, words: &[&[u8]]) -> Result<(), LineRefused>
-    ensures { SaysLine (write_line draft.old (map (λ word. word.now) words.now)) result draft.new }
+#[tactic(auto, unfolding(crate::specs::Script::write_line))]
+fn write_line(alloc: Global, draft: Draft, words: &[&[u8]]) -> Result<Draft, LineRefused>
+    ensures { Says (write_line draft (map (λ word. word.now) words.now)) result }
 {
     let [at, hex] = words else {
         return Err(LineRefused::Faulty(Reason::Form));
@@ -145,8 +152,9 @@ fn write_line(alloc: Global, draft: &mut Draft, words: &[&[u8]]) -> Result<(), L
     plan_order(draft, Order::Request { asked, payload, media_id: 1 })
 }
 
-fn read_request_line(draft: &mut Draft, words: &[&[u8]]) -> Result<(), LineRefused>
-    ensures { SaysLine (read_line draft.old (map (λ word. word.now) words.now)) result draft.new }
+#[tactic(auto, unfolding(crate::specs::Script::read_line))]
+fn read_request_line(draft: Draft, words: &[&[u8]]) -> Result<Draft, LineRefused>
+    ensures { Says (read_line draft (map (λ word. word.now) words.now)) result }
 {
     let [at, length] = words else {
         return Err(LineRefused::Faulty(Reason::Form));
@@ -166,8 +174,9 @@ fn read_request_line(draft: &mut Draft, words: &[&[u8]]) -> Result<(), LineRefus
     plan_order(draft, Order::Request { asked, payload: Payload::Nothing, media_id: 1 })
 }
 
-fn wait_line(draft: &mut Draft, words: &[&[u8]]) -> Result<(), LineRefused>
-    ensures { SaysLine (wait_line draft.old (map (λ word. word.now) words.now)) result draft.new }
+#[tactic(auto, unfolding(crate::specs::Script::wait_line))]
+fn wait_line(draft: Draft, words: &[&[u8]]) -> Result<Draft, LineRefused>
+    ensures { Says (wait_line draft (map (λ word. word.now) words.now)) result }
 {
     if !words.is_empty() {
         return Err(LineRefused::Faulty(Reason::Form));
@@ -175,15 +184,15 @@ fn wait_line(draft: &mut Draft, words: &[&[u8]]) -> Result<(), LineRefused>
     plan_order(draft, Order::Wait)
 }
 
-fn plan_order(draft: &mut Draft, order: Order) -> Result<(), LineRefused>
-    ensures { SaysLine (planned_order draft.old order) result draft.new }
+#[tactic(auto, unfolding(crate::specs::Script::planned_order))]
+fn plan_order(draft: Draft, order: Order) -> Result<Draft, LineRefused>
+    ensures { Says (planned_order draft order) result }
 {
     if !draft.has_client() {
         return Err(LineRefused::Faulty(Reason::Order));
     }
-    if !draft.has_request_room(crate::grammar::draft::bytes_of(&order)) {
+    if !draft.has_request_room(bytes_of(&order)) {
         return Err(LineRefused::Faulty(Reason::Limit));
     }
-    draft.add_order(order)?;
-    Ok(())
+    Ok(draft.add_order(order)?)
 }

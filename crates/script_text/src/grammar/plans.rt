@@ -1,4 +1,5 @@
-ghost use Rattle.std.specs.Prelude.{◌≡◌, [], ◌∷◌, ◌++◌, IfOk, OnOk, OnErr, string_bytes};
+ghost use Rattle.std.specs.Prelude.{◌≡◌, true, [], ◌∷◌, ◌++◌, IfOk, OnOk, OnErr, string_bytes};
+ghost use Rattle.script_text.specs.Plans.{has_some, on_last, add_client, add_order, add_last_order};
 
 use history::Order;
 use std::alloc::{AllocError, Global};
@@ -117,9 +118,6 @@ pub struct DiskPlan {
 }
 
 impl DiskPlan {
-    ghost use Rattle.std.specs.Prelude.{true};
-    ghost use Rattle.script_text.specs.Plans.{has_some, add_client, add_last_order};
-
     /// Adds a client. The error is want of memory.
     pub(super) fn add_client(&mut self, alloc: Global) -> Result<(), AllocError>
         ensures { OnOk result (self.new ≡ add_client (record { orders = [] }) self.old) }
@@ -134,10 +132,18 @@ impl DiskPlan {
         requires { has_some self.old.clients ≡ true }
         ensures { OnOk result (self.new ≡ add_last_order order self.old) }
     {
-        let last = self.clients.kept.len() - 1;
-        let client = &mut self.clients.kept[last];
-        client.orders.push(order)
+        add_to_last(&mut self.clients, order)
     }
+}
+
+fn add_to_last(clients: &mut Items<ClientPlan>, order: Order) -> Result<(), AllocError>
+    requires { has_some clients.old ≡ true }
+    ensures { OnOk result (clients.new ≡ on_last (add_order order) clients.old) }
+{
+    let last = clients.kept.len() - 1;
+    let client = &mut clients.kept[last];
+    client.orders.push(order)?;
+    Ok(())
 }
 
 /// What a script says: its disks in order (own profile).

@@ -1,6 +1,6 @@
 ghost use Rattle.std.specs.Prelude.{◌≤◌, length, [], IfOk};
 ghost use Rattle.script_text.specs.declared.grammar.limits.TheConstants.{SCRIPT_BYTES};
-ghost use Rattle.script_text.specs.Answers.{SaysLines, Reads};
+ghost use Rattle.script_text.specs.Answers.{SaysAll, Reads};
 ghost use Rattle.script_text.specs.Fit.{AreDisks};
 ghost use Rattle.script_text.specs.Script.{script_of, lines_say};
 ghost use Rattle.script_text.specs.Words.{lines_of};
@@ -22,24 +22,27 @@ pub fn read_script(alloc: Global, bytes: &[u8]) -> Result<Script, ScriptRefused>
     if bytes.len() as u64 > SCRIPT_BYTES {
         return Err(ScriptRefused::Fault { line: 0, reason: Reason::Size });
     }
-    let mut draft = Draft::make(alloc);
-    read_lines(alloc, &mut draft, bytes)?;
+    let draft = match read_lines(alloc, Draft::make(alloc), bytes) {
+        Ok(draft) => draft,
+        Err(refused) => return Err(refused),
+    };
     if !draft.has_client() {
         return Err(ScriptRefused::Fault { line: 0, reason: Reason::Order });
     }
     Ok(draft.into_script())
 }
 
-fn read_lines(alloc: Global, draft: &mut Draft, bytes: &[u8]) -> Result<(), ScriptRefused>
+fn read_lines(alloc: Global, draft: Draft, bytes: &[u8]) -> Result<Draft, ScriptRefused>
     requires { length bytes.now ≤ SCRIPT_BYTES }
-    ensures { SaysLines (lines_say 1 draft.old (lines_of bytes.now)) result draft.new }
+    ensures { SaysAll (lines_say 1 draft (lines_of bytes.now)) result }
 {
+    let mut draft = draft;
     let mut number = 1;
     let mut left = Some(bytes);
     'lines: while let Some(rest) = left {
         let (line, after) = words::cut_line(rest);
         match lines::read_line(alloc, draft, words::without_return(line)) {
-            Ok(()) => {}
+            Ok(next) => draft = next,
             Err(LineRefused::Faulty(reason)) => {
                 return Err(ScriptRefused::Fault { line: number, reason });
             }
@@ -48,5 +51,5 @@ fn read_lines(alloc: Global, draft: &mut Draft, bytes: &[u8]) -> Result<(), Scri
         number += 1;
         left = after;
     }
-    Ok(())
+    Ok(draft)
 }
