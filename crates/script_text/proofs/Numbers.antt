@@ -3,20 +3,13 @@ use Rattle.std.proofs.Common.{◌≡◌, ℕ, ◌+◌, ◌-◌, ◌<◌, ◌≤�
 use Rattle.std.specs.Char.{is_ascii_digit}
 use Rattle.std.specs.List.{list_all}
 use Rattle.std.specs.Result.{result_ok}
-use Rattle.std.specs.Str.{IsUtf8}
 use Rattle.std.specs.Str.Parse.{ParsesUnsigned, digits_value}
 use Rattle.std.proofs.lemmas.Bool.Decides.{nat_tests}
-use Rattle.std.proofs.lemmas.Fmt.{IsAscii-from_digits}
-use Rattle.std.proofs.lemmas.Str.{IsUtf8-from_ascii}
 use Rattle.std.proofs.lemmas.Str.Parse.{IsNumeralModel, numerals_by_value, parse_digits}
 use Rattle.script_text.specs.Words.{number_of}
 
 own : IsNumeralModel (λ ds. list_all is_ascii_digit ds ≡ true) (digits_value 10)
 own = numerals_by_value _ (search rules)
-
--- digits are text
-pub digits_are_text : (word : List ℕ) → list_all is_ascii_digit word ≡ true → IsUtf8 word
-digits_are_text word digits = IsUtf8-from_ascii word (IsAscii-from_digits word (IsNumeralModel.to own word digits))
 
 -- a number that does not fit is none
 none_fits : (word : List ℕ) (b : Bool) → nat_le (digits_value 10 word) (2 ^ 64 - 1) ≡ b → nat_le 1 (length word) ≡ true → length word ≤ 20 → list_all is_ascii_digit word ≡ true → ((0 < length word) × (digits_value 10 word < 2 ^ 64) → ⊥) → None ≡ number_of word

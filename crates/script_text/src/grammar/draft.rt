@@ -65,12 +65,12 @@ impl Draft {
         }
     }
 
-    pub fn has_image(&self, image: &[u8]) -> bool
+    pub fn has_image(&self, image: &str) -> bool
         ensures { result ≡ has_image image.now self.now }
     {
         self.disks
             .iter()
-            .any(|disk| disk.image.as_str().as_bytes() == image)
+            .any(|disk| disk.image.as_str() == image)
     }
 
     pub fn has_disk_room(&self) -> bool

@@ -13,7 +13,7 @@ use history::{Asked, Kind, Order, Payload, UnitKind};
 use std::alloc::Global;
 use std::str;
 
-#[tactic(auto, unfolding(crate::specs::Script::line_says))]
+#[tactic(auto, using(crate::proofs::Clean::clean_is_text), unfolding(crate::specs::Script::line_says))]
 /// A line of the script.
 pub fn read_line(alloc: Global, draft: Draft, line: &[u8]) -> Result<Draft, LineRefused>
     ensures { Says (line_says draft line.now) result }
@@ -24,18 +24,21 @@ pub fn read_line(alloc: Global, draft: Draft, line: &[u8]) -> Result<Draft, Line
     if !words::is_clean(line) {
         return Err(LineRefused::Faulty(Reason::Form));
     }
-    let words = words::words_of(alloc, line)?;
+    let Ok(text) = str::from_utf8(line) else {
+        return Err(LineRefused::Faulty(Reason::Form));
+    };
+    let words = words::words_of(alloc, text)?;
     words_say(alloc, draft, &words)
 }
 
-#[tactic(auto, unfolding(crate::specs::Script::line_of_words))]
-fn words_say(alloc: Global, draft: Draft, words: &[&[u8]]) -> Result<Draft, LineRefused>
+#[tactic(auto, using(crate::proofs::Clean::words_first, crate::proofs::Clean::no_words), unfolding(crate::specs::Script::line_of_words))]
+fn words_say(alloc: Global, draft: Draft, words: &[&str]) -> Result<Draft, LineRefused>
     ensures { Says (line_of_words draft (map (λ word. word.now) words.now)) result }
 {
     match words {
         [] => Ok(draft),
         [first, rest @ ..] => {
-            if rest.iter().any(|word| words::is_fixed(word)) {
+            if words::has_fixed(rest) {
                 Err(LineRefused::Faulty(Reason::Form))
             } else {
                 kind_of_line(alloc, draft, first, rest)
@@ -48,20 +51,20 @@ fn words_say(alloc: Global, draft: Draft, words: &[&[u8]]) -> Result<Draft, Line
 fn kind_of_line(
     alloc: Global,
     draft: Draft,
-    first: &[u8],
-    rest: &[&[u8]],
+    first: &str,
+    rest: &[&str],
 ) -> Result<Draft, LineRefused>
     ensures { Says (kind_of_line draft first.now (map (λ word. word.now) rest.now)) result }
 {
-    if first == b"disk".as_slice() {
+    if first == "disk" {
         disk_line(alloc, draft, rest)
-    } else if first == b"client".as_slice() {
+    } else if first == "client" {
         client_line(alloc, draft, rest)
-    } else if first == b"write".as_slice() {
+    } else if first == "write" {
         write_line(alloc, draft, rest)
-    } else if first == b"read".as_slice() {
+    } else if first == "read" {
         read_request_line(draft, rest)
-    } else if first == b"wait".as_slice() {
+    } else if first == "wait" {
         wait_line(draft, rest)
     } else {
         Err(LineRefused::Faulty(Reason::Form))
@@ -69,7 +72,7 @@ fn kind_of_line(
 }
 
 #[tactic(auto, unfolding(crate::specs::Script::disk_line))]
-fn disk_line(alloc: Global, draft: Draft, words: &[&[u8]]) -> Result<Draft, LineRefused>
+fn disk_line(alloc: Global, draft: Draft, words: &[&str]) -> Result<Draft, LineRefused>
     ensures { Says (disk_line draft (map (λ word. word.now) words.now)) result }
 {
     let [image, size, workers] = words else {
@@ -88,7 +91,7 @@ fn disk_line(alloc: Global, draft: Draft, words: &[&[u8]]) -> Result<Draft, Line
 fn plan_disk(
     alloc: Global,
     draft: Draft,
-    image: &[u8],
+    image: &str,
     size: u64,
     workers: u64,
 ) -> Result<Draft, LineRefused>
@@ -100,10 +103,7 @@ fn plan_disk(
     if !is_block_size(size) || workers == 0 || workers > WORKERS || !draft.has_disk_room() {
         return Err(LineRefused::Faulty(Reason::Limit));
     }
-    let Ok(text) = str::from_utf8(image) else {
-        return Err(LineRefused::Faulty(Reason::Form));
-    };
-    let image = Name::copy_of(alloc, text)?;
+    let image = Name::copy_of(alloc, image)?;
     Ok(draft.add_disk(alloc, image, size as u32)?)
 }
 
@@ -114,7 +114,7 @@ fn is_block_size(size: u64) -> bool
 }
 
 #[tactic(auto, unfolding(crate::specs::Script::client_line, crate::specs::Script::planned_client))]
-fn client_line(alloc: Global, draft: Draft, words: &[&[u8]]) -> Result<Draft, LineRefused>
+fn client_line(alloc: Global, draft: Draft, words: &[&str]) -> Result<Draft, LineRefused>
     ensures { Says (client_line draft (map (λ word. word.now) words.now)) result }
 {
     if !words.is_empty() {
@@ -130,7 +130,7 @@ fn client_line(alloc: Global, draft: Draft, words: &[&[u8]]) -> Result<Draft, Li
 }
 
 #[tactic(auto, unfolding(crate::specs::Script::write_line))]
-fn write_line(alloc: Global, draft: Draft, words: &[&[u8]]) -> Result<Draft, LineRefused>
+fn write_line(alloc: Global, draft: Draft, words: &[&str]) -> Result<Draft, LineRefused>
     ensures { Says (write_line draft (map (λ word. word.now) words.now)) result }
 {
     let [at, hex] = words else {
@@ -153,7 +153,7 @@ fn write_line(alloc: Global, draft: Draft, words: &[&[u8]]) -> Result<Draft, Lin
 }
 
 #[tactic(auto, unfolding(crate::specs::Script::read_line))]
-fn read_request_line(draft: Draft, words: &[&[u8]]) -> Result<Draft, LineRefused>
+fn read_request_line(draft: Draft, words: &[&str]) -> Result<Draft, LineRefused>
     ensures { Says (read_line draft (map (λ word. word.now) words.now)) result }
 {
     let [at, length] = words else {
@@ -175,7 +175,7 @@ fn read_request_line(draft: Draft, words: &[&[u8]]) -> Result<Draft, LineRefused
 }
 
 #[tactic(auto, unfolding(crate::specs::Script::wait_line))]
-fn wait_line(draft: Draft, words: &[&[u8]]) -> Result<Draft, LineRefused>
+fn wait_line(draft: Draft, words: &[&str]) -> Result<Draft, LineRefused>
     ensures { Says (wait_line draft (map (λ word. word.now) words.now)) result }
 {
     if !words.is_empty() {

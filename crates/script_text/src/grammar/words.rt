@@ -7,7 +7,6 @@ ghost use Rattle.script_text.specs.Words.{words_of, is_comment, is_line_byte, is
 
 use hex::FromHexError;
 use std::alloc::{AllocError, Global};
-use std::str;
 
 #[tactic(auto, using(crate::proofs::Cuts::cut_found, crate::proofs::Cuts::cut_nowhere))]
 /// The bytes before the first line feed, and those behind it where there is one.
@@ -55,38 +54,42 @@ pub fn is_clean(line: &[u8]) -> bool
 }
 
 /// The words of a line. The error is want of memory.
-pub fn words_of<'a>(alloc: Global, line: &'a [u8]) -> Result<Vec<&'a [u8]>, AllocError>
+pub fn words_of<'a>(alloc: Global, line: &'a str) -> Result<Vec<&'a str>, AllocError>
     ensures { IfOk result (λ words. map (λ word. word.now) words.items ≡ words_of line.now) }
 {
-    line.split(|b| *b == b' ')
+    line.split(' ')
         .filter(|word| !word.is_empty())
         .collect(alloc)
 }
 
-/// Whether the word is wrong where it stands.
-pub fn is_fixed(word: &[u8]) -> bool
-    ensures { result ≡ is_fixed word.now }
+/// Whether some word is wrong where it stands.
+pub fn has_fixed(words: &[&str]) -> bool
+    ensures { result ≡ list_any (λ word. is_fixed word.now) words.now }
 {
-    (!word.is_empty() && word[0] == b'@')
-        || word == b"cached".as_slice()
-        || word == b"protected".as_slice()
-        || word == b"part".as_slice()
-        || word == b"on".as_slice()
-        || word == b"off".as_slice()
+    words.iter().any(|word| is_fixed(word))
 }
 
-#[tactic(auto, using(crate::proofs::Numbers::digits_are_text, crate::proofs::Numbers::number_parsed, crate::proofs::Numbers::no_number_long, crate::proofs::Numbers::no_number_other), unfolding(crate::specs::Words::number_of))]
+fn is_fixed(word: &str) -> bool
+    ensures { result ≡ is_fixed word.now }
+{
+    let bytes = word.as_bytes();
+    (!bytes.is_empty() && bytes[0] == b'@')
+        || word == "cached"
+        || word == "protected"
+        || word == "part"
+        || word == "on"
+        || word == "off"
+}
+
+#[tactic(auto, using(crate::proofs::Numbers::number_parsed, crate::proofs::Numbers::no_number_long, crate::proofs::Numbers::no_number_other))]
 /// The number that the word writes in decimal digits.
-pub fn number_of(word: &[u8]) -> Option<u64>
+pub fn number_of(word: &str) -> Option<u64>
     ensures { result ≡ number_of word.now }
 {
-    if word.len() > 20 || !is_digits(word) {
+    if word.len() > 20 || !is_digits(word.as_bytes()) {
         return None;
     }
-    match str::from_utf8(word) {
-        Ok(text) => text.parse::<u64>().ok(),
-        Err(_) => None,
-    }
+    word.parse::<u64>().ok()
 }
 
 fn is_digits(word: &[u8]) -> bool
@@ -97,10 +100,10 @@ fn is_digits(word: &[u8]) -> bool
 
 #[tactic(auto, unfolding(crate::specs::Words::hex_of))]
 /// The bytes that the word writes in hexadecimal digits. The error is want of memory.
-pub fn hex_of(alloc: Global, word: &[u8]) -> Result<Option<Vec<u8>>, AllocError>
+pub fn hex_of(alloc: Global, word: &str) -> Result<Option<Vec<u8>>, AllocError>
     ensures { IfOk result (λ found. option_map (λ bytes. bytes.items) found ≡ hex_of word.now) }
 {
-    if word == b"-".as_slice() {
+    if word == "-" {
         return Ok(Some(Vec::new(alloc)));
     }
     if word.len() < 2 {

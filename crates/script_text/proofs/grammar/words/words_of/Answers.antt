@@ -1,7 +1,7 @@
-use Rattle.std.proofs.Common.{rules, ◌==◌, not, length}
+use Rattle.std.proofs.Common.{rules, lit<, ◌==◌, not, length}
 use Rattle.std.proofs.lemmas.Bool.Decides.{nat_tests}
 use Rattle.std.proofs.lemmas.Iterator.Consumers.{map_from_collect, YieldsList-from_filter}
-use Rattle.std.proofs.lemmas.Iterator.Splits.{YieldsList-from_slice_split}
+use Rattle.std.proofs.lemmas.Iterator.Splits.{YieldsList-from_str_split}
 use Rattle.script_text.specs.Words.{words_of}
 use Rattle.script_text.proofs.grammar.words.words_of.Goals as goal
 
@@ -10,5 +10,5 @@ unfolding words_of
 returns c =
     map_from_collect _ c.collect.ensures.ran
       (YieldsList-from_filter _ (λ word. not (length word == 0))
-        (YieldsList-from_slice_split _ (λ b. b == 32) c.args.line.now (cc) (cc) (cc) (λ x b q k. search (rules, nat_tests)))
+        (YieldsList-from_str_split 32 c.args.line.now (lit< tt) (cc) (cc) (cc))
         c.filter.ensures.closure (λ x b q k. search (rules, nat_tests)))
