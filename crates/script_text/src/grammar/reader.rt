@@ -13,6 +13,7 @@ use crate::grammar::refusal::{LineRefused, Reason, ScriptRefused};
 use crate::grammar::words;
 use std::alloc::Global;
 
+#[tactic(auto, unfolding(crate::specs::Script::script_of, crate::specs::Script::whole_script))]
 /// Reads a script (own profile). It answers the plans that the bytes say, or the first faulty line with its reason, or
 /// want of memory. In this version a script has one disk with one client; one without either is refused at line 0.
 pub fn read_script(alloc: Global, bytes: &[u8]) -> Result<Script, ScriptRefused>
@@ -36,13 +37,13 @@ fn read_lines(alloc: Global, draft: Draft, bytes: &[u8]) -> Result<Draft, Script
     requires { length bytes.now ≤ SCRIPT_BYTES }
     ensures { SaysAll (lines_say 1 draft (lines_of bytes.now)) result }
 {
-    let mut draft = draft;
+    let mut plans = draft;
     let mut number = 1;
     let mut left = Some(bytes);
     'lines: while let Some(rest) = left {
         let (line, after) = words::cut_line(rest);
-        match lines::read_line(alloc, draft, words::without_return(line)) {
-            Ok(next) => draft = next,
+        match lines::read_line(alloc, plans, words::without_return(line)) {
+            Ok(next) => plans = next,
             Err(LineRefused::Faulty(reason)) => {
                 return Err(ScriptRefused::Fault { line: number, reason });
             }
@@ -51,5 +52,5 @@ fn read_lines(alloc: Global, draft: Draft, bytes: &[u8]) -> Result<Draft, Script
         number += 1;
         left = after;
     }
-    Ok(draft)
+    Ok(plans)
 }
