@@ -1,6 +1,7 @@
 pub mod HeldText
 pub mod LineLoops
 pub mod Bodies
+pub mod FitLemmas
 pub mod Reading
 pub mod Clean
 pub mod PlanLemmas

@@ -1,5 +1,5 @@
 -- Reading lines one after another.
-use Rattle.std.proofs.Common.{◌≡◌, ℕ, ◌+◌, List, [], ◌∷◌, map, length, Option, None, Some, Ok, Err, Bor, ◌==◌, refl, ap}
+use Rattle.std.proofs.Common.{◌≡◌, ℕ, ◌+◌, List, [], ◌∷◌, map, length, Option, None, Some, Ok, Err, Bor, ◌==◌, ◌<◌, Result, IfSome, refl, ap, sym, ◌∙◌, arith}
 use Rattle.std.specs.List.{slice_split}
 use Rattle.std.specs.Option.{option_map_or}
 use Rattle.std.specs.Str.Lines.{strip_carriage_return}
@@ -35,3 +35,26 @@ says_fault n plans line more reason is = rw is refl
 pub says_done : (n : ℕ) (plans : List DiskPlan) → lines_say n plans [] ≡ Ok plans
 unfolding lines_say
 says_done n plans = refl
+
+-- a loop goes on behind a line
+pub next_said : (n : ℕ) (plans : List DiskPlan) (left : Option (Bor (List ℕ))) (rest : Bor (List ℕ)) (line stripped : List ℕ) (after : Option (Bor (List ℕ))) (next : List DiskPlan) (whole : Result (List DiskPlan) (ℕ × Reason)) → left ≡ Some rest → slice_split (λ b. b == 10) rest.now ≡ line ∷ option_map_or (λ r. slice_split (λ b. b == 10) r.now) after [] → stripped ≡ strip_carriage_return line → lines_say n plans (left_lines left) ≡ whole → line_says plans stripped ≡ Ok next → lines_say (n + 1) next (left_lines after) ≡ whole
+next_said n plans left rest line stripped after next whole is cut strip said one =
+    let at : lines_say n plans (lines_of rest.now) ≡ whole = rw is at said in
+    let more : lines_say n plans (strip_carriage_return line ∷ left_lines after) ≡ whole = rw (cut_lines rest.now line after cut) at at in
+    sym (says_next n plans (strip_carriage_return line) (left_lines after) next (rw strip at one)) ∙ more
+
+-- a loop stops at a faulty line
+pub fault_said : (n : ℕ) (plans : List DiskPlan) (left : Option (Bor (List ℕ))) (rest : Bor (List ℕ)) (line stripped : List ℕ) (after : Option (Bor (List ℕ))) (reason : Reason) (whole : Result (List DiskPlan) (ℕ × Reason)) → left ≡ Some rest → slice_split (λ b. b == 10) rest.now ≡ line ∷ option_map_or (λ r. slice_split (λ b. b == 10) r.now) after [] → stripped ≡ strip_carriage_return line → lines_say n plans (left_lines left) ≡ whole → line_says plans stripped ≡ Err reason → whole ≡ Err (n, reason)
+fault_said n plans left rest line stripped after reason whole is cut strip said one =
+    let at : lines_say n plans (lines_of rest.now) ≡ whole = rw is at said in
+    let more : lines_say n plans (strip_carriage_return line ∷ left_lines after) ≡ whole = rw (cut_lines rest.now line after cut) at at in
+    sym more ∙ says_fault n plans (strip_carriage_return line) (left_lines after) reason (rw strip at one)
+
+pub all_said : (n : ℕ) (plans : List DiskPlan) (left : Option (Bor (List ℕ))) (whole : Result (List DiskPlan) (ℕ × Reason)) → left ≡ None → lines_say n plans (left_lines left) ≡ whole → whole ≡ Ok plans
+all_said n plans left whole is said =
+    let at : lines_say n plans [] ≡ whole = rw is at said in
+    sym at ∙ says_done n plans
+
+pub left_falls : (left : Option (Bor (List ℕ))) (rest : Bor (List ℕ)) (after : Option (Bor (List ℕ))) → left ≡ Some rest → IfSome after (λ r. length r.now < length rest.now) → left_size after < left_size left
+left_falls left rest None is shorter = rw is (omega arith)
+left_falls left rest (Some r) is shorter = rw is (omega arith)

@@ -13,7 +13,7 @@ use crate::grammar::refusal::{LineRefused, Reason, ScriptRefused};
 use crate::grammar::words;
 use std::alloc::Global;
 
-#[tactic(auto, unfolding(crate::specs::Script::script_of, crate::specs::Script::whole_script))]
+#[tactic(auto, using(crate::proofs::FitLemmas::script_fits), unfolding(crate::specs::Script::script_of, crate::specs::Script::whole_script))]
 /// Reads a script (own profile). It answers the plans that the bytes say, or the first faulty line with its reason, or
 /// want of memory. In this version a script has one disk with one client; one without either is refused at line 0.
 pub fn read_script(alloc: Global, bytes: &[u8]) -> Result<Script, ScriptRefused>
