@@ -13,24 +13,40 @@ use crate::grammar::refusal::{LineRefused, Reason, ScriptRefused};
 use crate::grammar::words;
 use std::alloc::Global;
 
-#[tactic(auto, using(crate::proofs::FitLemmas::script_fits), unfolding(crate::specs::Script::script_of, crate::specs::Script::whole_script))]
+#[tactic(auto, using(crate::proofs::FitLemmas::script_fits))]
 /// Reads a script (own profile). It answers the plans that the bytes say, or the first faulty line with its reason, or
 /// want of memory. In this version a script has one disk with one client; one without either is refused at line 0.
 pub fn read_script(alloc: Global, bytes: &[u8]) -> Result<Script, ScriptRefused>
     ensures reads { Reads result (script_of bytes.now) }
     ensures fit { IfOk result (λ script. AreDisks script.disks) }
 {
+    match read_plans(alloc, bytes) {
+        Ok(draft) => Ok(draft.into_script()),
+        Err(refused) => Err(refused),
+    }
+}
+
+#[tactic(auto, unfolding(crate::specs::Script::script_of, crate::specs::Script::whole_script))]
+fn read_plans(alloc: Global, bytes: &[u8]) -> Result<Draft, ScriptRefused>
+    ensures { SaysAll (script_of bytes.now) result }
+{
     if bytes.len() as u64 > SCRIPT_BYTES {
-        return Err(ScriptRefused::Fault { line: 0, reason: Reason::Size });
+        return Err(ScriptRefused::Fault {
+            line: 0,
+            reason: Reason::Size,
+        });
     }
     let draft = match read_lines(alloc, Draft::make(alloc), bytes) {
         Ok(draft) => draft,
         Err(refused) => return Err(refused),
     };
     if !draft.has_client() {
-        return Err(ScriptRefused::Fault { line: 0, reason: Reason::Order });
+        return Err(ScriptRefused::Fault {
+            line: 0,
+            reason: Reason::Order,
+        });
     }
-    Ok(draft.into_script())
+    Ok(draft)
 }
 
 fn read_lines(alloc: Global, draft: Draft, bytes: &[u8]) -> Result<Draft, ScriptRefused>
