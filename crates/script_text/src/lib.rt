@@ -10,3 +10,6 @@ pub use grammar::reader::read_script;
 pub use grammar::refusal::{Reason, ScriptRefused};
 pub use report::parts::{KeptMedium, ReportFault, TokenLine};
 pub use report::writer::{report_body, report_head};
+
+#[cfg(test)]
+mod tests;

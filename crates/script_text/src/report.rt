@@ -1,7 +1,7 @@
 //! The text of a report.
 
-mod entries;
+pub mod entries;
 pub mod parts;
-mod pieces;
-mod tokens;
+pub mod pieces;
+pub mod tokens;
 pub mod writer;

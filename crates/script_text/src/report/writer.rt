@@ -61,7 +61,7 @@ pub fn report_body<O: Sink>(
     }
 }
 
-fn add_entries<O: Sink>(
+pub fn add_entries<O: Sink>(
     alloc: Global,
     entries: &[Entry],
     held: &mut String,
