@@ -52,7 +52,7 @@ onto_printable : (x : ℕ) (parts : List (List ℕ)) → is_name_byte x ≡ true
 onto_printable x [] is all = (rw is refl, tt)
 onto_printable x (part ∷ parts) is all = (rw is all.0, all.1)
 
-both_true : (a b : Bool) → (a && b) ≡ true → (a ≡ true) × (b ≡ true)
+pub both_true : (a b : Bool) → (a && b) ≡ true → (a ≡ true) × (b ≡ true)
 both_true true b is = (refl, is)
 both_true false b is = absurd (cc)
 
