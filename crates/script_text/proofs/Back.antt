@@ -1,15 +1,14 @@
 -- Numbers, bytes and views, read back from their text.
-use Rattle.std.proofs.Common.{◌≡◌, ℕ, zero, suc, ◌/◌, ◌%◌, ◌+◌, ◌-◌, ◌*◌, ◌^◌, ◌<◌, ◌≤◌, Bool, true, false, not, ◌&&◌, ◌||◌, ◌==◌, nat_le, le-leb, if◌then◌else◌, List, [], ◌∷◌, ◌++◌, length, slice_index, bytes_eq, codes, decimal, Option, None, Some, Ok, Result, refl, ap, sym, ◌∙◌, append_assoc, arith, rules}
+use Rattle.std.proofs.Common.{◌≡◌, ℕ, zero, suc, ◌/◌, ◌%◌, ◌-◌, ◌^◌, ◌<◌, ◌≤◌, Bool, true, false, not, ◌||◌, ◌==◌, le-leb, List, [], ◌∷◌, ◌++◌, length, slice_index, bytes_eq, codes, decimal, Option, None, Some, refl, ap, ◌∙◌, arith}
 use Rattle.std.specs.Char.{is_ascii_digit}
 use Rattle.std.specs.List.{list_all, slice_split, onto_first}
 use Rattle.std.specs.Option.{option_and_then}
-use Rattle.std.specs.Result.{result_ok}
 use Rattle.std.specs.Str.Parse.{digits_value}
 use Rattle.std.proofs.lemmas.Bool.Decides.{nat_tests}
 use Rattle.std.proofs.lemmas.Fmt.{decimal_is_IsNumeral, length-decimal-le}
 use Rattle.std.proofs.lemmas.List.Splits.{slice_split-cons_yes, slice_split-cons_no}
 use Rattle.std.proofs.lemmas.Str.Parse.{IsNumeralModel}
-use Rattle.hex.specs.Hex.{IsBytes, encode_lower, encode_with, lower_digits, decode_of}
+use Rattle.hex.specs.Hex.{IsBytes, encode_lower, encode_with, lower_digits}
 use Rattle.hex.proofs.HexLemmas.{decode_of-encode_lower, length-encode_with}
 use Rattle.history.specs.declared.entry.View.{View}
 use Rattle.script_text.specs.Words.{number_of, hex_of}
@@ -92,11 +91,16 @@ view_of w = view_of_numbers (slice_split is_mark w)
 pub view_back : (v : View) → IsShortView v → view_of (view_text v) ≡ Some v
 unfolding view_of view_text
 view_back v s =
-    rw (cut_word is_mark (decimal v.start) 43 (decimal v.length ++ (64 ∷ (decimal v.media_id ++ (47 ∷ decimal v.index)))) (number_lacks v.start s.start) refl,
-        cut_word is_mark (decimal v.length) 64 (decimal v.media_id ++ (47 ∷ decimal v.index)) (number_lacks v.length s.length) refl,
-        cut_word is_mark (decimal v.media_id) 47 (decimal v.index) (number_lacks v.media_id s.media_id) refl,
-        last_word is_mark (decimal v.index) (number_lacks v.index s.index),
-        number_back v.start s.start, number_back v.length s.length, number_back v.media_id s.media_id, number_back v.index s.index) refl
+    rw (
+      cut_word is_mark (decimal v.start) 43 (decimal v.length ++ (64 ∷ (decimal v.media_id ++ (47 ∷ decimal v.index)))) (number_lacks v.start s.start) refl,
+      cut_word is_mark (decimal v.length) 64 (decimal v.media_id ++ (47 ∷ decimal v.index)) (number_lacks v.length s.length) refl,
+      cut_word is_mark (decimal v.media_id) 47 (decimal v.index) (number_lacks v.media_id s.media_id) refl,
+      last_word is_mark (decimal v.index) (number_lacks v.index s.index),
+      number_back v.start s.start,
+      number_back v.length s.length,
+      number_back v.media_id s.media_id,
+      number_back v.index s.index,
+    ) refl
 
 lacks_both : (p : ℕ → Bool) (a b : List ℕ) → lacks p a ≡ true → lacks p b ≡ true → lacks p (a ++ b) ≡ true
 lacks_both p [] b one two = two
@@ -108,8 +112,8 @@ pub view_lacks : (v : View) → IsShortView v → lacks is_end (view_text v) ≡
 unfolding view_text
 view_lacks v s =
     lacks_both is_end (decimal v.start) _ (decimal_lacks v.start s.start)
-      (lacks_both is_end (decimal v.length) _ (decimal_lacks v.length s.length)
-        (lacks_both is_end (decimal v.media_id) _ (decimal_lacks v.media_id s.media_id) (decimal_lacks v.index s.index)))
+    (lacks_both is_end (decimal v.length) _ (decimal_lacks v.length s.length)
+    (lacks_both is_end (decimal v.media_id) _ (decimal_lacks v.media_id s.media_id) (decimal_lacks v.index s.index)))
 
 -- bytes
 two_or_more : (x y : ℕ) (rest : List ℕ) (b : Bool) → (x == 45) ≡ b → bytes_eq (x ∷ y ∷ rest) (codes "-") ≡ false
@@ -121,8 +125,11 @@ unfolding hex_of hex_text encode_with
 hex_back [] all = refl
 hex_back (b ∷ more) all =
     let long : 2 ≤ length (encode_lower (b ∷ more)) = omega (arith, length-encode_with lower_digits (b ∷ more)) in
-    rw (two_or_more (slice_index lower_digits (b / 16)) (slice_index lower_digits (b % 16)) (encode_with lower_digits more) (slice_index lower_digits (b / 16) == 45) refl,
-        le-leb 2 (length (encode_lower (b ∷ more))) long, decode_of-encode_lower (b ∷ more) all) refl
+    rw (
+      two_or_more (slice_index lower_digits (b / 16)) (slice_index lower_digits (b % 16)) (encode_with lower_digits more) (slice_index lower_digits (b / 16) == 45) refl,
+      le-leb 2 (length (encode_lower (b ∷ more))) long,
+      decode_of-encode_lower (b ∷ more) all,
+    ) refl
 
 glyph_at : (t : List ℕ) (i : ℕ) → lacks is_end t ≡ true → not (is_end (slice_index t i)) ≡ true
 glyph_at [] i none = refl

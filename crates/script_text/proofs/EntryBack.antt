@@ -1,25 +1,23 @@
 -- Entries, read back from their lines.
-use Rattle.std.proofs.Common.{◌≡◌, ℕ, Bool, true, false, not, ◌&&◌, ◌==◌, if◌then◌else◌, List, [], ◌∷◌, ◌++◌, bytes_eq, codes, decimal, Option, None, Some, refl, ap, sym, ◌∙◌, append_assoc}
-use Rattle.std.specs.List.{list_all, slice_split}
+use Rattle.std.proofs.Common.{◌≡◌, ℕ, true, false, if◌then◌else◌, List, [], ◌∷◌, ◌++◌, bytes_eq, codes, decimal, Option, None, Some, refl, ap, sym, ◌∙◌, append_assoc}
+use Rattle.std.specs.List.{slice_split}
 use Rattle.std.specs.Option.{option_and_then}
 use Rattle.efi_status.specs.declared.Status.{Status}
 use Rattle.efi_status.specs.declared.Status.TheVariants.{Success, InvalidParameter, BadBufferSize, DeviceError, WriteProtected, OutOfResources, NoMedia, MediaChanged, Aborted}
 use Rattle.efi_status.specs.StatusTable.{name_of}
-use Rattle.hex.specs.Hex.{IsBytes}
 use Rattle.history.specs.declared.entry.View.{View}
 use Rattle.history.specs.declared.entry.Kind.{Kind}
 use Rattle.history.specs.declared.entry.Kind.TheVariants.{Read, Write, Flush}
 use Rattle.history.specs.declared.entry.UnitKind.{UnitKind}
 use Rattle.history.specs.declared.entry.UnitKind.TheVariants.{Bytes, Blocks}
 use Rattle.history.specs.declared.entry.Asked.{Asked}
-use Rattle.history.specs.declared.entry.Command.{Command}
 use Rattle.history.specs.declared.entry.Command.TheVariants.{Fetch, Store, Put, Get, Sync}
 use Rattle.history.specs.declared.entry.Entry.{Entry}
 use Rattle.history.specs.declared.entry.Entry.TheVariants.{Accept, Refuse, Done, Fault, Collect, Cancel, Reset, Eject, Insert, Protect}
 use Rattle.script_text.specs.Words.{number_of, hex_of}
 use Rattle.script_text.specs.Text.{line_of, hex_text, view_text, asked_text, kind_text, unit_text}
 use Rattle.script_text.specs.Entries.{line_text, entry_words, accepted_words, done_words, failed_words, switch_text}
-use Rattle.script_text.specs.Law.{IsShort, IsShortView, IsShortAsked, AsksWell, IsShortCommand, IsWell, LinesTellEntries}
+use Rattle.script_text.specs.Law.{IsShort, IsShortAsked, AsksWell, IsWell, LinesTellEntries}
 use Rattle.script_text.proofs.Back.{lacks, is_end, cut_word, number_back, decimal_lacks, with_number, view_of, view_back, view_lacks, hex_back, hex_lacks}
 
 -- the words of what was asked
@@ -233,8 +231,8 @@ done_of w words = None
 failed_of : List (List ℕ) → Option Entry
 failed_of (t ∷ w ∷ b ∷ n ∷ d ∷ []) =
     with_number t (λ token. with_number d (λ done. with_number b (λ block. with_number n (λ count.
-      named w (codes "fetch") (Fault token (Fetch block) done) (named w (codes "store") (Fault token (Store block) done)
-      (named w (codes "put") (Fault token (Put block count) done) (named w (codes "get") (Fault token (Get block count) done) (Some (Fault token Sync done)))))))))
+    named w (codes "fetch") (Fault token (Fetch block) done) (named w (codes "store") (Fault token (Store block) done)
+    (named w (codes "put") (Fault token (Put block count) done) (named w (codes "get") (Fault token (Get block count) done) (Some (Fault token Sync done)))))))))
 failed_of words = None
 
 refused_of : List (List ℕ) → Option Entry
@@ -294,8 +292,8 @@ unfolding entry_of spread accept_of refused_of failed_of collect_of cancel_of in
 entry_back place (Accept tag view asked bytes) well = rw (number_back tag well.0, view_back view well.1) (accepted_back asked.kind tag view asked bytes refl well.2 well.3)
 entry_back place (Refuse tag view asked media_id status) well =
     rw (number_back tag well.0, view_back view well.1)
-      (asked_back asked (λ a. with_number (decimal media_id) (λ id. option_and_then (λ s. Some (Refuse tag view a id s)) (status_of (name_of status)))) well.2
-        ∙ rw (number_back media_id well.3, status_back status) refl)
+    (asked_back asked (λ a. with_number (decimal media_id) (λ id. option_and_then (λ s. Some (Refuse tag view a id s)) (status_of (name_of status)))) well.2
+    ∙ rw (number_back media_id well.3, status_back status) refl)
 entry_back place (Done token (Fetch block)) well = rw (number_back token well.0, number_back block well.1) refl
 entry_back place (Done token (Store block)) well = rw (number_back token well.0, number_back block well.1) refl
 entry_back place (Done token (Put block count)) well = rw (number_back token well.0, number_back block well.1.0, number_back count well.1.1) refl
@@ -320,6 +318,6 @@ same_entry e f is = cc
 pub lines_tell_entries : LinesTellEntries
 lines_tell_entries place e f short one two same =
     same_entry e f
-      (sym (entry_back place e one)
-        ∙ ap entry_of (sym (words_told place e short one) ∙ ap (λ t. without_last (slice_split is_end t)) same ∙ words_told place f short two)
-        ∙ entry_back place f two)
+    (sym (entry_back place e one)
+    ∙ ap entry_of (sym (words_told place e short one) ∙ ap (λ t. without_last (slice_split is_end t)) same ∙ words_told place f short two)
+    ∙ entry_back place f two)

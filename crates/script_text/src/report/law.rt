@@ -5,5 +5,4 @@ ghost use Rattle.script_text.specs.Law.{LinesTellEntries};
 #[tactic(auto, using(crate::proofs::EntryBack::lines_tell_entries))]
 pub fn lines_tell_entries()
     ensures { LinesTellEntries }
-{
-}
+{}

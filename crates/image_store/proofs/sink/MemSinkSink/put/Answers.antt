@@ -1,5 +1,4 @@
 use Rattle.std.proofs.Common.{refl, rules}
-use Rattle.std.proofs.lemmas.Grind.{common_steps}
 use Rattle.image_store.specs.Edge.{Appends}
 use Rattle.image_store.proofs.Fronts.{none_put}
 use Rattle.image_store.proofs.sink.MemSinkSink.put.Goals as goal
