@@ -1,6 +1,8 @@
 pub mod HeldText
 pub mod LineLoops
 pub mod Bodies
+pub mod EntryBack
+pub mod Back
 pub mod FitLemmas
 pub mod Reading
 pub mod Clean

@@ -5,6 +5,6 @@ pub mod Fit
 pub mod Text
 pub mod Entries
 pub mod Report
+pub mod Law
 pub mod Held
-pub mod Faults
 pub mod Answers
