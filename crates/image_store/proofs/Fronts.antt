@@ -1,15 +1,8 @@
-<<<<<<< HEAD
 -- Fronts of what is put into a sink or taken out of a source.
 use Rattle.std.proofs.Common.{◌≡◌, ℕ, ◌+◌, ◌-◌, ◌<◌, ◌≤◌, List, [], ◌++◌, length, take, drop, Option, None, Some, refl, ap, sym, arith}
 use Rattle.std.proofs.lemmas.Grind.{common_steps}
 use Rattle.std.proofs.lemmas.List.{append-nil, drop-drop, take-append-drop, take_at, drop_all}
 use Rattle.image_store.specs.Edge.{Appends, AppendsFront, AppendsUpTo, TakesFront}
-=======
--- Fronts of what is put.
-use Rattle.std.proofs.Common.{◌≡◌, ℕ, List, [], Some, refl, ap, sym}
-use Rattle.std.proofs.lemmas.List.{append-nil}
-use Rattle.image_store.specs.Edge.{Appends, AppendsFront}
->>>>>>> b71c0a74a3d55cdfaad85c91a9a10d41e5dd080e
 
 -- nothing was put
 pub none_put : (kept new b : List ℕ) → new ≡ kept → AppendsFront (Some kept) (Some new) b
