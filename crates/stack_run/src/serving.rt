@@ -1,8 +1,8 @@
-ghost use Rattle.std.specs.Prelude.{◌≡◌, ℕ, ◌*◌, ◌^◌, ◌<◌, [], ◌∷◌, true, false, length, Some, IfOk, OnOk, OnErr, IfSome, IsErrOf};
-ghost use Rattle.medium.specs.Counts.{adds};
+ghost use Rattle.std.specs.Prelude.{◌≡◌, ℕ, ◌*◌, ◌^◌, ◌<◌, ◌≤◌, ◌⊎◌, Err, [], ◌∷◌, true, false, length, Some, IfOk, OnOk, OnErr, IfSome, IsErrOf};
+ghost use Rattle.medium.specs.Counts.{adds, Rose};
 ghost use Rattle.medium.specs.Device.{IsFresh};
 ghost use Rattle.image_store.specs.Edge.{HasCauseOf, PutsText};
-ghost use Rattle.image_store.specs.Place.{IsFree, IsTaken, IsTaking, ChangesOnly, put_place};
+ghost use Rattle.image_store.specs.Place.{IsFree, IsTaken, IsTaking, ChangesOnly, MayBeShort, put_place};
 ghost use Rattle.disk_core.specs.State.{setup_of};
 ghost use Rattle.script_text.specs.Fit.{IsDisk, AreOrders};
 ghost use Rattle.script_text.specs.Report.{AreEnds, givens_of};
@@ -55,6 +55,9 @@ fn take_image<I: Images>(alloc: Global, plan: &DiskPlan, images: &mut I) -> Resu
     requires free { IsFree (I.at images.old plan.now.image).place }
     ensures taken { IfOk result (λ medium. IsTaking (I.at images.old plan.now.image).place (I.at images.new plan.now.image).place plan.now.size false (I.M.device medium)) }
     ensures stays { OnErr result ((I.at images.new plan.now.image).place ≡ (I.at images.old plan.now.image).place) }
+    ensures image { IsErrOf result Refusal.Image → Rose (I.at images.old plan.now.image).faults (I.at images.new plan.now.image).faults ⊎ MayBeShort (I.at images.old plan.now.image).place plan.now.size }
+    ensures few { OnErr result ((result ≡ Err Refusal.Image) ⊎ (result ≡ Err Refusal.Memory)) }
+    ensures later { (I.at images.old plan.now.image).faults ≤ (I.at images.new plan.now.image).faults }
     ensures worn { (I.at images.new plan.now.image).worn ≡ (I.at images.old plan.now.image).worn }
     ensures others { ChangesOnly plan.now.image (I.at images.old) (I.at images.new) }
 {
@@ -70,6 +73,7 @@ fn take_image<I: Images>(alloc: Global, plan: &DiskPlan, images: &mut I) -> Resu
 fn put_image<I: Images>(alloc: Global, plan: &DiskPlan, images: &mut I, medium: I::M) -> Result<(), Refusal>
     requires taken { IsTaken (I.at images.old plan.now.image).place }
     ensures place { (I.at images.new plan.now.image).place ≡ put_place (I.at images.old plan.now.image).place (I.M.device medium).kept result }
+    ensures few { OnErr result ((result ≡ Err Refusal.Image) ⊎ (result ≡ Err Refusal.Memory)) }
     ensures cause { HasCauseOf Refusal.Image (I.at images.old plan.now.image).faults (I.at images.new plan.now.image).faults result }
     ensures worn { (I.at images.new plan.now.image).worn ≡ adds (I.at images.old plan.now.image).worn (I.M.device medium).failed }
     ensures others { ChangesOnly plan.now.image (I.at images.old) (I.at images.new) }
@@ -96,6 +100,7 @@ fn write_report<O: Sink>(alloc: Global, plan: &DiskPlan, blocks: u64, run: &Run,
     requires ends { AreEnds plan.now.size run.now.history.entries run.now.ends.items }
     requires fits { blocks * plan.now.size < 2 ^ 64 }
     ensures text { PutsText (O.wrote out.old) (O.wrote out.new) result (disk_report plan.now blocks run.now.history.entries (givens_of run.now.ends.items)) }
+    ensures few { OnErr result ((result ≡ Err Refusal.Sink) ⊎ (result ≡ Err Refusal.Memory)) }
     ensures cause { HasCauseOf Refusal.Sink (O.faults out.old) (O.faults out.new) result }
 {
     let media = match kept_media(alloc, plan, blocks * u64::from(plan.size)) {
@@ -111,5 +116,38 @@ fn write_report<O: Sink>(alloc: Global, plan: &DiskPlan, blocks: u64, run: &Run,
         Ok(()) => Ok(()),
         Err(ReportFault::Failed) => Err(Refusal::Sink),
         Err(ReportFault::Memory) => Err(Refusal::Memory),
+    }
+}
+
+// Runs the client's lines over the disk's image by the plain schedule, puts the image back, and writes the report.
+pub fn serve<I: Images, O: Sink>(
+    alloc: Global,
+    plan: &DiskPlan,
+    client: &ClientPlan,
+    images: &mut I,
+    out: &mut O,
+) -> Result<(), Refusal>
+    requires disk { IsDisk plan.now }
+    requires orders { AreOrders client.now.orders }
+    requires free { IsFree (I.at images.old plan.now.image).place }
+    ensures served { OnOk result (Served plan.now client.now (I.at images.old) (I.at images.new) (O.wrote out.old) (O.wrote out.new)) }
+    ensures image { IsErrOf result Refusal.Image → Rose (I.at images.old plan.now.image).faults (I.at images.new plan.now.image).faults ⊎ MayBeShort (I.at images.old plan.now.image).place plan.now.size }
+    ensures sink { IsErrOf result Refusal.Sink → Rose (O.faults out.old) (O.faults out.new) }
+    ensures few { OnErr result ((result ≡ Err Refusal.Image) ⊎ ((result ≡ Err Refusal.Sink) ⊎ (result ≡ Err Refusal.Memory))) }
+    ensures others { ChangesOnly plan.now.image (I.at images.old) (I.at images.new) }
+{
+    let medium = match take_image(alloc, plan, images) {
+        Ok(medium) => medium,
+        Err(refusal) => return Err(refusal),
+    };
+    let blocks = medium.blocks();
+    let (medium, ran) = run_medium(alloc, medium, client.orders.as_slice());
+    match put_image(alloc, plan, images, medium) {
+        Ok(()) => {}
+        Err(refusal) => return Err(refusal),
+    }
+    match ran {
+        Some(run) => write_report(alloc, plan, blocks, &run, out),
+        None => Err(Refusal::Memory),
     }
 }
