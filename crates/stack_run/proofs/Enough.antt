@@ -1,0 +1,1 @@
+-- The rounds of the plain schedule are enough.
