@@ -1,3 +1,5 @@
 pub mod Collecting
-pub mod Leading
+pub mod Ending
 pub mod Enough
+pub mod Leading
+pub mod Weights
