@@ -3,7 +3,7 @@ use Rattle.std.proofs.Common.{◌≡◌, ◌≢◌, ℕ, zero, suc, ◌+◌, ◌
 use Rattle.std.proofs.Math.Nat.{mul-le-mul_right, lt_of_mul-lt-mul_right, le_of_mul-le-mul_right, div-mul-le_self}
 use Rattle.std.proofs.lemmas.Bool.{or_cases, eqb-true}
 use Rattle.disk_split.specs.declared.span.Span.{Span}
-use Rattle.disk_split.specs.Units.{up, IsUnit, IsKind, IsPart, IsRun}
+use Rattle.disk_split.specs.Units.{up, IsUnit, IsKind, IsPart, IsRun, units_of}
 use Rattle.medium.specs.Device.{Device, IsShaped, IsTransfer, is_block_size}
 use Rattle.history.specs.declared.entry.Kind.{Kind}
 use Rattle.history.specs.Setup.{Setup, blocks_of}
@@ -13,6 +13,9 @@ use Rattle.disk_core.specs.declared.record.Core.{Core}
 use Rattle.disk_core.specs.State.{setup_of}
 use Rattle.disk_core.specs.Sound.{IsSound, Tracks}
 use Rattle.disk_core.specs.Stepping.{NextUnit, UnitLies}
+use Rattle.disk_core.specs.Submitting.{LieOn}
+use Rattle.disk_split.proofs.Shared.{are-get}
+use Rattle.disk_split.proofs.Units.{units-are}
 use Rattle.disk_core.proofs.Followed.{size-of}
 use Rattle.disk_core.proofs.May.{IsNext, part-of, run-of}
 use Rattle.disk_core.proofs.Pieces.{run-low, run-high}
@@ -20,7 +23,7 @@ use Rattle.disk_core.proofs.Places.{inside-some}
 use Rattle.disk_core.proofs.Tracked.{HasUnit, has-unit}
 
 -- the sizes of blocks
-sizes-bounds : (size : ℕ) → is_block_size size ≡ true → (512 ≤ size) × (size ≤ 4096)
+pub sizes-bounds : (size : ℕ) → is_block_size size ≡ true → (512 ≤ size) × (size ≤ 4096)
 sizes-bounds size one = by (cases_or (nat_eq size 512) _ one)
   where
   cases_or : (a b : Bool) → (a || b) ≡ true → (a ≡ true) ⊎ (b ≡ true)
@@ -43,7 +46,7 @@ kind-count : (size a z : ℕ) (w : Bool) (b n : ℕ) → IsKind size a z w b n �
 kind-count size a z false b n (part, one) = (omega arith, omega arith)
 kind-count size a z true b n run = (omega arith, omega arith)
 
-kind-within : (size a z blocks : ℕ) (w : Bool) (b n : ℕ) → 0 < size → z ≤ blocks * size → IsKind size a z w b n → b + n ≤ blocks
+pub kind-within : (size a z blocks : ℕ) (w : Bool) (b n : ℕ) → 0 < size → z ≤ blocks * size → IsKind size a z w b n → b + n ≤ blocks
 kind-within size a z blocks false b n some within (part, one) =
     let less : b * size < blocks * size = omega (arith, part.some) in
     let below : b < blocks = lt_of_mul-lt-mul_right size less in
@@ -115,3 +118,9 @@ pub lies-of : (S : Setup) (d : Device) (prepared : ℕ → Type 0) (c : Core) (r
 lies-of S d prepared c r u kind shaped sound next =
     let (q, is) = next-of S d prepared c r u kind shaped sound next in
     unit-facts S d prepared c r q u shaped sound is
+
+-- the units of a range on a medium are on it
+pub lie-on : (size a z blocks : ℕ) → 0 < size → z ≤ blocks * size → LieOn blocks (units_of size a z)
+lie-on size a z blocks some within k u is =
+    let unit : IsUnit size a z u = are-get size a z (units_of size a z) k u (units-are size a z some) is in
+    kind-within size a z blocks u.whole u.block u.count some within unit.kind

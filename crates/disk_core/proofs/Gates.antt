@@ -40,7 +40,7 @@ holds-before S H e t b same silent holds = record {
   }
 
 -- a token that is open after an entry was open before it
-open-before : (size : ℕ) (H : List Entry) (e : Entry) (t : ℕ) → mark_of size (e ∷ H) t ≡ None → mark_of size H t ≡ None
+pub open-before : (size : ℕ) (H : List Entry) (e : Entry) (t : ℕ) → mark_of size (e ∷ H) t ≡ None → mark_of size H t ≡ None
 open-before size H e t unmarked = by (mark_of size H t) refl
   where
   by : (m : Option Status) → mark_of size H t ≡ m → mark_of size H t ≡ None

@@ -57,20 +57,20 @@ pub record Becomes (r r' : Record) : Type 0 where
   pub kind : r'.kind ≡ r.kind
   pub unended : r'.status ≡ None → r.status ≡ None
 
--- what a step leaves
-pub record Leaves (S : Setup) (d d' : Device) (c c' : Core) (e : Entry) (r r' : Record) (q : Request) : Type 0 where
-  pub was : slice_get c.records.items c.first ≡ Some r
+-- what an entry of token t leaves
+pub record Leaves (S : Setup) (d d' : Device) (c c' : Core) (e : Entry) (t : ℕ) (r r' : Record) (q : Request) : Type 0 where
+  pub was : slice_get c.records.items t ≡ Some r
   pub entries : c'.history.entries ≡ e ∷ c.history.entries
   pub spare : c'.history.spare + 1 ≡ c.history.spare
-  pub records : c'.records.items ≡ set c.records.items c.first r'
+  pub records : c'.records.items ≡ set c.records.items t r'
   pub first : c'.first ≡ c.first
   pub block : length c'.block.items ≡ S.size
-  pub own : IsOwn S c.history.entries e c.first
+  pub own : IsOwn S c.history.entries e t
   pub may : MayFollow S c.history.entries e
   pub meets : Meets S (e ∷ c.history.entries) d'
-  pub tracks : Tracks S (e ∷ c.history.entries) c.first r' q
+  pub tracks : Tracks S (e ∷ c.history.entries) t r' q
   pub gate : IsGate S (e ∷ c.history.entries) c'.records.items c.first c'.block.items c'.held
-  pub owed : token_owed S.size (e ∷ c.history.entries) c.first + 1 ≤ token_owed S.size c.history.entries c.first
+  pub owed : token_owed S.size (e ∷ c.history.entries) t + 1 ≤ token_owed S.size c.history.entries t
   pub becomes : Becomes r r'
 
 legal-more : (S : Setup) (H : List Entry) (e : Entry) → IsLegal S H → MayFollow S H e → IsLegal S (e ∷ H)
@@ -108,24 +108,38 @@ ready-after S prepared prepared' records t r r' stay was becomes ready u k b x v
   some-is : (a b : Record) → Some a ≡ Some b → a ≡ b
   some-is a b e = cc
 
+prior-after : (records : List Record) (first t : ℕ) (r r' : Record) → slice_get records t ≡ Some r → Becomes r r' → ((u : ℕ) (x : Record) → u < first → slice_get records u ≡ Some x → x.status ≢ None)
+    → (u : ℕ) (x : Record) → u < first → slice_get (set records t r') u ≡ Some x → x.status ≢ None
+prior-after records first t r r' was becomes prior u x lt is unended =
+    elim (cases_eq t u) [
+      inl same ↦
+        let here : slice_get (set records t r') t ≡ Some x = rw (sym same) at is in
+        let one : r' ≡ x = some-is r' x (sym (get-set-same records t r r' was) ∙ here) in
+        prior t r (rw (sym same) at lt) was (becomes.unended (ap (λ (y : Record). y.status) one ∙ unended))
+    | inr other ↦ prior u x lt (sym (get-set-other records t u r' other) ∙ is) unended
+    ]
+  where
+  some-is : (a b : Record) → Some a ≡ Some b → a ≡ b
+  some-is a b e = cc
+
 -- the disk is sound after the entry
-pub sound-after : (S : Setup) (d d' : Device) (prepared prepared' : ℕ → Type 0) (c c' : Core) (e : Entry) (r r' : Record) (q : Request) → IsSound S d prepared c → StayPrepared prepared prepared' → Leaves S d d' c c' e r r' q → IsSound S d' prepared' c'
-sound-after S d d' prepared prepared' c c' e r r' q sound stay leaves =
+pub sound-after : (S : Setup) (d d' : Device) (prepared prepared' : ℕ → Type 0) (c c' : Core) (e : Entry) (t : ℕ) (r r' : Record) (q : Request) → IsSound S d prepared c → StayPrepared prepared prepared' → Leaves S d d' c c' e t r r' q → IsSound S d' prepared' c'
+sound-after S d d' prepared prepared' c c' e t r r' q sound stay leaves =
     let H = c.history.entries in
-    let token : c.first < accepted H = rw (sym sound.count) (inside-some c.records.items c.first r leaves.was) in
-    let falls : owed_entries S (e ∷ H) + 1 ≤ owed_entries S H = owed-falls S H e c.first leaves.own token leaves.owed in
+    let token : t < accepted H = rw (sym sound.count) (inside-some c.records.items t r leaves.was) in
+    let falls : owed_entries S (e ∷ H) + 1 ≤ owed_entries S H = owed-falls S H e t leaves.own token leaves.owed in
     let long : length (e ∷ H) ≡ suc (length H) = refl in
     record {
       legal = rw leaves.entries (legal-more S H e sound.legal leaves.may);
-      plain = rw leaves.entries (plain-own S H e c.first leaves.own sound.plain);
+      plain = rw leaves.entries (plain-own S H e t leaves.own sound.plain);
       meets = rw leaves.entries leaves.meets;
-      count = rw (leaves.entries, leaves.records) (length-set-here c.records.items c.first r' ∙ (sound.count ∙ sym leaves.own.same_accepted));
-      tracked = rw (leaves.entries, leaves.records) (tracked-after S H e c.records.items c.first r r' q leaves.own leaves.was leaves.tracks sound.tracked);
-      prior = λ u x lt is. sound.prior u x (rw leaves.first at lt) (sym (get-set-other c.records.items c.first u r' (λ same. absurd (omega (arith, leaves.first)))) ∙ (rw leaves.records at is));
-      bound = rw (leaves.first, leaves.records) (rw (length-set-here c.records.items c.first r') sound.bound);
+      count = rw (leaves.entries, leaves.records) (length-set-here c.records.items t r' ∙ (sound.count ∙ sym leaves.own.same_accepted));
+      tracked = rw (leaves.entries, leaves.records) (tracked-after S H e c.records.items t r r' q leaves.own leaves.was leaves.tracks sound.tracked);
+      prior = λ u x lt is. prior-after c.records.items c.first t r r' leaves.was leaves.becomes sound.prior u x (rw leaves.first at lt) (rw leaves.records at is);
+      bound = rw (leaves.first, leaves.records) (rw (length-set-here c.records.items t r') sound.bound);
       block = leaves.block;
       gate = rw (leaves.entries, leaves.first) leaves.gate;
-      ready = rw leaves.records (ready-after S prepared prepared' c.records.items c.first r r' stay leaves.was leaves.becomes sound.ready);
+      ready = rw leaves.records (ready-after S prepared prepared' c.records.items t r r' stay leaves.was leaves.becomes sound.ready);
       few = rw leaves.entries (omega (arith, sound.few, leaves.spare));
       room = rw leaves.entries (omega (arith, sound.room, leaves.spare));
     }

@@ -177,7 +177,7 @@ fetch-done S d d' prepared prepared' c c' r u block block' shaped sound stay nex
       let after : Tracks S (Done c.first (Fetch u.block) ∷ H) c.first r q = tracks-fetch S H c.first u.block r q u is.tracks is.unended is.has in
       let same : contents S 1 (Done c.first (Fetch u.block) ∷ H) ≡ contents S 1 H = contents-same S H (Done c.first (Fetch u.block)) sound.plain.inserts (fetch-silent S.size H c.first u.block) in
       let told : AreToldAt (contents S 1 (Done c.first (Fetch u.block) ∷ H)) (u.block * S.size) block' = rw (same, sym sound.meets.now, sym (size-of S d sound.meets.setup)) read.given in
-      let leaves : Leaves S d d' c c' (Done c.first (Fetch u.block)) r r q = record {
+      let leaves : Leaves S d d' c c' (Done c.first (Fetch u.block)) c.first r r q = record {
         was = next.is;
         entries = ends.entries;
         spare = ends.spare;
@@ -195,7 +195,7 @@ fetch-done S d d' prepared prepared' c c' r u block block' shaped sound stay nex
         becomes = record { units = refl; kind = refl; unended = λ _. is.unended };
       } in
       record {
-        sound = sound-after S d d' prepared prepared' c c' (Done c.first (Fetch u.block)) r r q sound stay leaves;
+        sound = sound-after S d d' prepared prepared' c c' (Done c.first (Fetch u.block)) c.first r r q sound stay leaves;
         steps = record {
           turn = record { token = c.first; command = Fetch u.block };
           outcome = Made;

@@ -1,8 +1,11 @@
 -- What becomes of a record at the end of a command (own profile).
-use Rattle.std.specs.Prelude.{◌≡◌, ℕ, ◌+◌, Bool, nat_eq, if◌then◌else◌, Option, Some, length}
+use Rattle.std.specs.Prelude.{◌≡◌, ℕ, ◌+◌, Bool, true, nat_eq, if◌then◌else◌, List, [], ◌∷◌, set, Option, Some, length}
 use Rattle.efi_status.specs.declared.Status.{Status}
 use Rattle.efi_status.specs.declared.Status.TheVariants.{Success, DeviceError}
+use Rattle.history.specs.declared.entry.Entry.{Entry}
+use Rattle.history.specs.declared.entry.Entry.TheVariants.{Collect}
 use Rattle.disk_core.specs.declared.record.Record.{Record}
+use Rattle.disk_core.specs.declared.record.Core.{Core}
 
 -- one more unit is finished; the last one ends the request with success
 abbrev pub finished_record : Record → Record
@@ -14,3 +17,19 @@ finished_record r = record r {
 -- a failed command ends the request
 abbrev pub failed_record : Record → Record
 failed_record r = record r { status = Some DeviceError }
+
+-- the record of token t is handed back with an entry
+pub record HandsBack (c c' : Core) (tag t : ℕ) (r r' : Record) : Type 0 where
+  pub entries : c'.history.entries ≡ Collect tag t ∷ c.history.entries
+  pub spare : c'.history.spare + 1 ≡ c.history.spare
+  pub records : c'.records.items ≡ set c.records.items t r'
+  pub first : c'.first ≡ c.first
+  pub block : c'.block ≡ c.block
+  pub held : c'.held ≡ c.held
+  pub kind : r'.kind ≡ r.kind
+  pub from : r'.from ≡ r.from
+  pub units : r'.units ≡ r.units
+  pub finished : r'.finished ≡ r.finished
+  pub status : r'.status ≡ r.status
+  pub collected : r'.collected ≡ true
+  pub emptied : r'.buffer.items ≡ []

@@ -54,33 +54,36 @@ pub record Adds (old new : State) (e : Entry) : Type 0 where
   pub entries : new.entries ≡ e ∷ old.entries
   pub legal : IsLegal new.setup new.entries
 
-pub record Accepts (old : State) (tag : ℕ) (view : View) (media_id : ℕ) (ask : Ask) (token : ℕ) (new : State) : Type 0 where
-  pub adds : Adds old new (Accept tag view (asked_of ask) (bytes_of ask))
-  pub unrefused : refusal_of old.setup old.entries view (asked_of ask) media_id ≡ None
+pub record Accepts (old : State) (tag : ℕ) (view : View) (media_id : ℕ) (asked : Asked) (bytes buffer : List ℕ) (token : ℕ) (new : State) : Type 0 where
+  pub adds : Adds old new (Accept tag view asked bytes)
+  pub unrefused : refusal_of old.setup old.entries view asked media_id ≡ None
   pub numbered : token ≡ accepted old.entries
-  pub buffers : new.buffers ≡ old.buffers ++ (buffer_of ask ∷ [])
+  pub buffers : new.buffers ≡ old.buffers ++ (buffer ∷ [])
   pub faults : new.faults ≡ old.faults
 
-pub record Refuses (old : State) (tag : ℕ) (view : View) (media_id : ℕ) (ask : Ask) (status : Status) (buffer : List ℕ) (new : State) : Type 0 where
-  pub adds : Adds old new (Refuse tag view (asked_of ask) media_id status)
-  pub refused : refusal_of old.setup old.entries view (asked_of ask) media_id ≡ Some status
-  pub handed_back : buffer ≡ buffer_of ask
+pub record Refuses (old : State) (tag : ℕ) (view : View) (media_id : ℕ) (asked : Asked) (status : Status) (buffer handed : List ℕ) (new : State) : Type 0 where
+  pub adds : Adds old new (Refuse tag view asked media_id status)
+  pub refused : refusal_of old.setup old.entries view asked media_id ≡ Some status
+  pub handed_back : handed ≡ buffer
   pub buffers : new.buffers ≡ old.buffers
   pub faults : new.faults ≡ old.faults
 
 -- want of memory changes nothing
-pub record Forgets (old : State) (ask : Ask) (buffer : List ℕ) (new : State) : Type 0 where
+pub record Forgets (old : State) (buffer handed : List ℕ) (new : State) : Type 0 where
   pub same : new ≡ old
-  pub handed_back : buffer ≡ buffer_of ask
+  pub handed_back : handed ≡ buffer
 
-abbrev pub RefusesFor : State → ℕ → View → ℕ → Ask → Why → List ℕ → State → Type 0
-RefusesFor old tag view media_id ask (why.Status status) buffer new = Refuses old tag view media_id ask status buffer new
-RefusesFor old tag view media_id ask why.Memory buffer new = Forgets old ask buffer new
+abbrev pub RefusesFor : State → ℕ → View → ℕ → Asked → List ℕ → Why → List ℕ → State → Type 0
+RefusesFor old tag view media_id asked buffer (why.Status status) handed new = Refuses old tag view media_id asked status buffer handed new
+RefusesFor old tag view media_id asked buffer why.Memory handed new = Forgets old buffer handed new
 
 -- a request is accepted, refused with the status that the rules give, or forgotten for want of memory
+abbrev pub SubmitsAsked : State → ℕ → View → ℕ → Asked → List ℕ → List ℕ → Result Token Refused → State → Type 0
+SubmitsAsked old tag view media_id asked bytes buffer (Ok token) new = Accepts old tag view media_id asked bytes buffer token.number new
+SubmitsAsked old tag view media_id asked bytes buffer (Err refused) new = RefusesFor old tag view media_id asked buffer refused.why refused.buffer.items new
+
 abbrev pub Submits : State → ℕ → View → ℕ → Ask → Result Token Refused → State → Type 0
-Submits old tag view media_id ask (Ok token) new = Accepts old tag view media_id ask token.number new
-Submits old tag view media_id ask (Err refused) new = RefusesFor old tag view media_id ask refused.why refused.buffer.items new
+Submits old tag view media_id ask result new = SubmitsAsked old tag view media_id (asked_of ask) (bytes_of ask) (buffer_of ask) result new
 
 -- a get puts what the medium holds into its token's buffer, and nothing else changes
 pub record Gets (S : Setup) (H : List Entry) (t b n : ℕ) (old new : List (List ℕ)) (q : Request) : Type 0 where

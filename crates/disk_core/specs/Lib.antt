@@ -4,3 +4,4 @@ pub mod Moving
 pub mod Sound
 pub mod State
 pub mod Stepping
+pub mod Submitting

@@ -8,6 +8,7 @@ use Rattle.history.specs.Setup.{Setup}
 use Rattle.disk_core.specs.declared.answers.Step.{Step}
 use Rattle.disk_core.specs.declared.record.Record.{Record}
 use Rattle.disk_core.specs.declared.record.Core.{Core}
+use Rattle.disk_core.specs.State.{State, setup_of}
 use Rattle.disk_core.specs.Sound.{IsSound}
 use Rattle.disk_core.specs.Calls.{StepsTo}
 
@@ -53,3 +54,7 @@ buffers_of records = map (λ r. r.buffer.items) records
 pub record Stepped (S : Setup) (d d' : Device) (prepared' : ℕ → Type 0) (c c' : Core) (answer : Step) : Type 0 where
   pub sound : IsSound S d' prepared' c'
   pub steps : StepsTo S c.history.entries c'.history.entries (buffers_of c.records.items) (buffers_of c'.records.items) d.faults d'.faults answer
+
+-- the disk as its callers see it
+abbrev pub state_of : Device → Core → State
+state_of d c = record { setup = setup_of d; entries = c.history.entries; buffers = buffers_of c.records.items; faults = d.faults }

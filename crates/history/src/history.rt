@@ -44,6 +44,7 @@ impl History {
         ensures entries { self.new.entries ≡ self.old.entries }
         ensures spare { OnOk result (self.new.spare ≡ max self.old.spare places) }
         ensures err { OnErr result (self.new.spare ≡ self.old.spare) }
+        ensures bound { length self.new.entries + self.new.spare < 2 ^ 63 }
     {
         if places <= self.spare {
             return Ok(());

@@ -14,7 +14,7 @@ unfolding first_from
 first-same f g a zero same = refl
 first-same f g a (suc n) same = rw (same a, first-same f g (a + 1) n same)
 
-open-collect : (size : ℕ) (H : List Entry) (tag t : ℕ) → first_open size (Collect tag t ∷ H) ≡ first_open size H
+pub open-collect : (size : ℕ) (H : List Entry) (tag t : ℕ) → first_open size (Collect tag t ∷ H) ≡ first_open size H
 unfolding first_open accepted mark_of ending
 open-collect size H tag t = first-same (is_open size (Collect tag t ∷ H)) (is_open size H) 0 (accepted H) (λ u. ap is_none (or_else-none (mark_of size H u)))
 

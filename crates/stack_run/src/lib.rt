@@ -1,10 +1,7 @@
 //! What a script does to its disks.
 #![tactic(auto)]
 
-/// A placeholder.
-pub fn one() -> u8
-    ensures { result ≡ 1 }
-{
-    1
-}
-ghost use Rattle.std.specs.Prelude.{◌≡◌};
+mod kept_tokens;
+mod plain_run;
+
+pub use plain_run::run_lines;

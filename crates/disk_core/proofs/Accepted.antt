@@ -1,0 +1,139 @@
+-- A disk that accepts a request.
+use Rattle.std.proofs.Common.{◌≡◌, ◌≢◌, ℕ, zero, suc, ◌+◌, ◌-◌, ◌*◌, ◌^◌, ◌<◌, ◌≤◌, ◌⊎◌, inl, inr, Bool, true, false, not, ◌&&◌, ◌||◌, List, [], ◌∷◌, ◌++◌, slice_get, length, map, Option, None, Some, refl, sym, ◌∙◌, ap, arith, nat_eq, nat_lt, if◌then◌else◌, length-append}
+use Rattle.std.proofs.lemmas.Bool.{cases_eq, cases_lt, cases_order, eq-eqb, ne_eqb, le-ltb, lt-ltb, ltb-false, eqb-true, and_parts, or_parts}
+use Rattle.efi_status.specs.declared.Status.{Status}
+use Rattle.efi_status.specs.declared.Status.TheVariants.{Success, InvalidParameter, MediaChanged, WriteProtected}
+use Rattle.disk_split.specs.declared.span.Span.{Span}
+use Rattle.disk_split.specs.Units.{Tile, units_of}
+use Rattle.disk_split.proofs.Tiling.{tile-units}
+use Rattle.medium.specs.Device.{Device, StayPrepared, AreToldAt}
+use Rattle.history.specs.declared.entry.View.{View}
+use Rattle.history.specs.declared.entry.Asked.{Asked}
+use Rattle.history.specs.declared.entry.Kind.{Kind}
+use Rattle.history.specs.declared.entry.Kind.TheVariants.{Read, Write, Flush}
+use Rattle.history.specs.declared.entry.UnitKind.TheVariants.{Bytes}
+use Rattle.history.specs.declared.entry.Entry.{Entry}
+use Rattle.history.specs.declared.entry.Entry.TheVariants.{Accept}
+use Rattle.history.specs.Setup.{Setup, blocks_of}
+use Rattle.history.specs.Eras.{ejects, inserts, is_protected, is_present, media_id_of}
+use Rattle.history.specs.Tokens.{Request, accepted, request, was_collected, is_flush, is_write, from_of, until_of}
+use Rattle.history.specs.Contents.{contents, bytes_read}
+use Rattle.history.specs.Marks.{mark_of, ending, or_else, status_if, is_moved, is_complete, all_from, was_fetched, was_stored, Holds}
+use Rattle.history.specs.Rules.{IsLegal, MayFollow, MayAccept, IsPayload, refusal_of, range_refusal, is_outside}
+use Rattle.history.specs.Room.{owed_entries, token_owed, tokens_owed, media_owed, owed_by, commands_owed, spans_owed}
+use Rattle.disk_core.specs.declared.record.Record.{Record}
+use Rattle.disk_core.specs.declared.record.Core.{Core}
+use Rattle.disk_core.specs.State.{setup_of, Meets, AreGiven}
+use Rattle.disk_core.specs.Sound.{IsSound, IsPlain, IsGate, AreReady, Tracks, low_or}
+use Rattle.disk_core.specs.Submitting.{plain_refusal, is_beyond, cost_of, payload_of, AreReadyFor, IsMoving}
+use Rattle.disk_core.proofs.Born.{IsUnborn, unborn}
+use Rattle.disk_core.proofs.Costs.{spans-few}
+use Rattle.disk_core.proofs.Gates.{open-before}
+use Rattle.disk_core.proofs.Moved.{all_from-false}
+use Rattle.disk_core.proofs.Owed.{tokens-same}
+use Rattle.disk_core.proofs.Places.{inside-some}
+use Rattle.disk_core.proofs.Quiet.{accept-quiet, meets-quiet, plain-quiet, quiet-contents}
+use Rattle.disk_core.proofs.Silence.{IsSilent, accept-silent}
+use Rattle.disk_core.proofs.Tracked.{tracks-silent}
+
+-- where medium 1 is in and not protected, a request for bytes is refused by its medium id and its range
+pub refusal-is : (S : Setup) (H : List Entry) (view : View) (media_id : ℕ) (asked : Asked) → IsPlain S H → is_flush asked.kind ≡ false → asked.unit ≡ Bytes
+    → refusal_of S H view asked media_id ≡ plain_refusal (blocks_of S 1 * S.size) view media_id asked.at asked.length
+unfolding refusal_of
+refusal-is S H view media_id asked plain moving bytes =
+    rw (plain.ejects, plain.inserts, plain.unprotected, moving, bytes) (by (is_write asked.kind))
+  where
+  by : (w : Bool)
+    → (if not (nat_eq media_id 1 && nat_eq view.media_id 1) then Some MediaChanged else (if w && false then Some WriteProtected else (if is_beyond (blocks_of S 1 * S.size) view asked.at asked.length then Some InvalidParameter else None)))
+    ≡ plain_refusal (blocks_of S 1 * S.size) view media_id asked.at asked.length
+  by true = refl
+  by false = refl
+
+-- an accepted request names medium 1 twice, and lies in its view, which lies on the medium
+pub record IsWithin (total : ℕ) (view : View) (media_id at n : ℕ) : Type 0 where
+  pub given : media_id ≡ 1
+  pub view_is : view.media_id ≡ 1
+  pub beyond : is_beyond total view at n ≡ false
+
+within-by : (total : ℕ) (view : View) (media_id at n : ℕ) (ids beyond : Bool) → (nat_eq media_id 1 && nat_eq view.media_id 1) ≡ ids → is_beyond total view at n ≡ beyond
+    → (if not ids then Some MediaChanged else (if beyond then Some InvalidParameter else None)) ≡ None → IsWithin total view media_id at n
+within-by total view media_id at n true false ids beyond none =
+    let parts : (nat_eq media_id 1 ≡ true) × (nat_eq view.media_id 1 ≡ true) = and_parts (nat_eq media_id 1) (nat_eq view.media_id 1) ids in
+    record { given = eqb-true media_id 1 parts.0; view_is = eqb-true view.media_id 1 parts.1; beyond = beyond }
+within-by total view media_id at n true true ids beyond none = absurd (clash none)
+  where
+  clash : Some InvalidParameter ≡ None → ⊥
+  clash e = cc
+within-by total view media_id at n false beyond ids is none = absurd (clash none)
+  where
+  clash : Some MediaChanged ≡ None → ⊥
+  clash e = cc
+
+pub within : (total : ℕ) (view : View) (media_id at n : ℕ) → plain_refusal total view media_id at n ≡ None → IsWithin total view media_id at n
+within total view media_id at n none =
+    within-by total view media_id at n (nat_eq media_id 1 && nat_eq view.media_id 1) (is_beyond total view at n) refl refl none
+
+pub within-range : (total : ℕ) (view : View) (media_id at n : ℕ) → IsWithin total view media_id at n → view.start + at + n ≤ total
+within-range total view media_id at n is =
+    let first : ((nat_lt total (view.start + view.length) || nat_lt view.length at) ≡ false) × (nat_lt (view.length - at) n ≡ false) = or_parts _ _ is.beyond in
+    let second : (nat_lt total (view.start + view.length) ≡ false) × (nat_lt view.length at ≡ false) = or_parts _ _ first.0 in
+    omega (arith, ltb-false total (view.start + view.length) second.0, ltb-false view.length at second.1, ltb-false (view.length - at) n first.1)
+
+-- the medium id of the view does as well as the one given
+pub view-refusal : (S : Setup) (H : List Entry) (view : View) (media_id : ℕ) (asked : Asked) → IsPlain S H → is_flush asked.kind ≡ false → asked.unit ≡ Bytes
+    → IsWithin (blocks_of S 1 * S.size) view media_id asked.at asked.length → refusal_of S H view asked view.media_id ≡ None
+view-refusal S H view media_id asked plain moving bytes is =
+    refusal-is S H view view.media_id asked plain moving bytes ∙ (rw (is.view_is, is.beyond) refl)
+
+pub last-or : (records : List Record) (r x : Record) (t : ℕ) → slice_get (records ++ (r ∷ [])) t ≡ Some x → (slice_get records t ≡ Some x) ⊎ ((t ≡ length records) × (x ≡ r))
+last-or [] r x zero is = let same : r ≡ x = cc in inr (refl, sym same)
+last-or [] r x (suc t) is = cc
+last-or (y ∷ records) r x zero is = inl is
+last-or (y ∷ records) r x (suc t) is = elim (last-or records r x t is) [
+    inl before ↦ inl before
+  | inr (same, one) ↦ inr (ap suc same, one)
+  ]
+
+pub before-last : (records : List Record) (r x : Record) (t : ℕ) → slice_get records t ≡ Some x → slice_get (records ++ (r ∷ [])) t ≡ Some x
+before-last [] r x t is = cc
+before-last (y ∷ records) r x zero is = is
+before-last (y ∷ records) r x (suc t) is = before-last records r x t is
+
+-- what a new record has
+pub record IsNew (S : Setup) (asked : Asked) (view : View) (buffer : List ℕ) (r : Record) : Type 0 where
+  pub kind : r.kind ≡ asked.kind
+  pub from : r.from ≡ view.start + asked.at
+  pub units : r.units.items ≡ units_of S.size (view.start + asked.at) (view.start + asked.at + length buffer)
+  pub finished : r.finished ≡ 0
+  pub status : r.status ≡ (if nat_eq (length buffer) 0 then Some Success else None)
+  pub collected : r.collected ≡ false
+  pub bytes : r.buffer.items ≡ buffer
+
+pub request-new : (H : List Entry) (tag : ℕ) (view : View) (asked : Asked) (bytes : List ℕ) → request (Accept tag view asked bytes ∷ H) (accepted H) ≡ Some (record { tag = tag; view = view; asked = asked; bytes = bytes })
+unfolding request
+request-new H tag view asked bytes = rw (eq-eqb (accepted H) (accepted H) refl)
+
+same-marks : (S : Setup) (H : List Entry) (tag : ℕ) (view : View) (asked : Asked) (bytes : List ℕ) (x : ℕ) → is_moved S.size (Accept tag view asked bytes ∷ H) (accepted H) x ≡ is_moved S.size H (accepted H) x
+unfolding is_moved
+same-marks S H tag view asked bytes x = refl
+
+empty : (test : ℕ → Bool) (a : ℕ) → status_if (all_from test a 0) Success ≡ Some Success
+unfolding all_from
+empty test a = refl
+
+pub mark-new : (S : Setup) (H : List Entry) (tag : ℕ) (view : View) (asked : Asked) (bytes : List ℕ) (buffer : List ℕ) → IsLegal S H → IsMoving asked buffer
+    → mark_of S.size (Accept tag view asked bytes ∷ H) (accepted H) ≡ (if nat_eq (length buffer) 0 then Some Success else None)
+unfolding mark_of ending is_complete is_moved
+mark-new S H tag view asked bytes buffer legal is =
+    let born : IsUnborn S H (accepted H) = unborn S H (accepted H) legal (omega arith) in
+    rw (born.unmarked, eq-eqb (accepted H) (accepted H) refl, request-new H tag view asked bytes, is.moving) (by (cases_eq asked.length 0) born)
+  where
+  by : (asked.length ≡ 0) ⊎ (asked.length ≡ 0 → ⊥) → IsUnborn S H (accepted H)
+    → status_if (all_from (is_moved S.size (Accept tag view asked bytes ∷ H) (accepted H)) (from_of S.size (record { tag = tag; view = view; asked = asked; bytes = bytes })) asked.length) Success
+    ≡ (if nat_eq (length buffer) 0 then Some Success else None)
+  by (inl none) born = rw (none, eq-eqb (length buffer) 0 (sym is.long ∙ none)) (empty (is_moved S.size (Accept tag view asked bytes ∷ H) (accepted H)) (from_of S.size (record { tag = tag; view = view; asked = asked; bytes = bytes })))
+  by (inr some) born =
+      let first : ℕ = from_of S.size (record { tag = tag; view = view; asked = asked; bytes = bytes }) in
+      rw (ne_eqb (length buffer) 0 (λ e. some (is.long ∙ e)))
+        (ap (λ b. status_if b Success)
+          (all_from-false (is_moved S.size (Accept tag view asked bytes ∷ H) (accepted H)) first asked.length first (omega arith) (omega (arith, some)) (same-marks S H tag view asked bytes first ∙ born.unmoved first)))

@@ -1,0 +1,5 @@
+use Rattle.disk_core.proofs.Fresh.{fresh-sound}
+use Rattle.disk_core.proofs.disk.Disk.make.Goals as goal
+
+pub invariant_of-result : goal.invariant_of-result
+invariant_of-result g c = fresh-sound _ _ c.in-Ok.core c.requires (rw c.size.ensures at c.in-Ok.ensures)

@@ -1,0 +1,4 @@
+pub mod Calls
+pub mod Edge
+pub mod Place
+pub mod Slots

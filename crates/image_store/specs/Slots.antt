@@ -1,0 +1,57 @@
+-- What an image in memory, and one in a file, is to those who look it up.
+use Rattle.std.specs.Prelude.{ℕ, List, Option, None, Some}
+use Rattle.std.specs.BTreeMap.{BTreeMap, get_by_text}
+use Rattle.std.specs.declared.alloc.Global.{Global}
+use Rattle.std.specs.declared.vec.Vec.{Vec}
+use Rattle.std.specs.declared.string.String.{String}
+use Rattle.image_store.specs.Place.{Place, Missing, Here, Taken, Untold, Image}
+use Rattle.image_store.specs.declared.file_slot.FileSlot.{FileSlot}
+use Rattle.image_store.specs.declared.mem_images.MemImages.{MemImages}
+use Rattle.image_store.specs.declared.slot.Slot.{Slot}
+use Rattle.image_store.specs.declared.slot.Stored.{Stored}
+use Rattle.image_store.specs.declared.slot.Stored.TheVariants.{Gone, Whole, Tail}
+
+-- where an image in memory is
+abbrev pub place_of : Stored → Place
+place_of Gone = Missing
+place_of (Whole bytes) = Here bytes.items
+place_of (Tail bytes) = Taken (Some bytes.items)
+
+abbrev pub image_of : Slot → Image
+image_of slot = record { place = place_of slot.stored; faults = slot.faults; worn = slot.worn }
+
+-- a name that was never used
+abbrev pub unused : Image
+unused = record { place = Missing; faults = 0; worn = 0 }
+
+abbrev pub image_or_unused : Option Slot → Image
+image_or_unused None = unused
+image_or_unused (Some slot) = image_of slot
+
+-- the image of each name
+abbrev pub image_at : BTreeMap (String Global) Slot → List ℕ → Image
+image_at slots name = image_or_unused (get_by_text slots name)
+
+abbrev pub images_at : MemImages → List ℕ → Image
+images_at images = image_at images.slots
+
+-- where a file is: its bytes and its tail are not told
+abbrev pub file_place : Option (Vec ℕ Global) → Place
+file_place None = Untold
+file_place (Some tail) = Taken None
+
+-- the media of files never fail
+abbrev pub file_image : FileSlot → Image
+file_image slot = record { place = file_place slot.tail; faults = slot.faults; worn = 0 }
+
+-- a file that was never used
+abbrev pub unused_file : Image
+unused_file = record { place = Untold; faults = 0; worn = 0 }
+
+abbrev pub file_or_unused : Option FileSlot → Image
+file_or_unused None = unused_file
+file_or_unused (Some slot) = file_image slot
+
+-- the image of each file's name
+abbrev pub file_at : BTreeMap (String Global) FileSlot → List ℕ → Image
+file_at slots name = file_or_unused (get_by_text slots name)

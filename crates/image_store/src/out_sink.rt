@@ -1,0 +1,37 @@
+ghost use Rattle.std.specs.Prelude.{◌≡◌, None};
+
+use crate::{PutFault, Sink};
+use std::io::Write;
+
+/// A sink over a writer, such as standard output. It tells nothing of its bytes (own profile).
+#[derive(Drop)]
+pub struct OutSink<W> {
+    to: W,
+    faults: u64,
+}
+
+impl<W: Write> OutSink<W> {
+    /// A sink that writes to the writer.
+    pub fn make(to: W) -> OutSink<W>
+        ensures { ⟦<OutSink<W> as Sink>⟧.faults result ≡ 0 }
+    {
+        OutSink { to, faults: 0 }
+    }
+}
+
+impl<W: Write> Sink for OutSink<W> {
+    ghost wrote = { λ sink. None };
+
+    ghost faults = { λ sink. sink.faults };
+
+    #[tactic(auto, using(crate::proofs::Fronts::untold_put), unfolding(crate::specs::Edge::Appends))]
+    fn put(&mut self, bytes: &[u8]) -> Result<(), PutFault> {
+        match self.to.write_all(bytes) {
+            Ok(()) => Ok(()),
+            Err(_) => {
+                self.faults = self.faults.saturating_add(1);
+                Err(PutFault::Failed)
+            }
+        }
+    }
+}

@@ -1,0 +1,11 @@
+pub mod HeldText
+pub mod LineLoops
+pub mod Bodies
+pub mod FitLemmas
+pub mod Reading
+pub mod Clean
+pub mod PlanLemmas
+pub mod Cuts
+pub mod Numbers
+pub mod Tokens
+pub mod Causes

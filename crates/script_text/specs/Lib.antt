@@ -1,0 +1,10 @@
+pub mod Words
+pub mod Plans
+pub mod Script
+pub mod Fit
+pub mod Text
+pub mod Entries
+pub mod Report
+pub mod Held
+pub mod Faults
+pub mod Answers

@@ -1,0 +1,88 @@
+-- The report of a disk (own profile).
+use Rattle.std.specs.Prelude.{◌≡◌, ℕ, ◌+◌, ◌<◌, Bool, true, false, not, ◌&&◌, nat_eq, List, [], ◌∷◌, ◌++◌, length, map, reverse, slice_get, slice_index, codes, decimal, Option, Some, None, is_some, IfSome}
+use Rattle.efi_status.specs.declared.Status.{Status}
+use Rattle.efi_status.specs.declared.Status.TheVariants.{Success}
+use Rattle.efi_status.specs.StatusTable.{name_of}
+use Rattle.history.specs.declared.entry.Entry.{Entry}
+use Rattle.history.specs.Setup.{Setup}
+use Rattle.history.specs.Tokens.{Request, accepted, request, is_read, from_of}
+use Rattle.history.specs.Marks.{mark_of}
+use Rattle.history.specs.Contents.{bytes_read}
+use Rattle.script_text.specs.declared.report.parts.KeptMedium.{KeptMedium}
+use Rattle.script_text.specs.declared.report.parts.TokenLine.{TokenLine}
+use Rattle.script_text.specs.Text.{line_of, hex_text, lines_text}
+use Rattle.script_text.specs.Entries.{entries_text}
+
+-- the first line of a disk: its number from 1, its image, the size of a block in bytes, and its blocks
+unfoldable pub head_text : ℕ → List ℕ → ℕ → ℕ → List ℕ
+head_text number image size blocks =
+    line_of (codes "disk" ∷ decimal number ∷ image ∷ codes "size" ∷ decimal size ∷ codes "blocks" ∷ decimal blocks ∷ [])
+
+-- how a token ended; one that has not ended has no such word
+abbrev pub mark_words : Option Status → List (List ℕ) → List (List ℕ)
+mark_words None more = more
+mark_words (Some status) more = name_of status ∷ more
+
+abbrev pub given_words : Option (List ℕ) → List (List ℕ)
+given_words None = []
+given_words (Some bytes) = hex_text bytes ∷ []
+
+-- the line of a token: how it ended, and the bytes that it gave back, where it gives them here
+unfoldable pub token_text : ℕ → Option Status → Option (List ℕ) → List ℕ
+token_text token mark given = line_of (codes "token" ∷ decimal token ∷ mark_words mark (given_words given))
+
+-- the lines of the tokens in order, with what each gave back
+abbrev pub tokens_text : ℕ → List Entry → List (Option (List ℕ)) → List ℕ
+tokens_text size H given = lines_text (λ t. token_text t (mark_of size H t)) 0 given
+
+-- a medium that was kept: its id, its name, and its bytes in whole blocks
+unfoldable pub medium_text : ℕ → KeptMedium → List ℕ
+medium_text id medium = line_of (codes "medium" ∷ decimal id ∷ medium.name ∷ codes "kept" ∷ decimal medium.bytes ∷ [])
+
+-- the lines of the media from id 1 on
+abbrev pub media_text : List KeptMedium → List ℕ
+media_text media = lines_text medium_text 1 media
+
+-- the lines behind the first: entries from the oldest on, tokens, and media from id 1 on
+unfoldable pub body_text : ℕ → List Entry → List (Option (List ℕ)) → List KeptMedium → List ℕ
+body_text size H given media = entries_text (reverse H) ++ (tokens_text size H given ++ media_text media)
+
+-- the report of a disk
+unfoldable pub report_text : ℕ → List ℕ → ℕ → ℕ → List Entry → List (Option (List ℕ)) → List KeptMedium → List ℕ
+report_text number image size blocks H given media = head_text number image size blocks ++ body_text size H given media
+
+-- what the lines of tokens give back
+abbrev pub givens_of : List TokenLine → List (Option (List ℕ))
+givens_of tokens = map (λ line. line.given) tokens
+
+-- the lines say how the tokens ended, one for each token in order
+pub record AreEnds (size : ℕ) (H : List Entry) (tokens : List TokenLine) : Type 0 where
+  pub count : length tokens ≡ accepted H
+  pub each : (t : ℕ) → IfSome (slice_get tokens t) (λ line. mark_of size H t ≡ Some line.status)
+
+abbrev pub is_success : Option Status → Bool
+is_success (Some Success) = true
+is_success mark = false
+
+abbrev pub is_tagged_read : Option Request → Bool
+is_tagged_read None = false
+is_tagged_read (Some r) = is_read r.asked.kind && not (nat_eq r.tag 0)
+
+-- the token gives its bytes back in the report: a successful read whose tag is not 0
+unfoldable pub gives_bytes : ℕ → List Entry → ℕ → Bool
+gives_bytes size H t = is_tagged_read (request H t) && is_success (mark_of size H t)
+
+-- these are the bytes that the token read, as far as its medium tells them
+pub record AreBytesRead (S : Setup) (H : List Entry) (t : ℕ) (r : Request) (bytes : List ℕ) : Type 0 where
+  pub all : length bytes ≡ r.asked.length
+  pub each : (i : ℕ) → i < length bytes → IfSome (bytes_read S H t (from_of S.size r + i)) (λ b. slice_index bytes i ≡ b)
+
+-- what a token gives back
+pub record IsGiven (S : Setup) (H : List Entry) (t : ℕ) (given : Option (List ℕ)) : Type 0 where
+  pub where_read : is_some given ≡ gives_bytes S.size H t
+  pub bytes : IfSome (request H t) (λ r. IfSome given (AreBytesRead S H t r))
+
+-- one for each token in order
+pub record AreGiven (S : Setup) (H : List Entry) (given : List (Option (List ℕ))) : Type 0 where
+  pub count : length given ≡ accepted H
+  pub each : (t : ℕ) → IfSome (slice_get given t) (IsGiven S H t)

@@ -1,0 +1,7 @@
+//! The text of a report.
+
+pub mod entries;
+pub mod parts;
+pub mod pieces;
+pub mod tokens;
+pub mod writer;

@@ -1,0 +1,119 @@
+ghost use Rattle.std.specs.Prelude.{string_bytes};
+ghost use Rattle.image_store.specs.Edge.{PutsText, HasCauseOf};
+ghost use Rattle.script_text.specs.Held.{Adds};
+ghost use Rattle.script_text.specs.Entries.{entries_text};
+ghost use Rattle.script_text.specs.Report.{head_text, body_text, tokens_text, media_text, givens_of, AreEnds};
+
+use crate::grammar::plans::DiskPlan;
+use crate::report::entries::entry_line;
+use crate::report::parts::{KeptMedium, ReportFault, TokenLine};
+use crate::report::pieces;
+use crate::report::tokens;
+use history::{Entry, History};
+use image_store::Sink;
+use std::alloc::Global;
+
+#[tactic(auto, using(crate::proofs::HeldText::none_put))]
+/// Writes the first line of a disk: its number from 1, its image, its block size in bytes, and its blocks (own profile).
+/// After a fault a front of the line was written. `Failed` comes only where the sink's faults rose.
+pub fn report_head<O: Sink>(
+    alloc: Global,
+    number: u32,
+    plan: &DiskPlan,
+    blocks: u64,
+    out: &mut O,
+) -> Result<(), ReportFault>
+    ensures text { PutsText (O.wrote out.old) (O.wrote out.new) result (head_text number plan.now.image plan.now.size blocks) }
+    ensures cause { HasCauseOf ReportFault.Failed (O.faults out.old) (O.faults out.new) result }
+{
+    match tokens::head_line(alloc, number, plan.image.as_str(), plan.size, blocks) {
+        Ok(line) => pieces::put(out, line.as_str()),
+        Err(_) => Err(ReportFault::Memory),
+    }
+}
+
+/// Writes the lines behind the first: entries, tokens and media (own profile). The token lines say how the history's
+/// tokens ended. After a fault a front of the text was written. `Failed` comes only where the sink's faults rose.
+pub fn report_body<O: Sink>(
+    alloc: Global,
+    plan: &DiskPlan,
+    history: &History,
+    ends: &[TokenLine],
+    media: &[KeptMedium],
+    out: &mut O,
+) -> Result<(), ReportFault>
+    requires { AreEnds plan.now.size history.now.entries ends.now }
+    ensures text { PutsText (O.wrote out.old) (O.wrote out.new) result (body_text plan.now.size history.now.entries (givens_of ends.now) media.now) }
+    ensures cause { HasCauseOf ReportFault.Failed (O.faults out.old) (O.faults out.new) result }
+{
+    let mut held = String::new(alloc);
+    match add_entries(alloc, history.entries(), &mut held, out) {
+        Ok(()) => {}
+        Err(fault) => return Err(fault),
+    }
+    match add_tokens(alloc, plan.size, history, ends, &mut held, out) {
+        Ok(()) => {}
+        Err(fault) => return Err(fault),
+    }
+    match add_media(alloc, media, &mut held, out) {
+        Ok(()) => pieces::put(out, held.as_str()),
+        Err(fault) => Err(fault),
+    }
+}
+
+pub fn add_entries<O: Sink>(
+    alloc: Global,
+    entries: &[Entry],
+    held: &mut String,
+    out: &mut O,
+) -> Result<(), ReportFault>
+    ensures text { Adds (O.wrote out.old) (string_bytes held.old) result (O.wrote out.new) (string_bytes held.new) (entries_text entries.now) }
+    ensures cause { HasCauseOf ReportFault.Failed (O.faults out.old) (O.faults out.new) result }
+{
+    for (place, entry) in entries.iter().enumerate() {
+        match pieces::add_made(held, out, entry_line(alloc, place as u64, entry)) {
+            Ok(()) => {}
+            Err(fault) => return Err(fault),
+        }
+    }
+    Ok(())
+}
+
+fn add_tokens<O: Sink>(
+    alloc: Global,
+    size: u32,
+    history: &History,
+    ends: &[TokenLine],
+    held: &mut String,
+    out: &mut O,
+) -> Result<(), ReportFault>
+    requires { AreEnds size history.now.entries ends.now }
+    ensures text { Adds (O.wrote out.old) (string_bytes held.old) result (O.wrote out.new) (string_bytes held.new) (tokens_text size history.now.entries (givens_of ends.now)) }
+    ensures cause { HasCauseOf ReportFault.Failed (O.faults out.old) (O.faults out.new) result }
+{
+    for (token, end) in ends.iter().enumerate() {
+        match pieces::add_made(held, out, tokens::token_line(alloc, token as u64, end)) {
+            Ok(()) => {}
+            Err(fault) => return Err(fault),
+        }
+    }
+    Ok(())
+}
+
+fn add_media<O: Sink>(
+    alloc: Global,
+    media: &[KeptMedium],
+    held: &mut String,
+    out: &mut O,
+) -> Result<(), ReportFault>
+    ensures text { Adds (O.wrote out.old) (string_bytes held.old) result (O.wrote out.new) (string_bytes held.new) (media_text media.now) }
+    ensures cause { HasCauseOf ReportFault.Failed (O.faults out.old) (O.faults out.new) result }
+{
+    for (place, medium) in media.iter().enumerate() {
+        match pieces::add_made(held, out, tokens::medium_line(alloc, place as u64 + 1, medium)) {
+            Ok(()) => {}
+            Err(fault) => return Err(fault),
+        }
+    }
+    Ok(())
+}
