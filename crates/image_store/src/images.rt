@@ -69,7 +69,6 @@ pub trait Images {
     /// Failed only where the name's faults rose. After it, and for want of memory, the image is gone.
     fn put_back(&mut self, alloc: Global, name: &str, medium: Self::M) -> Result<(), PutFault>
         requires taken { IsTaken (at self.old name.now).place }
-        ensures free { IsFree (at self.new name.now).place }
         ensures place { (at self.new name.now).place ≡ put_place (at self.old name.now).place (Self.M.device medium).kept result }
         ensures cause { HasCauseOf PutFault.Failed (at self.old name.now).faults (at self.new name.now).faults result }
         ensures worn { (at self.new name.now).worn ≡ adds (at self.old name.now).worn (Self.M.device medium).failed }

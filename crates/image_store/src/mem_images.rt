@@ -128,7 +128,6 @@ impl Images for MemImages {
         medium: Faulty<MemMedium>,
     ) -> Result<(), PutFault>
         requires taken { IsTaken (images_at self.old name.now).place }
-        ensures free { IsFree (images_at self.new name.now).place }
         ensures place { (images_at self.new name.now).place ≡ put_place (images_at self.old name.now).place (⟦<Faulty<MemMedium> as Medium>⟧.device medium).kept result }
         ensures cause { HasCauseOf PutFault.Failed (images_at self.old name.now).faults (images_at self.new name.now).faults result }
         ensures worn { (images_at self.new name.now).worn ≡ adds (images_at self.old name.now).worn (⟦<Faulty<MemMedium> as Medium>⟧.device medium).failed }

@@ -107,7 +107,6 @@ impl Slot {
     /// Puts a medium back, or fails. The image is gone after a fault.
     pub fn put_in(&mut self, medium: Faulty<MemMedium>, fails: bool) -> Result<(), PutFault>
         requires taken { IsTaken (place_of self.old.stored) }
-        ensures free { IsFree (place_of self.new.stored) }
         ensures place { place_of self.new.stored ≡ put_place (place_of self.old.stored) (⟦<Faulty<MemMedium> as Medium>⟧.device medium).kept result }
         ensures cause { HasCauseOf PutFault.Failed self.old.faults self.new.faults result }
         ensures failing { IsTrue fails ↔ (result ≡ Err PutFault.Failed) }

@@ -1,7 +1,7 @@
 //! What a script does to its disks.
 #![tactic(auto)]
 
+mod kept_tokens;
 mod plain_run;
-mod reading;
-mod refusal;
-mod serving;
+
+pub use plain_run::run_lines;

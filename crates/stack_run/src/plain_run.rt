@@ -1,25 +1,157 @@
-ghost use Rattle.std.specs.Prelude.{◌≡◌, [], IfOk, OnOk};
-ghost use Rattle.script_text.specs.Fit.{AreOrders};
-ghost use Rattle.script_text.specs.Report.{givens_of, AreEnds, AreGiven};
-ghost use Rattle.stack_run.specs.Plain.{outcomes_of, plain_history};
+ghost use Rattle.std.specs.Prelude.{◌≡◌, ◌+◌, ◌<◌, ◌≤◌, ◌^◌, List, [], ◌∷◌, length, None, IfOk, OnOk};
+ghost use Rattle.history.specs.Next.{first_open};
+ghost use Rattle.disk_core.specs.Calls.{asked_of, bytes_of, buffer_of};
+ghost use Rattle.script_text.specs.Fit.{IsRequest, IsOrder, AreOrders};
+ghost use Rattle.stack_run.specs.Plain.{payload_bytes, whole_view};
+ghost use Rattle.stack_run.specs.Keeping.{Steps, Waits, Keeps, Answers, TakesLine, Runs};
 
-use disk_core::Disk;
-use history::Order;
+use crate::kept_tokens::{CLIENT, Kept, collect_rest};
+use disk_core::{Ask, Disk, Step, Why};
+use history::{Asked, Order, Payload, View};
 use medium::Medium;
 use script_text::TokenLine;
 use std::alloc::{AllocError, Global};
 
-pub fn run_lines<M: Medium>(
-    _alloc: Global,
-    _disk: &mut Disk<M>,
-    _orders: &[Order],
-) -> Result<Vec<TokenLine>, AllocError>
-    requires fresh { _disk.old.entries ≡ [] }
-    requires orders { AreOrders _orders.now }
-    ensures setup { _disk.new.setup ≡ _disk.old.setup }
-    ensures plain { OnOk result (_disk.new.entries ≡ plain_history _disk.old.setup _orders.now (outcomes_of _disk.new.entries)) }
-    ensures ends { IfOk result (λ ends. AreEnds _disk.old.setup.size _disk.new.entries ends.items) }
-    ensures given { IfOk result (λ ends. AreGiven _disk.old.setup _disk.new.entries (givens_of ends.items)) }
+// One step of the schedule: a command, and a fetched block is stored at once. False exactly where no request is outstanding.
+fn step_once<M: Medium>(disk: &mut Disk<M>) -> bool
+    ensures setup { disk.new.setup ≡ disk.old.setup }
+    ensures steps { Steps disk.old.setup disk.old.entries disk.new.entries result }
 {
-    Err(AllocError)
+    match disk.step() {
+        Step::Did => true,
+        Step::Fetched => {
+            disk.step();
+            true
+        }
+        Step::Drained => false,
+    }
+}
+
+// Steps until no request is outstanding.
+fn drain<M: Medium>(disk: &mut Disk<M>)
+    ensures setup { disk.new.setup ≡ disk.old.setup }
+    ensures drained { first_open disk.old.setup.size disk.new.entries ≡ None }
+    ensures waits { Waits disk.old.setup disk.old.entries disk.new.entries }
+{
+    while step_once(disk) {}
+}
+
+// The whole of the disk's medium.
+fn whole_medium<M: Medium>(disk: &Disk<M>) -> View
+    ensures view { result ≡ whole_view disk.now.setup 1 }
+    ensures size { 0 < disk.now.setup.size }
+{
+    let medium = disk.medium();
+    View {
+        start: 0,
+        length: medium.blocks() * u64::from(medium.size()),
+        media_id: 1,
+        index: 0,
+    }
+}
+
+// What a line asks the disk for, with a buffer of its own. The error is want of memory.
+fn ask_of(alloc: Global, asked: &Asked, payload: &Payload) -> Result<Ask, AllocError>
+    requires { IsRequest asked.now payload.now 1 }
+    ensures asked { IfOk result (λ ask. asked_of ask ≡ asked.now) }
+    ensures bytes { IfOk result (λ ask. bytes_of ask ≡ payload_bytes payload.now) }
+    ensures most { IfOk result (λ ask. length (buffer_of ask) ≤ 2 ^ 24) }
+{
+    match payload {
+        Payload::Given(bytes) => Ok(Ask::Write {
+            at: asked.at,
+            buffer: Vec::from_slice(alloc, bytes.as_slice())?,
+        }),
+        Payload::Nothing => Ok(Ask::Read {
+            at: asked.at,
+            buffer: vec![in alloc; 0; asked.length as usize]?,
+        }),
+    }
+}
+
+// Submits a request of the client. The error is want of memory.
+fn submit_line<M: Medium>(
+    alloc: Global,
+    disk: &mut Disk<M>,
+    view: &View,
+    asked: &Asked,
+    payload: &Payload,
+    media_id: u32,
+    kept: &mut Kept,
+) -> Result<(), AllocError>
+    requires view { view.now ≡ whole_view disk.old.setup 1 }
+    requires fits { IsRequest asked.now payload.now media_id }
+    requires keeps { Keeps disk.old.setup disk.old.entries kept.old.kinds.items kept.old.ends.items }
+    ensures setup { disk.new.setup ≡ disk.old.setup }
+    ensures answers { OnOk result (Answers disk.old.setup disk.old.entries disk.new.entries asked.now payload.now media_id kept.new.kinds.items kept.new.ends.items) }
+{
+    let ask = ask_of(alloc, asked, payload)?;
+    match disk.submit(CLIENT, view, media_id, ask) {
+        Ok(_) => {
+            kept.kinds.push(asked.kind)?;
+            Ok(())
+        }
+        Err(refused) => match refused.why {
+            Why::Status(_) => Ok(()),
+            Why::Memory => Err(AllocError),
+        },
+    }
+}
+
+// Takes the client's next line until it is done. The error is want of memory.
+fn take_line<M: Medium>(
+    alloc: Global,
+    disk: &mut Disk<M>,
+    view: &View,
+    line: &Order,
+    kept: &mut Kept,
+) -> Result<(), AllocError>
+    requires view { view.now ≡ whole_view disk.old.setup 1 }
+    requires fits { IsOrder line.now }
+    requires keeps { Keeps disk.old.setup disk.old.entries kept.old.kinds.items kept.old.ends.items }
+    ensures setup { disk.new.setup ≡ disk.old.setup }
+    ensures takes { OnOk result (TakesLine disk.old.setup disk.old.entries disk.new.entries line.now kept.new.kinds.items kept.new.ends.items) }
+{
+    match line {
+        Order::Request {
+            asked,
+            payload,
+            media_id,
+        } => {
+            submit_line(alloc, disk, view, asked, payload, *media_id, kept)?;
+            step_once(disk);
+            Ok(())
+        }
+        Order::Wait => {
+            drain(disk);
+            collect_rest(disk, kept)?;
+            Ok(())
+        }
+    }
+}
+
+/// Runs a client's lines over a disk on which nothing has happened, by the plain schedule, and tells how each token
+/// ended and what it gave back. The error is want of memory; the disk is then as its history says.
+pub fn run_lines<M: Medium>(
+    alloc: Global,
+    disk: &mut Disk<M>,
+    orders: &[Order],
+) -> Result<Vec<TokenLine>, AllocError>
+    requires fresh { disk.old.entries ≡ [] }
+    requires fits { AreOrders orders.now }
+    ensures setup { disk.new.setup ≡ disk.old.setup }
+    ensures runs { IfOk result (λ ends. Runs disk.old.setup orders.now disk.new.entries ends.items) }
+{
+    let mut kept = Kept {
+        kinds: Vec::new(alloc),
+        ends: Vec::new(alloc),
+    };
+    let view = whole_medium(disk);
+    for line in orders {
+        take_line(alloc, disk, &view, line, &mut kept)?;
+    }
+    drain(disk);
+    collect_rest(disk, &mut kept)?;
+    let Kept { ends, .. } = kept;
+    Ok(ends)
 }

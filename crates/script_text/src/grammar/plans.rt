@@ -36,6 +36,14 @@ impl Name {
         Name { text }
     }
 
+    /// Gives the text back, which takes no memory.
+    pub fn into_string(self) -> String
+        ensures { string_bytes result ≡ self }
+    {
+        let Name { text } = self;
+        text
+    }
+
     /// The name itself.
     pub fn as_str(&self) -> &str
         ensures { result.now ≡ self.now }

@@ -1,0 +1,36 @@
+use Rattle.std.proofs.Common.{◌≡◌, ◌∙◌, refl, arith}
+use Rattle.stack_run.proofs.Leading.{leads-same}
+use Rattle.stack_run.proofs.Keeping.{keeps-stays}
+use Rattle.stack_run.proofs.Running.{keeps-none, line-fits, leads-next, leads-last, runs}
+use Rattle.stack_run.proofs.plain_run.run_lines.Goals as goal
+
+pub loop-line-init : goal.loop-line-init
+loop-line-init g c = record {
+    setup = refl;
+    leads = rw c.requires.fresh (leads-same _ _ _);
+    keeps = rw (c.requires.fresh, c.new.ensures.items, c.new-2.ensures.items) (keeps-none _);
+  }
+
+pub take_line-requires-clause-fits : goal.take_line-requires-clause-fits
+take_line-requires-clause-fits g c = line-fits c.args.orders.now c.loop-line.line-index _ _ c.requires.fits c.loop-line-test.true refl c.line-item.is
+
+pub loop-line-preserved : goal.loop-line-preserved
+loop-line-preserved g c =
+    let takes = rw c.loop-line.invariant.setup at c.in_ok-take_line.ensures.takes in
+    record {
+      setup = c.take_line.ensures.setup ∙ c.loop-line.invariant.setup;
+      leads = leads-next _ c.args.orders.now _ _ c.loop-line.line-index _ _ _ _ c.loop-line-test.true refl c.line-item.is c.loop-line.invariant.leads takes;
+      keeps = takes.keeps;
+    }
+
+pub collect_rest-requires-clause-keeps : goal.collect_rest-requires-clause-keeps
+collect_rest-requires-clause-keeps g c =
+    let waits = rw c.loop-line.invariant.setup at c.drain.ensures.waits in
+    rw (c.drain.ensures.setup, c.loop-line.invariant.setup) (keeps-stays _ _ _ _ _ waits.stays c.loop-line.invariant.keeps)
+
+pub returns-clause-runs : goal.returns-clause-runs
+returns-clause-runs g c =
+    let waits = rw c.loop-line.invariant.setup at c.drain.ensures.waits in
+    let drained = rw c.loop-line.invariant.setup at c.drain.ensures.drained in
+    let all = rw (c.drain.ensures.setup, c.loop-line.invariant.setup) at c.in_ok-collect_rest.ensures.all in
+    runs _ _ _ _ _ _ _ c.whole_medium-view.ensures.size (leads-last _ c.args.orders.now _ c.loop-line.line-index c.loop-line-test.false c.loop-line.invariant.leads) waits drained all
