@@ -1,10 +1,11 @@
-pub mod Read
-pub mod Reported
 pub mod Collecting
 pub mod Ending
 pub mod Enough
+pub mod Handed
 pub mod Keeping
 pub mod Leading
+pub mod Read
+pub mod Reported
 pub mod Running
 pub mod Stepping
 pub mod Weights

@@ -1,6 +1,6 @@
-pub mod Plain
-pub mod Reading
-pub mod Serving
 pub mod Keeping
 pub mod Leading
 pub mod Plain
+pub mod Program
+pub mod Reading
+pub mod Serving

@@ -3,5 +3,10 @@
 
 mod kept_tokens;
 mod plain_run;
+mod program;
+mod reading;
+mod refusal;
+mod serving;
 
 pub use plain_run::run_lines;
+pub use program::run_plain;

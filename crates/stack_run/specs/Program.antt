@@ -1,0 +1,52 @@
+-- The program's words, its statuses, and the lines of its refusals (own profile).
+use Rattle.std.specs.Prelude.{◌≡◌, ℕ, ◌⊎◌, Bool, true, false, List, [], ◌∷◌, ◌++◌, codes, Option, None, Some, Result, Ok, Err, bytes_eq}
+use Rattle.script_text.specs.declared.grammar.plans.DiskPlan.{DiskPlan}
+use Rattle.script_text.specs.declared.grammar.plans.ClientPlan.{ClientPlan}
+use Rattle.script_text.specs.declared.grammar.refusal.Reason.{Reason}
+use Rattle.script_text.specs.Script.{script_of}
+use Rattle.image_store.specs.Place.{Image}
+use Rattle.stack_run.specs.declared.refusal.Refusal.{Refusal}
+use Rattle.stack_run.specs.declared.refusal.Refusal.TheVariants.{Words, Script, Image as ImageOf, Source, Sink, Memory}
+use Rattle.stack_run.specs.Reading.{Reads}
+use Rattle.stack_run.specs.Serving.{Served}
+
+-- the words are the one word `plain`
+abbrev pub is_plain : List (List ℕ) → Bool
+is_plain [] = false
+is_plain (word ∷ []) = bytes_eq word (codes "plain")
+is_plain (word ∷ other ∷ more) = false
+
+abbrev pub status_of : Refusal → ℕ
+status_of Words = 1
+status_of Script = 2
+status_of ImageOf = 3
+status_of Source = 4
+status_of Sink = 5
+status_of Memory = 6
+
+-- the line of a refusal; a run whose sink failed has none
+abbrev pub refusal_text : Refusal → List ℕ → List ℕ
+refusal_text Words name = codes "words" ++ (10 ∷ [])
+refusal_text Script name = codes "script" ++ (10 ∷ [])
+refusal_text ImageOf name = codes "image " ++ (name ++ (10 ∷ []))
+refusal_text Source name = codes "source" ++ (10 ∷ [])
+refusal_text Sink name = []
+refusal_text Memory name = codes "memory" ++ (10 ∷ [])
+
+-- the source was read and is a script of one disk with one client, and the disk was served
+pub record Ran (left left' : Option (List ℕ)) (at at' : List ℕ → Image) (wrote wrote' : Option (List ℕ)) : Type 0 where
+  pub bytes : List ℕ
+  pub plan : DiskPlan
+  pub client : ClientPlan
+  pub reads : Reads left left' bytes
+  pub says : script_of bytes ≡ Ok (plan ∷ [])
+  pub one : plan.clients ≡ client ∷ []
+  pub served : Served plan client at at' wrote wrote'
+
+-- the source was read and is refused as a script
+pub record IsRefusedScript (left left' : Option (List ℕ)) : Type 0 where
+  pub bytes : List ℕ
+  pub line : ℕ
+  pub reason : Reason
+  pub reads : Reads left left' bytes
+  pub says : script_of bytes ≡ Err (line, reason)
