@@ -1,5 +1,5 @@
 -- What was put of a body: entries, tokens and media, one after another.
-use Rattle.std.proofs.Common.{◌≡◌, ℕ, List, [], ◌++◌, reverse, Option, Result, refl, ap, sym, append_assoc}
+use Rattle.std.proofs.Common.{◌≡◌, ℕ, List, [], ◌++◌, reverse, Option, Result, append_assoc}
 use Rattle.history.specs.declared.entry.Entry.{Entry}
 use Rattle.image_store.specs.Edge.{AppendsUpTo, AppendsFront, PutsText}
 use Rattle.script_text.specs.declared.report.parts.KeptMedium.{KeptMedium}
@@ -30,14 +30,14 @@ pub tokens_front : (w0 w1 w2 : Option (List ℕ)) (held h1 : List ℕ) (size : �
 unfolding body_text
 tokens_front w0 w1 w2 held h1 size H given media b (rest, two) =
     rw (← append_assoc (entries_text (reverse H)) (tokens_text size H given) (media_text media))
-      (front_of_more w0 w2 (entries_text (reverse H) ++ tokens_text size H given) (media_text media) (rest, tokens_added w0 w1 w2 held h1 rest size H given b two))
+    (front_of_more w0 w2 (entries_text (reverse H) ++ tokens_text size H given) (media_text media) (rest, tokens_added w0 w1 w2 held h1 rest size H given b two))
 
 -- after the media
 media_added : (w0 w1 w2 w3 : Option (List ℕ)) (held h1 h2 h3 : List ℕ) (size : ℕ) (H : List Entry) (given : List (Option (List ℕ))) (media : List KeptMedium) → Begun w0 w1 held h1 H → AppendsUpTo w1 w2 (h1 ++ tokens_text size H given) h2 → AppendsUpTo w2 w3 (h2 ++ media_text media) h3 → AppendsUpTo w0 w3 (body_text size H given media) h3
 unfolding body_text
 media_added w0 w1 w2 w3 held h1 h2 h3 size H given media b two three =
     rw (← append_assoc (entries_text (reverse H)) (tokens_text size H given) (media_text media))
-      (then_more w0 w2 w3 (entries_text (reverse H) ++ tokens_text size H given) h2 (media_text media) h3 (tokens_added w0 w1 w2 held h1 h2 size H given b two) three)
+    (then_more w0 w2 w3 (entries_text (reverse H) ++ tokens_text size H given) h2 (media_text media) h3 (tokens_added w0 w1 w2 held h1 h2 size H given b two) three)
 
 pub media_front : (w0 w1 w2 w3 : Option (List ℕ)) (held h1 h2 : List ℕ) (size : ℕ) (H : List Entry) (given : List (Option (List ℕ))) (media : List KeptMedium) → Begun w0 w1 held h1 H → AppendsUpTo w1 w2 (h1 ++ tokens_text size H given) h2 → AppendsFront w2 w3 (h2 ++ media_text media) → AppendsFront w0 w3 (body_text size H given media)
 media_front w0 w1 w2 w3 held h1 h2 size H given media b two (rest, three) = (rest, media_added w0 w1 w2 w3 held h1 h2 rest size H given media b two three)

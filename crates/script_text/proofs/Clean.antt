@@ -1,6 +1,6 @@
 -- Lines of printable bytes, and their words.
-use Rattle.std.proofs.Common.{◌≡◌, ℕ, ◌+◌, ◌<◌, ◌≤◌, Bool, ◌||◌, if◌then◌else◌, Err, true, false, List, [], ◌∷◌, ◌-◌, length, map, take, drop, get_or, refl, ap, arith, rules}
-use Rattle.std.specs.List.{All, list_all, list_any}
+use Rattle.std.proofs.Common.{◌≡◌, ℕ, ◌<◌, ◌≤◌, Bool, ◌||◌, if◌then◌else◌, Err, true, List, [], ◌∷◌, ◌-◌, length, map, take, drop, get_or, refl, ap, arith}
+use Rattle.std.specs.List.{list_all, list_any}
 use Rattle.std.specs.Str.{IsUtf8}
 use Rattle.std.proofs.lemmas.Bool.Decides.{nat_tests}
 use Rattle.std.proofs.lemmas.List.Sums.{AllPass-from_list_all}

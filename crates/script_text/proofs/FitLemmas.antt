@@ -1,22 +1,21 @@
 -- The plans of a script that was read fit its limits.
-use Rattle.std.proofs.Common.{◌≡◌, ℕ, ◌+◌, ◌-◌, ◌^◌, ◌<◌, ◌≤◌, Bool, true, false, not, ◌&&◌, nat_le, nat_lt, ◌==◌, if◌then◌else◌, List, [], ◌∷◌, ◌++◌, length, filter, codes, bytes_eq, ok_or, Option, None, Some, Result, Ok, Err, refl, ap, sym, ◌∙◌, arith, rules}
+use Rattle.std.proofs.Common.{◌≡◌, ℕ, ◌+◌, ◌-◌, ◌^◌, ◌<◌, ◌≤◌, Bool, true, false, not, ◌&&◌, nat_le, nat_lt, ◌==◌, if◌then◌else◌, List, [], ◌∷◌, ◌++◌, length, filter, codes, bytes_eq, ok_or, Option, None, Some, Result, Ok, Err, refl, ap, arith}
 use Rattle.std.specs.List.{list_all, list_any, slice_split, onto_first}
 use Rattle.std.specs.Char.{is_ascii_digit}
 use Rattle.std.specs.Str.Parse.{digits_value}
 use Rattle.std.proofs.lemmas.Bool.Decides.{nat_tests}
 use Rattle.history.specs.declared.order.Order.{Order}
 use Rattle.history.specs.declared.order.Order.TheVariants.{Wait}
-use Rattle.medium.specs.Device.{is_block_size}
-use Rattle.script_text.specs.declared.grammar.limits.TheConstants.{REQUEST_BYTES, ALL_REQUEST_BYTES, NAME_BYTES, SCRIPT_BYTES, DISKS, WORKERS, CLIENTS}
+use Rattle.script_text.specs.declared.grammar.limits.TheConstants.{REQUEST_BYTES, NAME_BYTES, SCRIPT_BYTES}
 use Rattle.script_text.specs.declared.grammar.plans.DiskPlan.{DiskPlan}
 use Rattle.script_text.specs.declared.grammar.plans.ClientPlan.{ClientPlan}
 use Rattle.script_text.specs.declared.grammar.refusal.Reason.{Reason}
 use Rattle.script_text.specs.declared.grammar.refusal.Reason.TheVariants.{Form, Number, Hex, Size}
 use Rattle.script_text.specs.declared.grammar.refusal.Reason.TheVariants as why
 use Rattle.script_text.specs.Words.{lines_of, words_of, is_comment, is_line_byte, is_fixed, number_of, hex_of}
-use Rattle.script_text.specs.Plans.{on_last, last_is, has_some, disk_plan, with_disk, add_client, with_client, add_order, add_last_order, with_order, has_client, has_image, requested, request_bytes}
+use Rattle.script_text.specs.Plans.{on_last, last_is, disk_plan, with_disk, add_client, with_client, add_order, add_last_order, with_order, request_bytes, is_single}
 use Rattle.script_text.specs.Script.{◌>>=◌, planned_disk, planned_client, planned_order, write_order, read_order, disk_line, client_line, write_line, read_line, wait_line, kind_of_line, line_of_words, line_says, at_line, lines_say, whole_script, script_of}
-use Rattle.script_text.specs.Fit.{is_name_byte, IsName, IsRequest, IsOrder, AreOrders, AreClients, IsDisk, AreDisks}
+use Rattle.script_text.specs.Fit.{is_name_byte, IsOrder, AreOrders, AreClients, IsDisk, AreDisks, IsSingle}
 
 -- which way an answer came
 then_ok : {A E : Type 0} (b : Bool) (x : Result A E) (e : E) (y : A) → (if b then x else Err e) ≡ Ok y → (b ≡ true) × (x ≡ Ok y)
@@ -52,7 +51,7 @@ onto_printable : (x : ℕ) (parts : List (List ℕ)) → is_name_byte x ≡ true
 onto_printable x [] is all = (rw is refl, tt)
 onto_printable x (part ∷ parts) is all = (rw is all.0, all.1)
 
-both_true : (a b : Bool) → (a && b) ≡ true → (a ≡ true) × (b ≡ true)
+pub both_true : (a b : Bool) → (a && b) ≡ true → (a ≡ true) × (b ≡ true)
 both_true true b is = (refl, is)
 both_true false b is = absurd (cc)
 
@@ -212,10 +211,10 @@ kind_fits : (plans next : List DiskPlan) (first : List ℕ) (words : List (List 
 unfolding kind_of_line
 kind_fits plans next first words all names is =
     either_ok (bytes_eq first (codes "disk")) _ _ next _ (λ one. disk_line_fits plans next words all names one)
-      (λ rest. either_ok (bytes_eq first (codes "client")) _ _ next _ (λ one. client_line_fits plans next words all one)
-        (λ rest. either_ok (bytes_eq first (codes "write")) _ _ next _ (λ one. write_line_fits plans next words all one)
-          (λ rest. either_ok (bytes_eq first (codes "read")) _ _ next _ (λ one. read_line_fits plans next words all one)
-            (λ rest. either_ok (bytes_eq first (codes "wait")) _ _ next _ (λ one. wait_line_fits plans next words all one) (λ none. never_ok _ next _ none) rest) rest) rest) rest) is
+    (λ rest. either_ok (bytes_eq first (codes "client")) _ _ next _ (λ one. client_line_fits plans next words all one)
+    (λ rest. either_ok (bytes_eq first (codes "write")) _ _ next _ (λ one. write_line_fits plans next words all one)
+    (λ rest. either_ok (bytes_eq first (codes "read")) _ _ next _ (λ one. read_line_fits plans next words all one)
+    (λ rest. either_ok (bytes_eq first (codes "wait")) _ _ next _ (λ one. wait_line_fits plans next words all one) (λ none. never_ok _ next _ none) rest) rest) rest) rest) is
 
 words_fit : (plans next : List DiskPlan) (words : List (List ℕ)) → AreDisks plans → AreNames words → line_of_words plans words ≡ Ok next → AreDisks next
 unfolding line_of_words
@@ -226,9 +225,9 @@ line_fits : (plans next : List DiskPlan) (line : List ℕ) → AreDisks plans �
 unfolding line_says
 line_fits plans next line all is =
     either_ok (is_comment line) (Ok plans) (if list_all is_line_byte line then line_of_words plans (words_of line) else Err Form) next (AreDisks next) (λ same. rw (← ok_same _ _ same) all)
-      (λ rest.
-        let (clean, said) = then_ok (list_all is_line_byte line) (line_of_words plans (words_of line)) Form next rest in
-        words_fit plans next (words_of line) all (words_are_names line clean) said) is
+    (λ rest.
+    let (clean, said) = then_ok (list_all is_line_byte line) (line_of_words plans (words_of line)) Form next rest in
+    words_fit plans next (words_of line) all (words_are_names line clean) said) is
 
 at_line_ok : (n : ℕ) (r : Result (List DiskPlan) Reason) (x : List DiskPlan) → at_line n r ≡ Ok x → r ≡ Ok x
 at_line_ok n (Ok y) x is = ap Ok (ok_same y x is)
@@ -246,5 +245,27 @@ unfolding script_of whole_script AreDisks
 script_fits bytes plans is =
     let (short, rest) = else_ok (nat_lt SCRIPT_BYTES (length bytes)) (lines_say 1 [] (lines_of bytes) >>= whole_script) (0, Size) plans is in
     let (said, one, last) = next_ok (lines_say 1 [] (lines_of bytes)) whole_script plans rest in
-    let (whole, same) = then_ok (has_client said) (Ok said) (0, why.Order) plans last in
+    let (whole, same) = then_ok (is_single said) (Ok said) (0, why.Order) plans last in
     rw (← ok_same said plans same) (lines_fit 1 [] said (lines_of bytes) tt one)
+
+one_is : (n : ℕ) → (n == 1) ≡ true → n ≡ 1
+one_is n is = grind (arith, nat_tests)
+
+not_one : (n : ℕ) → 2 ≤ n → (n == 1) ≡ true → ⊥
+not_one n two is = grind (arith, nat_tests)
+
+single_is : (plans : List DiskPlan) → is_single plans ≡ true → IsSingle plans
+unfolding last_is
+single_is [] is = absurd (cc)
+single_is (disk ∷ []) is = one_is (length disk.clients) is
+single_is (disk ∷ next ∷ more) is =
+    let (one, last) = both_true (length (disk ∷ next ∷ more) == 1) (last_is (λ d. length d.clients == 1) (disk ∷ next ∷ more)) is in
+    absurd (not_one (length (disk ∷ next ∷ more)) (omega arith) one)
+
+pub script_is_single : (bytes : List ℕ) (plans : List DiskPlan) → script_of bytes ≡ Ok plans → IsSingle plans
+unfolding script_of whole_script
+script_is_single bytes plans is =
+    let (short, rest) = else_ok (nat_lt SCRIPT_BYTES (length bytes)) (lines_say 1 [] (lines_of bytes) >>= whole_script) (0, Size) plans is in
+    let (said, one, last) = next_ok (lines_say 1 [] (lines_of bytes)) whole_script plans rest in
+    let (whole, same) = then_ok (is_single said) (Ok said) (0, why.Order) plans last in
+    rw (← ok_same said plans same) (single_is said whole)

@@ -1,5 +1,5 @@
 -- Fronts of a text on its way to a sink.
-use Rattle.std.proofs.Common.{◌≡◌, ℕ, ◌+◌, ◌<◌, List, [], ◌∷◌, ◌++◌, length, take, drop, get_or, Option, None, Some, Result, Ok, Err, refl, ap, sym, ◌∙◌, append_assoc, arith}
+use Rattle.std.proofs.Common.{◌≡◌, ℕ, List, [], ◌++◌, Option, None, Some, Result, Ok, Err, refl, ap, sym, ◌∙◌, append_assoc}
 use Rattle.std.proofs.lemmas.List.{append-nil}
 use Rattle.image_store.specs.Edge.{Appends, AppendsUpTo, AppendsFront, PutsText}
 
@@ -37,17 +37,23 @@ then_more w0 w1 w2 whole held line rest one two = record {
 
 -- a front of some text is a front of more
 pub front_of_more : (w0 w1 : Option (List ℕ)) (text more : List ℕ) → AppendsFront w0 w1 text → AppendsFront w0 w1 (text ++ more)
-front_of_more w0 w1 text more (rest, up) = (rest ++ more, record {
-  front = up.front;
-  is = ap (λ l. l ++ more) up.is ∙ append_assoc up.front rest more;
-  appended = up.appended;
-})
+front_of_more w0 w1 text more (rest, up) = (
+  rest ++ more,
+  record {
+    front = up.front;
+    is = ap (λ l. l ++ more) up.is ∙ append_assoc up.front rest more;
+    appended = up.appended;
+  },
+)
 
 -- all that was held is put
 pub puts_held : {E : Type 0} (w0 w1 w2 : Option (List ℕ)) (whole held : List ℕ) (result : Result (Unit {0}) E) → AppendsUpTo w0 w1 whole held → PutsText w1 w2 result held → PutsText w0 w2 result whole
 puts_held w0 w1 w2 whole held (Ok done) one two = rw one.is (appends_both w0 w1 w2 one.front held one.appended two)
-puts_held w0 w1 w2 whole held (Err fault) one (rest, two) = (rest, record {
-  front = one.front ++ two.front;
-  is = one.is ∙ ap (λ l. one.front ++ l) two.is ∙ sym (append_assoc one.front two.front rest);
-  appended = appends_both w0 w1 w2 one.front two.front one.appended two.appended;
-})
+puts_held w0 w1 w2 whole held (Err fault) one (rest, two) = (
+  rest,
+  record {
+    front = one.front ++ two.front;
+    is = one.is ∙ ap (λ l. one.front ++ l) two.is ∙ sym (append_assoc one.front two.front rest);
+    appended = appends_both w0 w1 w2 one.front two.front one.appended two.appended;
+  },
+)

@@ -1,7 +1,6 @@
 -- Loops that add the lines of items to a text.
 use Rattle.std.proofs.Common.{◌≡◌, ℕ, ◌+◌, ◌<◌, List, [], ◌∷◌, ◌++◌, map, length, take, drop, get_or, ◌≤◌, Option, refl, ap, sym, ◌∙◌, append_assoc, arith, length-take}
 use Rattle.std.proofs.lemmas.List.{append-nil, take-append-drop, take_more, take_all}
-
 use Rattle.image_store.specs.Edge.{AppendsUpTo, AppendsFront}
 use Rattle.script_text.specs.Text.{lines_text}
 use Rattle.script_text.proofs.HeldText.{still_held, then_more, front_of_more}
@@ -38,7 +37,7 @@ lines_up_to line p items i =
 pub one_added : {X : Type 0} (line : ℕ → X → List ℕ) (p : ℕ) (items : List X) (i q : ℕ) (x : X) (w0 w w' : Option (List ℕ)) (h0 h h' : List ℕ) → HasAdded line p items i w0 w h0 h → i < length items → x ≡ get_or items i x → p + i ≡ q → AppendsUpTo w w' (h ++ line q x) h' → HasAdded line p items (i + 1) w0 w' h0 h'
 one_added line p items i q x w0 w w' h0 h h' so_far inside is at put = record {
   added =
-    rw (lines_at line p items i x inside is, at, ← append_assoc h0 (lines_text line p (take i items)) (line q x))
+      rw (lines_at line p items i x inside is, at, ← append_assoc h0 (lines_text line p (take i items)) (line q x))
       (then_more w0 w w' (h0 ++ lines_text line p (take i items)) h (line q x) h' so_far.added put);
 }
 
@@ -46,7 +45,7 @@ one_added line p items i q x w0 w w' h0 h h' so_far inside is at put = record {
 pub stopped : {X : Type 0} (line : ℕ → X → List ℕ) (p : ℕ) (items : List X) (i : ℕ) (w0 w : Option (List ℕ)) (h0 h : List ℕ) → HasAdded line p items i w0 w h0 h → AppendsFront w0 w (h0 ++ lines_text line p items)
 stopped line p items i w0 w h0 h so_far =
     rw (lines_up_to line p items i, ← append_assoc h0 (lines_text line p (take i items)) (lines_text line (p + length (take i items)) (drop i items)))
-      (front_of_more w0 w (h0 ++ lines_text line p (take i items)) _ (h, so_far.added))
+    (front_of_more w0 w (h0 ++ lines_text line p (take i items)) _ (h, so_far.added))
 
 pub stopped_in : {X : Type 0} (line : ℕ → X → List ℕ) (p : ℕ) (items : List X) (i q : ℕ) (x : X) (w0 w w' : Option (List ℕ)) (h0 h : List ℕ) → HasAdded line p items i w0 w h0 h → i < length items → x ≡ get_or items i x → p + i ≡ q → AppendsFront w w' (h ++ line q x) → AppendsFront w0 w' (h0 ++ lines_text line p items)
 stopped_in line p items i q x w0 w w' h0 h so_far inside is at (rest, up) =

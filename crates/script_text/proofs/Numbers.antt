@@ -1,5 +1,5 @@
 -- Numbers in decimal digits.
-use Rattle.std.proofs.Common.{◌≡◌, ℕ, ◌+◌, ◌-◌, ◌<◌, ◌≤◌, ◌^◌, Bool, true, false, nat_le, le-leb, ap, List, length, Option, None, Some, Result, Ok, Err, refl, arith, rules}
+use Rattle.std.proofs.Common.{◌≡◌, ℕ, ◌-◌, ◌<◌, ◌≤◌, ◌^◌, Bool, true, false, nat_le, le-leb, ap, List, length, None, Some, Result, Ok, Err, refl, arith, rules}
 use Rattle.std.specs.Char.{is_ascii_digit}
 use Rattle.std.specs.List.{list_all}
 use Rattle.std.specs.Result.{result_ok}
@@ -8,7 +8,7 @@ use Rattle.std.proofs.lemmas.Bool.Decides.{nat_tests}
 use Rattle.std.proofs.lemmas.Str.Parse.{IsNumeralModel, numerals_by_value, parse_digits}
 use Rattle.script_text.specs.Words.{number_of}
 
-own : IsNumeralModel (λ ds. list_all is_ascii_digit ds ≡ true) (digits_value 10)
+pub own : IsNumeralModel (λ ds. list_all is_ascii_digit ds ≡ true) (digits_value 10)
 own = numerals_by_value _ (search rules)
 
 -- a number that does not fit is none

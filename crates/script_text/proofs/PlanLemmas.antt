@@ -1,11 +1,10 @@
 -- Plans with a last item changed, and the bytes that they ask for.
-use Rattle.std.proofs.Common.{◌≡◌, ℕ, ◌+◌, ◌-◌, ◌<◌, ◌≤◌, Bool, true, false, List, [], ◌∷◌, ◌++◌, length, set, get_or, sum_by, slice_get, not, ◌==◌, Option, Some, None, refl, ap, sym, ◌∙◌, arith, rules}
+use Rattle.std.proofs.Common.{◌≡◌, ℕ, ◌+◌, ◌-◌, ◌<◌, Bool, true, false, List, [], ◌∷◌, length, set, get_or, sum_by, slice_get, not, ◌==◌, Some, None, refl, ap, sym, ◌∙◌, arith, rules}
 use Rattle.std.proofs.lemmas.Bool.Decides.{nat_tests}
 use Rattle.std.proofs.lemmas.List.Sums.{sum_by-cons, sum_by_push}
 use Rattle.std.proofs.lemmas.Option.{get_or_from_slice_get, slice_get-get_or}
 use Rattle.history.specs.declared.order.Order.{Order}
 use Rattle.script_text.specs.declared.grammar.plans.DiskPlan.{DiskPlan}
-use Rattle.script_text.specs.declared.grammar.plans.ClientPlan.{ClientPlan}
 use Rattle.script_text.specs.Plans.{on_last, last_is, has_some, disk_plan, with_disk, add_client, with_client, add_order, add_last_order, with_order, has_client, request_bytes, client_bytes, disk_bytes, requested}
 
 set_at_end : {X : Type 0} (f : X → X) (y : X) (more : List X) (x : X) → x ≡ get_or (y ∷ more) (length more) x → set (y ∷ more) (length more) (f x) ≡ on_last f (y ∷ more)
@@ -71,15 +70,15 @@ pub requested_order : (order : Order) (plans : List DiskPlan) → has_client pla
 unfolding requested
 requested_order order plans has =
     sum_on_last disk_bytes (add_last_order order) (λ disk. has_some disk.clients) (request_bytes order)
-      (λ disk some. sum_on_last client_bytes (add_order order) (λ client. true) (request_bytes order) (λ client _. sum_by_push request_bytes client.orders order) disk.clients (some_last disk.clients some))
-      plans has
+    (λ disk some. sum_on_last client_bytes (add_order order) (λ client. true) (request_bytes order) (λ client _. sum_by_push request_bytes client.orders order) disk.clients (some_last disk.clients some))
+    plans has
 
 -- a further client asks for none
 pub requested_client : (plans : List DiskPlan) → has_some plans ≡ true → requested (with_client plans) ≡ requested plans
 unfolding requested
 requested_client plans has =
     sum_on_last disk_bytes (add_client (record { orders = [] })) (λ disk. true) 0
-      (λ disk _. sum_by_push client_bytes disk.clients (record { orders = [] })) plans (some_last plans has)
+    (λ disk _. sum_by_push client_bytes disk.clients (record { orders = [] })) plans (some_last plans has)
     ∙ omega arith
 
 -- nor does a further disk

@@ -1,5 +1,5 @@
 -- The lines of tokens.
-use Rattle.std.proofs.Common.{◌≡◌, ℕ, ◌<◌, List, ◌++◌, length, get_or, slice_get, Option, Some, Result, IfOk, refl, ap, sym, ◌∙◌}
+use Rattle.std.proofs.Common.{◌≡◌, ℕ, ◌<◌, List, ◌++◌, length, get_or, slice_get, Option, Some, Result, IfOk, refl, sym}
 use Rattle.std.proofs.lemmas.Option.{slice_get_read}
 use Rattle.history.specs.declared.entry.Entry.{Entry}
 use Rattle.history.specs.Marks.{mark_of}

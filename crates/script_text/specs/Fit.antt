@@ -3,7 +3,7 @@ use Rattle.std.specs.Prelude.{◌≡◌, ℕ, ◌^◌, ◌<◌, ◌≤◌, Bool,
 use Rattle.std.specs.List.{list_all}
 use Rattle.history.specs.declared.entry.Asked.{Asked}
 use Rattle.history.specs.declared.entry.Kind.{Kind}
-use Rattle.history.specs.declared.entry.Kind.TheVariants.{Read, Write, Flush}
+use Rattle.history.specs.declared.entry.Kind.TheVariants.{Read, Write}
 use Rattle.history.specs.declared.entry.UnitKind.TheVariants.{Bytes}
 use Rattle.history.specs.declared.order.Order.{Order}
 use Rattle.history.specs.declared.order.Order.TheVariants.{Request, Wait}
@@ -59,3 +59,8 @@ pub record IsDisk (disk : DiskPlan) : Type 0 where
 unfoldable pub AreDisks : List DiskPlan → Type 0
 AreDisks [] = Unit {0}
 AreDisks (disk ∷ more) = IsDisk disk × AreDisks more
+
+-- one disk with one client
+abbrev pub IsSingle : List DiskPlan → Type 0
+IsSingle (disk ∷ []) = length disk.clients ≡ 1
+IsSingle disks = ⊥

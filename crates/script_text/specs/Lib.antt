@@ -7,6 +7,4 @@ pub mod Entries
 pub mod Report
 pub mod Law
 pub mod Held
-pub mod Held
-pub mod Faults
 pub mod Answers

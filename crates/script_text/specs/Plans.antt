@@ -1,6 +1,6 @@
 -- What a script plans, as far as its lines were read: disks in order, with clients and their lines in order (own profile).
-use Rattle.std.specs.Prelude.{ℕ, ◌+◌, Bool, true, false, not, ◌&&◌, ◌||◌, nat_le, nat_lt, nat_eq, ◌==◌, List, [], ◌∷◌, ◌++◌, length, sum_by, bytes_eq}
-use Rattle.std.specs.List.{list_any, list_all}
+use Rattle.std.specs.Prelude.{ℕ, Bool, true, false, ◌&&◌, ◌==◌, List, [], ◌∷◌, ◌++◌, length, sum_by, bytes_eq}
+use Rattle.std.specs.List.{list_any}
 use Rattle.history.specs.declared.order.Order.{Order}
 use Rattle.history.specs.declared.order.Order.TheVariants.{Request, Wait}
 use Rattle.script_text.specs.declared.grammar.plans.DiskPlan.{DiskPlan}
@@ -68,3 +68,7 @@ disk_bytes disk = sum_by client_bytes disk.clients
 -- the bytes that all lines ask for in sum
 unfoldable pub requested : List DiskPlan → ℕ
 requested plans = sum_by disk_bytes plans
+
+-- one disk with one client
+abbrev pub is_single : List DiskPlan → Bool
+is_single plans = length plans == 1 && last_is (λ disk. length disk.clients == 1) plans

@@ -1,12 +1,10 @@
 -- What a script says: the plans of its disks, or its first faulty line with the first reason that holds (own profile).
-use Rattle.std.specs.Prelude.{ℕ, ◌+◌, Bool, true, false, not, ◌&&◌, nat_le, nat_lt, if◌then◌else◌, List, [], ◌∷◌, length, codes, bytes_eq, ok_or, Result, Ok, Err}
+use Rattle.std.specs.Prelude.{ℕ, ◌+◌, not, ◌&&◌, nat_le, nat_lt, if◌then◌else◌, List, [], ◌∷◌, length, codes, bytes_eq, ok_or, Result, Ok, Err}
 use Rattle.std.specs.List.{list_any, list_all}
-use Rattle.history.specs.declared.entry.Asked.{Asked}
 use Rattle.history.specs.declared.entry.Kind.TheVariants.{Read, Write}
 use Rattle.history.specs.declared.entry.UnitKind.TheVariants.{Bytes}
 use Rattle.history.specs.declared.order.Order.{Order}
 use Rattle.history.specs.declared.order.Order.TheVariants.{Request, Wait}
-use Rattle.history.specs.declared.order.Payload.{Payload}
 use Rattle.history.specs.declared.order.Payload.TheVariants.{Given, Nothing}
 use Rattle.medium.specs.Device.{is_block_size}
 use Rattle.script_text.specs.declared.grammar.limits.TheConstants.{SCRIPT_BYTES, REQUEST_BYTES, ALL_REQUEST_BYTES, NAME_BYTES, DISKS, CLIENTS, WORKERS}
@@ -15,7 +13,7 @@ use Rattle.script_text.specs.declared.grammar.refusal.Reason.TheVariants.{Form, 
 use Rattle.script_text.specs.declared.grammar.refusal.Reason.TheVariants as why
 use Rattle.script_text.specs.declared.grammar.plans.DiskPlan.{DiskPlan}
 use Rattle.script_text.specs.Words.{lines_of, words_of, is_comment, is_line_byte, number_of, hex_of, is_fixed}
-use Rattle.script_text.specs.Plans.{has_some, last_is, disk_plan, with_disk, with_client, with_order, has_client, has_image, requested, request_bytes}
+use Rattle.script_text.specs.Plans.{has_some, last_is, disk_plan, with_disk, with_client, with_order, has_client, has_image, requested, request_bytes, is_single}
 
 -- the next step, where the one before has an answer
 infixl 10 ◌>>=◌
@@ -120,9 +118,9 @@ lines_say number plans (line ∷ rest) = do
   more ← at_line number (line_says plans line)
   lines_say (number + 1) more rest
 
--- a script has a disk with a client
+-- this version takes one disk with one client
 unfoldable pub whole_script : List DiskPlan → Result (List DiskPlan) (ℕ × Reason)
-whole_script plans = if has_client plans then Ok plans else Err (0, why.Order)
+whole_script plans = if is_single plans then Ok plans else Err (0, why.Order)
 
 -- the plans that the bytes say, or the first faulty line with the first reason that holds; line 0 is the script as a whole
 unfoldable pub script_of : List ℕ → Result (List DiskPlan) (ℕ × Reason)

@@ -1,6 +1,6 @@
 -- The lines and words of a script, and what a word says (own profile).
-use Rattle.std.specs.Prelude.{ℕ, ◌-◌, ◌^◌, ◌*◌, Bool, not, ◌&&◌, ◌||◌, ◌==◌, nat_le, if◌then◌else◌, List, [], ◌∷◌, length, map, filter, slice_index, codes, bytes_eq, Option, Some, None}
-use Rattle.std.specs.List.{slice_split, list_all, list_any}
+use Rattle.std.specs.Prelude.{ℕ, ◌-◌, ◌^◌, Bool, not, ◌&&◌, ◌||◌, ◌==◌, nat_le, if◌then◌else◌, List, [], length, map, filter, slice_index, codes, bytes_eq, Option, Some, None}
+use Rattle.std.specs.List.{slice_split, list_all}
 use Rattle.std.specs.Result.{result_ok}
 use Rattle.std.specs.Char.{is_ascii_digit}
 use Rattle.std.specs.Str.Lines.{strip_carriage_return}

@@ -4,7 +4,9 @@ use crate::report::parts::{KeptMedium, ReportFault, TokenLine};
 use crate::report::pieces;
 use crate::report::tokens::{medium_line, token_line};
 use crate::report::writer::add_entries;
-use crate::{Reason, Script, ScriptRefused, read_script, report_body, report_head};
+use crate::{
+    Reason, Script, ScriptRefused, lines_tell_entries, read_script, report_body, report_head,
+};
 use byte_lists::Bytes;
 use efi_status::Status;
 use history::{Asked, Command, Entry, History, Kind, Order, Payload, UnitKind, View};
@@ -12,12 +14,17 @@ use image_store::MemSink;
 use std::alloc::{AllocError, Global};
 use std::test::Fail;
 
-const NAME_OF_255: &str = "nnnnnnnnnnnnnnnnnnnnnnnnnnnnnnnnnnnnnnnnnnnnnnnnnnnnnnnnnnnnnnnnnnnnnnnnnnnnnnnnnnnnnnnnnnnnnnnnnnnnnnnnnnnnnnnnnnnnnnnnnnnnnnnnnnnnnnnnnnnnnnnnnnnnnnnnnnnnnnnnnnnnnnnnnnnnnnnnnnnnnnnnnnnnnnnnnnnnnnnnnnnnnnnnnnnnnnnnnnnnnnnnnnnnnnnnnnnnnnnnnnnnnnnnnnnnnnn";
+const NAME_OF_255: &str =
+    "nnnnnnnnnnnnnnnnnnnnnnnnnnnnnnnnnnnnnnnnnnnnnnnnnnnnnnnnnnnnnnnnnnnnnnnnnnnnnnnnnnnnnnnnnnnnnnnnnnnnnnnnnnnnnnnnnnnnnnnnnnnnnnnnnnnnnnnnnnnnnnnnnnnnnnnnnnnnnnnnnnnnnnnnnnnnnnnnnnnnnnnnnnnnnnnnnnnnnnnnnnnnnnnnnnnnnnnnnnnnnnnnnnnnnnnnnnnnnnnnnnnnnnnnnnnnnnn";
 
 fn shown_order(alloc: Global, order: &Order) -> Result<String, AllocError> {
     match order {
         Order::Wait => String::from_str(alloc, " wait"),
-        Order::Request { asked, payload, media_id } => {
+        Order::Request {
+            asked,
+            payload,
+            media_id,
+        } => {
             let Asked { at, length, .. } = *asked;
             match payload {
                 Payload::Nothing => format!(in alloc; " read {at} {length} @{media_id}"),
@@ -75,12 +82,27 @@ const SCRIPTS: [(&[u8], &str); 40] = [
         b"disk a.img 512 1\nclient\nwrite 510 aabbccdd\nwait\nread 508 8\n",
         "5 512 write 510 4 aabbccdd @1 wait read 508 8 @1",
     ),
-    (b"disk a 4096 1\nclient\nwrite 0 -\n", "1 4096 write 0 0  @1"),
-    (b"disk a 1024 1\nclient\nwrite 0 aBCdeF\n", "1 1024 write 0 3 abcdef @1"),
-    (b"disk a 2048 01\r\nclient\r\nread 00 18\r", "1 2048 read 0 18 @1"),
-    (b"\n# x\n   \n\r\n  disk   a  512 1 \nclient\n#\n wait ", "1 512 wait"),
+    (
+        b"disk a 4096 1\nclient\nwrite 0 -\n",
+        "1 4096 write 0 0  @1",
+    ),
+    (
+        b"disk a 1024 1\nclient\nwrite 0 aBCdeF\n",
+        "1 1024 write 0 3 abcdef @1",
+    ),
+    (
+        b"disk a 2048 01\r\nclient\r\nread 00 18\r",
+        "1 2048 read 0 18 @1",
+    ),
+    (
+        b"\n# x\n   \n\r\n  disk   a  512 1 \nclient\n#\n wait ",
+        "1 512 wait",
+    ),
     (b"disk disk 512 1\nclient", "4 512"),
-    (b"disk a 512 1\nclient\nread 18446744073709551615 16777216", "1 512 read 18446744073709551615 16777216 @1"),
+    (
+        b"disk a 512 1\nclient\nread 18446744073709551615 16777216",
+        "1 512 read 18446744073709551615 16777216 @1",
+    ),
     (b"", "line 0 order"),
     (b"disk a 512 1\n", "line 0 order"),
     (b"client\n", "line 1 order"),
@@ -101,8 +123,14 @@ const SCRIPTS: [(&[u8], &str); 40] = [
     (b"disk a 512 1\r\r\n", "line 1 form"),
     (b"disk a x 1\n", "line 1 number"),
     (b"disk a +512 1\n", "line 1 number"),
-    (b"disk a 512 1\nclient\nread 18446744073709551616 1\n", "line 3 number"),
-    (b"disk a 512 1\nclient\nread 000000000000000000000 1\n", "line 3 number"),
+    (
+        b"disk a 512 1\nclient\nread 18446744073709551616 1\n",
+        "line 3 number",
+    ),
+    (
+        b"disk a 512 1\nclient\nread 000000000000000000000 1\n",
+        "line 3 number",
+    ),
     (b"disk a 512 1\nclient\nread - 1\n", "line 3 number"),
     (b"disk a 512 1\nclient\nwrite x x\n", "line 3 number"),
     (b"disk a 512 1\nclient\nwrite 0 aab\n", "line 3 hex"),
@@ -124,13 +152,19 @@ fn scripts(rt: HostRuntime) -> Result<(), Fail> {
     let named = format!(in rt.alloc(); "disk {NAME_OF_255} 512 1\nclient")?;
     assert_eq!(rt; shown(rt.alloc(), named.as_bytes())?.as_str(), "255 512");
     let named = format!(in rt.alloc(); "disk x{NAME_OF_255} 512 1\nclient")?;
-    assert_eq!(rt; shown(rt.alloc(), named.as_bytes())?.as_str(), "line 1 name");
+    assert_eq!(rt;
+        shown(rt.alloc(), named.as_bytes())?.as_str(),
+        "line 1 name"
+    );
     let mut full = String::from_str(rt.alloc(), "disk a 512 1\nclient\n")?;
     for _ in 0..16 {
         full.push_str("read 0 16777216\n")?;
     }
     full.push_str("write 0 -\nwrite 0 00\n")?;
-    assert_eq!(rt; shown(rt.alloc(), full.as_bytes())?.as_str(), "line 20 limit");
+    assert_eq!(rt;
+        shown(rt.alloc(), full.as_bytes())?.as_str(),
+        "line 20 limit"
+    );
     let long = vec![in rt.alloc(); b'#'; 4194305]?;
     assert_eq!(rt; shown(rt.alloc(), &long)?.as_str(), "line 0 size");
     assert_eq!(rt; shown(rt.alloc(), &long[1..])?.as_str(), "line 0 order");
@@ -186,7 +220,10 @@ fn add_commands(entries: &mut Vec<Entry>, token: u64) -> Result<(), AllocError> 
     let commands = [
         Command::Fetch { block: 7 },
         Command::Store { block: 7 },
-        Command::Put { block: 7, count: 64 },
+        Command::Put {
+            block: 7,
+            count: 64,
+        },
         Command::Get { block: 7, count: 2 },
         Command::Sync,
     ];
@@ -210,10 +247,16 @@ fn add_others(entries: &mut Vec<Entry>) -> Result<(), AllocError> {
         status: Status::MediaChanged,
     })?;
     entries.push(Entry::Collect { tag: 4, token: 5 })?;
-    entries.push(Entry::Cancel { tag: 6, view: WHOLE })?;
+    entries.push(Entry::Cancel {
+        tag: 6,
+        view: WHOLE,
+    })?;
     entries.push(Entry::Reset { tag: 7 })?;
     entries.push(Entry::Eject { tag: 8 })?;
-    entries.push(Entry::Insert { tag: 9, media_id: 2 })?;
+    entries.push(Entry::Insert {
+        tag: 9,
+        media_id: 2,
+    })?;
     entries.push(Entry::Protect { tag: 10, on: true })?;
     entries.push(Entry::Protect { tag: 11, on: false })?;
     Ok(())
@@ -257,32 +300,45 @@ fn lines_of_a_report(rt: HostRuntime) -> Result<(), Fail> {
         status: Status::Success,
         given: Some(Bytes::copy_of(alloc, &[0xAB, 0x01])?),
     };
-    assert_eq!(rt; token_line(alloc, 3, &end)?.as_str(), "token 3 EFI_SUCCESS ab01\n");
+    assert_eq!(rt;
+        token_line(alloc, 3, &end)?.as_str(),
+        "token 3 EFI_SUCCESS ab01\n"
+    );
     let end = TokenLine {
         status: Status::Success,
         given: Some(Bytes::copy_of(alloc, &[])?),
     };
-    assert_eq!(rt; token_line(alloc, 4, &end)?.as_str(), "token 4 EFI_SUCCESS -\n");
+    assert_eq!(rt;
+        token_line(alloc, 4, &end)?.as_str(),
+        "token 4 EFI_SUCCESS -\n"
+    );
     let end = TokenLine {
         status: Status::Aborted,
         given: None,
     };
-    assert_eq!(rt; token_line(alloc, 5, &end)?.as_str(), "token 5 EFI_ABORTED\n");
+    assert_eq!(rt;
+        token_line(alloc, 5, &end)?.as_str(),
+        "token 5 EFI_ABORTED\n"
+    );
     let medium = KeptMedium {
         name: Name::copy_of(alloc, "a.img")?,
         bytes: 1024,
     };
-    assert_eq!(rt; medium_line(alloc, 1, &medium)?.as_str(), "medium 1 a.img kept 1024\n");
+    assert_eq!(rt;
+        medium_line(alloc, 1, &medium)?.as_str(),
+        "medium 1 a.img kept 1024\n"
+    );
     Ok(())
 }
 
 #[test]
 fn whole_reports(rt: HostRuntime) -> Result<(), Fail> {
     let alloc = rt.alloc();
+    lines_tell_entries();
     let plan = DiskPlan {
         image: Name::copy_of(alloc, "a.img")?,
         size: 512,
-        clients: Items::from_vec(Vec::new(alloc)),
+        clients: Items::from_vec(Items::from_vec(Vec::new(alloc)).into_vec()),
     };
     let history = History::make(alloc, 0)?;
     let media = [KeptMedium {
@@ -291,8 +347,14 @@ fn whole_reports(rt: HostRuntime) -> Result<(), Fail> {
     }];
     let mut out = MemSink::make(alloc, Vec::new(alloc));
     assert_eq!(rt; report_head(alloc, 1, &plan, 2, &mut out), Ok(()));
-    assert_eq!(rt; report_body(alloc, &plan, &history, &[], &media, &mut out), Ok(()));
-    assert_eq!(rt; out.bytes(), b"disk 1 a.img size 512 blocks 2\nmedium 1 a.img kept 1024\n".as_slice());
+    assert_eq!(rt;
+        report_body(alloc, &plan, &history, &[], &media, &mut out),
+        Ok(())
+    );
+    assert_eq!(rt;
+        out.bytes(),
+        b"disk 1 a.img size 512 blocks 2\nmedium 1 a.img kept 1024\n".as_slice()
+    );
     Ok(())
 }
 
@@ -311,7 +373,14 @@ fn sink_that_fails(rt: HostRuntime) -> Result<(), Fail> {
             Ok(()) => pieces::put(&mut out, held.as_str()),
             Err(fault) => Err(fault),
         };
-        assert_eq!(rt; put, if failing < 3 { Err(ReportFault::Failed) } else { Ok(()) });
+        assert_eq!(rt;
+            put,
+            if failing < 3 {
+                Err(ReportFault::Failed)
+            } else {
+                Ok(())
+            }
+        );
         let first = entry_line(alloc, 0, &Entry::Reset { tag: 0 })?;
         assert_eq!(rt; out.bytes().starts_with(first.as_bytes()), failing > 0);
     }

@@ -1,5 +1,5 @@
 ghost use Rattle.std.specs.Prelude.{◌≡◌, ◌+◌, ◌≤◌, ◌<◌, true, length, [], OnOk, IfOk, nat_lt, nat_le, ◌&&◌};
-ghost use Rattle.script_text.specs.Plans.{has_some, last_is, disk_plan, with_disk, with_client, with_order, has_client, has_image, requested, request_bytes};
+ghost use Rattle.script_text.specs.Plans.{has_some, last_is, disk_plan, with_disk, with_client, with_order, has_client, has_image, requested, request_bytes, is_single};
 ghost use Rattle.script_text.specs.declared.grammar.limits.TheConstants.{ALL_REQUEST_BYTES, REQUEST_BYTES, CLIENTS, DISKS};
 
 use crate::grammar::limits::{ALL_REQUEST_BYTES, CLIENTS, DISKS, REQUEST_BYTES};
@@ -68,9 +68,7 @@ impl Draft {
     pub fn has_image(&self, image: &str) -> bool
         ensures { result ≡ has_image image.now self.now }
     {
-        self.disks
-            .iter()
-            .any(|disk| disk.image.as_str() == image)
+        self.disks.iter().any(|disk| disk.image.as_str() == image)
     }
 
     pub fn has_disk_room(&self) -> bool
@@ -87,6 +85,18 @@ impl Draft {
             Some(disk) => (disk.clients.as_slice().len() as u64) < CLIENTS,
             None => false,
         }
+    }
+
+    /// Whether there is one disk with one client.
+    #[tactic(auto, using(crate::proofs::PlanLemmas::last_from_get, crate::proofs::PlanLemmas::no_last))]
+    pub fn is_single(&self) -> bool
+        ensures { result ≡ is_single self.now }
+    {
+        let one_client = match self.disks.last() {
+            Some(disk) => disk.clients.as_slice().len() == 1,
+            None => false,
+        };
+        self.disks.len() == 1 && one_client
     }
 
     pub fn has_request_room(&self, bytes: u64) -> bool

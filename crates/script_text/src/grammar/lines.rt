@@ -13,8 +13,8 @@ use history::{Asked, Kind, Order, Payload, UnitKind};
 use std::alloc::Global;
 use std::str;
 
-#[tactic(auto, using(crate::proofs::Clean::clean_is_text), unfolding(crate::specs::Script::line_says))]
 /// A line of the script.
+#[tactic(auto, using(crate::proofs::Clean::clean_is_text), unfolding(crate::specs::Script::line_says))]
 pub fn read_line(alloc: Global, draft: Draft, line: &[u8]) -> Result<Draft, LineRefused>
     ensures { Says (line_says draft line.now) result }
 {
@@ -149,7 +149,14 @@ fn write_line(alloc: Global, draft: Draft, words: &[&str]) -> Result<Draft, Line
         length: bytes.len() as u64,
     };
     let payload = Payload::Given(Bytes::from_vec(bytes));
-    plan_order(draft, Order::Request { asked, payload, media_id: 1 })
+    plan_order(
+        draft,
+        Order::Request {
+            asked,
+            payload,
+            media_id: 1,
+        },
+    )
 }
 
 #[tactic(auto, unfolding(crate::specs::Script::read_line))]
@@ -171,7 +178,14 @@ fn read_request_line(draft: Draft, words: &[&str]) -> Result<Draft, LineRefused>
         at,
         length,
     };
-    plan_order(draft, Order::Request { asked, payload: Payload::Nothing, media_id: 1 })
+    plan_order(
+        draft,
+        Order::Request {
+            asked,
+            payload: Payload::Nothing,
+            media_id: 1,
+        },
+    )
 }
 
 #[tactic(auto, unfolding(crate::specs::Script::wait_line))]

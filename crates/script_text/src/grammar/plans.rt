@@ -36,14 +36,6 @@ impl Name {
         Name { text }
     }
 
-    /// Gives the text back, which takes no memory.
-    pub fn into_string(self) -> String
-        ensures { string_bytes result ≡ self }
-    {
-        let Name { text } = self;
-        text
-    }
-
     /// The name itself.
     pub fn as_str(&self) -> &str
         ensures { result.now ≡ self.now }
@@ -104,6 +96,7 @@ impl<T> Items<T> {
 /// A client of a disk: its lines in order (own profile).
 #[derive(Drop)]
 pub struct ClientPlan {
+    /// Its lines in order.
     pub orders: Items<Order>,
 }
 
@@ -114,6 +107,7 @@ pub struct DiskPlan {
     pub image: Name,
     /// The size of a block in bytes.
     pub size: u32,
+    /// Its clients in order; one in this version.
     pub clients: Items<ClientPlan>,
 }
 
@@ -149,5 +143,6 @@ fn add_to_last(clients: &mut Items<ClientPlan>, order: Order) -> Result<(), Allo
 /// What a script says: its disks in order (own profile).
 #[derive(Drop)]
 pub struct Script {
+    /// Its disks in order; one in this version.
     pub disks: Items<DiskPlan>,
 }

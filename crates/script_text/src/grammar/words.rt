@@ -8,8 +8,8 @@ ghost use Rattle.script_text.specs.Words.{words_of, is_comment, is_line_byte, is
 use hex::FromHexError;
 use std::alloc::{AllocError, Global};
 
-#[tactic(auto, using(crate::proofs::Cuts::cut_found, crate::proofs::Cuts::cut_nowhere))]
 /// The bytes before the first line feed, and those behind it where there is one.
+#[tactic(auto, using(crate::proofs::Cuts::cut_found, crate::proofs::Cuts::cut_nowhere))]
 pub fn cut_line(bytes: &[u8]) -> (&[u8], Option<&[u8]>)
     ensures cut { slice_split (λ b. b == 10) bytes.now
         ≡ result.0.now ∷ option_map_or (λ rest. slice_split (λ b. b == 10) rest.now) result.1 [] }
@@ -81,8 +81,8 @@ fn is_fixed(word: &str) -> bool
         || word == "off"
 }
 
-#[tactic(auto, using(crate::proofs::Numbers::number_parsed, crate::proofs::Numbers::no_number_long, crate::proofs::Numbers::no_number_other))]
 /// The number that the word writes in decimal digits.
+#[tactic(auto, using(crate::proofs::Numbers::number_parsed, crate::proofs::Numbers::no_number_long, crate::proofs::Numbers::no_number_other))]
 pub fn number_of(word: &str) -> Option<u64>
     ensures { result ≡ number_of word.now }
 {
@@ -98,8 +98,8 @@ fn is_digits(word: &[u8]) -> bool
     word.iter().all(|b| b.is_ascii_digit())
 }
 
-#[tactic(auto, unfolding(crate::specs::Words::hex_of))]
 /// The bytes that the word writes in hexadecimal digits. The error is want of memory.
+#[tactic(auto, unfolding(crate::specs::Words::hex_of))]
 pub fn hex_of(alloc: Global, word: &str) -> Result<Option<Vec<u8>>, AllocError>
     ensures { IfOk result (λ found. option_map (λ bytes. bytes.items) found ≡ hex_of word.now) }
 {

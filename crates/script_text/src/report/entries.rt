@@ -23,7 +23,12 @@ impl fmt::Display for ViewText {
     ghost output = { λ shown. Some (view_text shown.view) };
 
     fn fmt<W: fmt::Write>(&self, f: &mut fmt::Formatter<W>) -> fmt::Result {
-        let View { start, length, media_id, index } = self.view;
+        let View {
+            start,
+            length,
+            media_id,
+            index,
+        } = self.view;
         write!(f, "{start}+{length}@{media_id}/{index}")
     }
 }
@@ -82,14 +87,25 @@ pub fn entry_line(alloc: Global, place: u64, entry: &Entry) -> Result<String, Al
     ensures { IfOk result (λ text. string_bytes text ≡ line_text place entry.now) }
 {
     match entry {
-        Entry::Accept { tag, view, asked, bytes } => {
-            accept_line(alloc, place, *tag, *view, *asked, bytes.as_slice())
-        }
-        Entry::Refuse { tag, view, asked, media_id, status } => {
-            refuse_line(alloc, place, *tag, *view, *asked, *media_id, *status)
-        }
+        Entry::Accept {
+            tag,
+            view,
+            asked,
+            bytes,
+        } => { accept_line(alloc, place, *tag, *view, *asked, bytes.as_slice()) }
+        Entry::Refuse {
+            tag,
+            view,
+            asked,
+            media_id,
+            status,
+        } => { refuse_line(alloc, place, *tag, *view, *asked, *media_id, *status) }
         Entry::Done { token, command } => done_line(alloc, place, *token, *command),
-        Entry::Fault { token, command, done } => fault_line(alloc, place, *token, *command, *done),
+        Entry::Fault {
+            token,
+            command,
+            done,
+        } => fault_line(alloc, place, *token, *command, *done),
         Entry::Collect { tag, token } => format!(in alloc; "{place} collect {tag} {token}\n"),
         Entry::Cancel { tag, view } => {
             let view = ViewText { view: *view };

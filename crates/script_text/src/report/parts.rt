@@ -1,12 +1,11 @@
 use crate::Name;
 use byte_lists::Bytes;
 use efi_status::Status;
-use image_store::PutFault;
-use std::alloc::AllocError;
 
 /// How a token ended, and what it gave back (own profile).
 #[derive(Drop)]
 pub struct TokenLine {
+    /// The status with which the token ended.
     pub status: Status,
     /// The bytes of a successful read whose tag is not 0, and nothing for another token.
     pub given: Option<Bytes>,
@@ -28,29 +27,4 @@ pub enum ReportFault {
     Failed,
     /// Memory ran out.
     Memory,
-}
-
-impl From<PutFault> for ReportFault {
-    ghost use Rattle.std.specs.Prelude.{◌≡◌};
-    ghost use Rattle.script_text.specs.Faults.{report_fault};
-
-    ghost from_gives = { λ fault out. out ≡ report_fault fault };
-
-    fn from(fault: PutFault) -> ReportFault {
-        match fault {
-            PutFault::Failed => ReportFault::Failed,
-            PutFault::Memory => ReportFault::Memory,
-        }
-    }
-}
-
-impl From<AllocError> for ReportFault {
-    ghost use Rattle.std.specs.Prelude.{◌≡◌};
-    ghost use Rattle.script_text.specs.declared.report.parts.ReportFault.TheVariants.{Memory};
-
-    ghost from_gives = { λ _ fault. fault ≡ Memory };
-
-    fn from(_error: AllocError) -> ReportFault {
-        ReportFault::Memory
-    }
 }

@@ -21,8 +21,8 @@ pub fn put<O: Sink>(out: &mut O, text: &str) -> Result<(), ReportFault>
     }
 }
 
-#[tactic(auto, using(crate::proofs::HeldText::none_put, crate::proofs::HeldText::still_held, crate::proofs::HeldText::all_put), unfolding(crate::specs::Held::Adds))]
 /// Adds a line to what is held back, and puts that where it is a piece.
+#[tactic(auto, using(crate::proofs::HeldText::none_put, crate::proofs::HeldText::still_held, crate::proofs::HeldText::all_put), unfolding(crate::specs::Held::Adds))]
 pub fn add<O: Sink>(held: &mut String, out: &mut O, line: &str) -> Result<(), ReportFault>
     ensures text { Adds (O.wrote out.old) (string_bytes held.old) result (O.wrote out.new) (string_bytes held.new) line.now }
     ensures cause { HasCauseOf ReportFault.Failed (O.faults out.old) (O.faults out.new) result }
@@ -43,8 +43,8 @@ pub fn add<O: Sink>(held: &mut String, out: &mut O, line: &str) -> Result<(), Re
     }
 }
 
-#[tactic(auto, using(crate::proofs::HeldText::none_put), unfolding(crate::specs::Held::Adds))]
 /// Adds a line that was made, or hands its want of memory on.
+#[tactic(auto, using(crate::proofs::HeldText::none_put), unfolding(crate::specs::Held::Adds))]
 pub fn add_made<O: Sink>(
     held: &mut String,
     out: &mut O,

@@ -7,15 +7,14 @@ ghost use Rattle.script_text.specs.Report.{head_text, body_text, tokens_text, me
 use crate::grammar::plans::DiskPlan;
 use crate::report::entries::entry_line;
 use crate::report::parts::{KeptMedium, ReportFault, TokenLine};
-use crate::report::pieces;
-use crate::report::tokens;
+use crate::report::{pieces, tokens};
 use history::{Entry, History};
 use image_store::Sink;
 use std::alloc::Global;
 
-#[tactic(auto, using(crate::proofs::HeldText::none_put))]
 /// Writes the first line of a disk: its number from 1, its image, its block size in bytes, and its blocks (own profile).
 /// After a fault a front of the line was written. `Failed` comes only where the sink's faults rose.
+#[tactic(auto, using(crate::proofs::HeldText::none_put))]
 pub fn report_head<O: Sink>(
     alloc: Global,
     number: u32,
@@ -110,7 +109,11 @@ fn add_media<O: Sink>(
     ensures cause { HasCauseOf ReportFault.Failed (O.faults out.old) (O.faults out.new) result }
 {
     for (place, medium) in media.iter().enumerate() {
-        match pieces::add_made(held, out, tokens::medium_line(alloc, place as u64 + 1, medium)) {
+        match pieces::add_made(
+            held,
+            out,
+            tokens::medium_line(alloc, place as u64 + 1, medium),
+        ) {
             Ok(()) => {}
             Err(fault) => return Err(fault),
         }

@@ -6,4 +6,4 @@ use Rattle.script_text.proofs.grammar.draft.order_to_last.Goals as goal
 pub returns : goal.returns
 returns c =
     rw c.in_ok-add_order.ensures
-      (set_last (add_last_order c.args.order) c.args.disks.now.items _ c.index_mut-disk.result.now (client_length _ c.requires) (omega (arith, c.len-last.ensures, c.args.disks.now.ok)) c.index_mut-disk.ensures.value)
+    (set_last (add_last_order c.args.order) c.args.disks.now.items _ c.index_mut-disk.result.now (client_length _ c.requires) (omega (arith, c.len-last.ensures, c.args.disks.now.ok)) c.index_mut-disk.ensures.value)

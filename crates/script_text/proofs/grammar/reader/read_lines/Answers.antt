@@ -8,7 +8,7 @@ lines-init c = record { said = refl; few = omega arith }
 pub returns-in-Err-Faulty : goal.returns-in-Err-Faulty
 returns-in-Err-Faulty c =
     rw c.in-Err-Faulty.reason-is
-      (fault_said _ _ _ _ _ _ c.cut_line.result.1 _ _ c.in-Some.is c.cut_line.ensures.cut c.without_return.ensures c.lines.invariant.said (rw c.in-Err-Faulty.field-0-is at c.in-Err-Faulty.ensures))
+    (fault_said _ _ _ _ _ _ c.cut_line.result.1 _ _ c.in-Some.is c.cut_line.ensures.cut c.without_return.ensures c.lines.invariant.said (rw c.in-Err-Faulty.field-0-is at c.in-Err-Faulty.ensures))
 
 pub lines-preserved : goal.lines-preserved
 lines-preserved c = record {

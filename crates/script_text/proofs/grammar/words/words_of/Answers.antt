@@ -9,6 +9,6 @@ pub returns : goal.returns
 unfolding words_of
 returns c =
     map_from_collect _ c.collect.ensures.ran
-      (YieldsList-from_filter _ (λ word. not (length word == 0))
-        (YieldsList-from_str_split 32 c.args.line.now (lit< tt) (cc) (cc) (cc))
-        c.filter.ensures.closure (λ x b q k. search (rules, nat_tests)))
+    (YieldsList-from_filter _ (λ word. not (length word == 0))
+    (YieldsList-from_str_split 32 c.args.line.now (lit< tt) (cc) (cc) (cc))
+    c.filter.ensures.closure (λ x b q k. search (rules, nat_tests)))

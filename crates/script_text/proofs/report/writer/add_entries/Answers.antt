@@ -1,4 +1,4 @@
-use Rattle.std.proofs.Common.{refl, arith}
+use Rattle.std.proofs.Common.{arith}
 use Rattle.script_text.specs.Held.{Adds}
 use Rattle.script_text.proofs.LineLoops.{none_added, one_added, stopped_in, all_added}
 use Rattle.script_text.proofs.Causes.{earlier_cause}

@@ -12,8 +12,8 @@ pub returns-in-Err-clause-text : goal.returns-in-Err-clause-text
 unfolding Adds
 returns-in-Err-clause-text g c =
     front_of_givens _ _ _ _ _ _
-      (stopped_in _ _ _ _ _ _ _ _ _ _ _ c.loop-token.invariant.added c.loop-token-test.true c.index-ends-token.is (omega arith)
-        (c.in-Err.ensures.text _ (line_of_end string_bytes _ _ _ _ _ _ c.requires c.loop-token-test.true c.index-ends-token.is c.token_line.ensures)))
+    (stopped_in _ _ _ _ _ _ _ _ _ _ _ c.loop-token.invariant.added c.loop-token-test.true c.index-ends-token.is (omega arith)
+    (c.in-Err.ensures.text _ (line_of_end string_bytes _ _ _ _ _ _ c.requires c.loop-token-test.true c.index-ends-token.is c.token_line.ensures)))
 
 pub returns-in-Err-clause-cause : goal.returns-in-Err-clause-cause
 returns-in-Err-clause-cause g c = earlier_cause _ _ _ _ _ c.loop-token.invariant.later c.in-Err.ensures.cause
@@ -22,7 +22,7 @@ pub loop-token-preserved : goal.loop-token-preserved
 unfolding Adds
 loop-token-preserved g c = record {
   added =
-    one_added _ _ _ _ _ _ _ _ _ _ _ _ c.loop-token.invariant.added c.loop-token-test.true c.index-ends-token.is (omega arith)
+      one_added _ _ _ _ _ _ _ _ _ _ _ _ c.loop-token.invariant.added c.loop-token-test.true c.index-ends-token.is (omega arith)
       (c.in-Ok.ensures.text _ (line_of_end string_bytes _ _ _ _ _ _ c.requires c.loop-token-test.true c.index-ends-token.is c.token_line.ensures));
   later = omega (arith, c.in-Ok.ensures.cause.later);
 }
