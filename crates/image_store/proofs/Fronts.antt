@@ -1,8 +1,8 @@
 -- Fronts of what is put into a sink or taken out of a source.
-use Rattle.std.proofs.Common.{◌≡◌, ℕ, ◌+◌, ◌-◌, ◌<◌, ◌≤◌, List, [], ◌++◌, length, take, drop, Option, None, Some, refl, ap, sym, arith}
+use Rattle.std.proofs.Common.{◌≡◌, ℕ, ◌+◌, ◌<◌, ◌≤◌, List, [], ◌++◌, length, take, drop, None, Some, refl, ap, sym, arith}
 use Rattle.std.proofs.lemmas.Grind.{common_steps}
 use Rattle.std.proofs.lemmas.List.{append-nil, drop-drop, take-append-drop, take_at, drop_all}
-use Rattle.image_store.specs.Edge.{Appends, AppendsFront, AppendsUpTo, TakesFront}
+use Rattle.image_store.specs.Edge.{Appends, AppendsFront, TakesFront}
 
 -- nothing was put
 pub none_put : (kept new b : List ℕ) → new ≡ kept → AppendsFront (Some kept) (Some new) b

@@ -20,11 +20,14 @@ pub record IsUncalled (list : List ℕ) (f : Failing) : Type 0 where
   pub calls : f.calls ≡ 0
   pub failing : f.list.items ≡ list
 
+-- the numbered calls of a source
 abbrev pub source_calls : MemSource → Failing
 source_calls source = source.failing
 
+-- the numbered calls of a sink
 abbrev pub sink_calls : MemSink → Failing
 sink_calls sink = sink.failing
 
+-- the numbered calls of images
 abbrev pub images_calls : MemImages → Failing
 images_calls images = images.failing

@@ -40,7 +40,7 @@ pub trait Images {
     ghost at: { Self → List ℕ → Image };
 
     /// Takes the image out as a medium in blocks of `size` bytes, which is one of the four sizes. What is left of less
-    /// than a block stays behind as its tail. The name is not taken, and no image is cached yet.
+    /// than a block stays behind as its tail. The name is not taken, and `cached` is false.
     ///
     /// Short exactly where the image is shorter than `size` and its faults did not rise. Failed only where they rose:
     /// a missing image is a fault. After each of these, and for want of memory, the image is where it was.
@@ -69,6 +69,7 @@ pub trait Images {
     /// Failed only where the name's faults rose. After it, and for want of memory, the image is gone.
     fn put_back(&mut self, alloc: Global, name: &str, medium: Self::M) -> Result<(), PutFault>
         requires taken { IsTaken (at self.old name.now).place }
+        ensures free { IsFree (at self.new name.now).place }
         ensures place { (at self.new name.now).place ≡ put_place (at self.old name.now).place (Self.M.device medium).kept result }
         ensures cause { HasCauseOf PutFault.Failed (at self.old name.now).faults (at self.new name.now).faults result }
         ensures worn { (at self.new name.now).worn ≡ adds (at self.old name.now).worn (Self.M.device medium).failed }

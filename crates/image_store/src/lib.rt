@@ -24,3 +24,6 @@ pub use mem_source::MemSource;
 pub use out_sink::OutSink;
 pub use sink::{PutFault, Sink};
 pub use source::{Failed, Source};
+
+#[cfg(test)]
+mod tests;

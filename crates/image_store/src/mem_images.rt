@@ -1,6 +1,7 @@
 ghost use Rattle.std.specs.Prelude.{◌≡◌, ◌↔◌, ◌⊎◌, ℕ, List, false, Err, IfOk, IfSome, IfNone, IsErr, IsErrOf, IsTrue, OnOk, OnErr};
 ghost use Rattle.medium.specs.Counts.{adds};
 ghost use Rattle.medium.specs.Device.{IsBlockSize};
+ghost use Rattle.medium.specs.Faults.{plan_of};
 ghost use Rattle.image_store.specs.Edge.{HasCauseOf};
 ghost use Rattle.image_store.specs.Place.{Missing, Here, ChangesOnly, IsFree, IsHere, IsTaken, IsTaking, IsShort, MayBeShort, put_place};
 
@@ -21,7 +22,7 @@ pub struct MemImages {
 
 impl MemImages {
     ghost use Rattle.image_store.specs.Calls.{IsUncalled, images_calls};
-    ghost use Rattle.image_store.specs.Slots.{images_at, unused};
+    ghost use Rattle.image_store.specs.Slots.{images_at, plans_at, PlansOnly, unused};
 
     /// No images. The calls of this list fail, where `take` and `put_back` are numbered together from 0.
     pub fn make(alloc: Global, failing: Vec<u64>) -> MemImages
@@ -42,6 +43,8 @@ impl MemImages {
         ensures here { OnOk result (images_at self.new name.now ≡ record (images_at self.old name.now) { place = Here bytes.now }) }
         ensures err { OnErr result (images_at self.new name.now ≡ images_at self.old name.now) }
         ensures others { ChangesOnly name.now (images_at self.old) (images_at self.new) }
+        ensures plan { OnOk result (plans_at self.new name.now ≡ plan.items) }
+        ensures plans { PlansOnly name.now self.old self.new }
         ensures calls { images_calls self.new ≡ images_calls self.old }
     {
         let bytes = Vec::from_slice(self.alloc, bytes)?;
@@ -78,7 +81,7 @@ impl Images for MemImages {
     type M = Faulty<MemMedium>;
 
     ghost use Rattle.image_store.specs.Calls.{is_next_failing, IsCalled, images_calls};
-    ghost use Rattle.image_store.specs.Slots.{images_at};
+    ghost use Rattle.image_store.specs.Slots.{images_at, plans_at};
 
     ghost at = { images_at };
 
@@ -102,6 +105,8 @@ impl Images for MemImages {
         ensures cause { HasCauseOf TakeFault.Failed (images_at self.old name.now).faults (images_at self.new name.now).faults result }
         ensures worn { (images_at self.new name.now).worn ≡ (images_at self.old name.now).worn }
         ensures others { ChangesOnly name.now (images_at self.old) (images_at self.new) }
+        ensures planned { IfOk result (λ medium. plan_of medium ≡ plans_at self.old name.now) }
+        ensures plans { (other : List ℕ) → plans_at self.new other ≡ plans_at self.old other }
         ensures failing { IsTrue (is_next_failing (images_calls self.old)) → (result ≡ Err TakeFault.Failed) ⊎ (result ≡ Err TakeFault.Memory) }
         ensures failed { result ≡ Err TakeFault.Failed → IsTrue (is_next_failing (images_calls self.old)) ⊎ ((images_at self.old name.now).place ≡ Missing) }
         ensures called { IsCalled (images_calls self.old) (images_calls self.new) }
@@ -128,10 +133,12 @@ impl Images for MemImages {
         medium: Faulty<MemMedium>,
     ) -> Result<(), PutFault>
         requires taken { IsTaken (images_at self.old name.now).place }
+        ensures free { IsFree (images_at self.new name.now).place }
         ensures place { (images_at self.new name.now).place ≡ put_place (images_at self.old name.now).place (⟦<Faulty<MemMedium> as Medium>⟧.device medium).kept result }
         ensures cause { HasCauseOf PutFault.Failed (images_at self.old name.now).faults (images_at self.new name.now).faults result }
         ensures worn { (images_at self.new name.now).worn ≡ adds (images_at self.old name.now).worn (⟦<Faulty<MemMedium> as Medium>⟧.device medium).failed }
         ensures others { ChangesOnly name.now (images_at self.old) (images_at self.new) }
+        ensures plans { (other : List ℕ) → plans_at self.new other ≡ plans_at self.old other }
         ensures failing { IsTrue (is_next_failing (images_calls self.old)) ↔ (result ≡ Err PutFault.Failed) }
         ensures called { IsCalled (images_calls self.old) (images_calls self.new) }
     {

@@ -1,6 +1,7 @@
-ghost use Rattle.std.specs.Prelude.{◌≡◌, ◌↔◌, ◌⊎◌, false, Err, IfOk, OnErr, IsErr, IsErrOf, IsTrue};
+ghost use Rattle.std.specs.Prelude.{◌≡◌, ◌↔◌, ◌⊎◌, [], false, Err, IfOk, OnErr, IsErr, IsErrOf, IsTrue};
 ghost use Rattle.medium.specs.Counts.{adds};
 ghost use Rattle.medium.specs.Device.{IsBlockSize};
+ghost use Rattle.medium.specs.Faults.{plan_of};
 ghost use Rattle.image_store.specs.Edge.{HasCauseOf};
 ghost use Rattle.image_store.specs.Place.{Missing, IsFree, IsTaken, IsTaking, IsShort, MayBeShort, put_place};
 
@@ -38,6 +39,7 @@ impl Slot {
         ensures stored { result.stored ≡ Stored.Gone }
         ensures faults { result.faults ≡ 0 }
         ensures worn { result.worn ≡ 0 }
+        ensures plan { result.plan.items ≡ [] }
     {
         Slot {
             stored: Stored::Gone,
@@ -52,6 +54,7 @@ impl Slot {
         ensures stored { result.stored ≡ Stored.Gone }
         ensures faults { result.faults ≡ 1 }
         ensures worn { result.worn ≡ 0 }
+        ensures plan { result.plan.items ≡ [] }
     {
         Slot {
             faults: 1,
@@ -84,6 +87,8 @@ impl Slot {
         ensures short { IsErrOf result TakeFault.Short → MayBeShort (place_of self.old.stored) size }
         ensures cause { HasCauseOf TakeFault.Failed self.old.faults self.new.faults result }
         ensures worn { self.new.worn ≡ self.old.worn }
+        ensures planned { IfOk result (λ medium. plan_of medium ≡ self.old.plan.items) }
+        ensures plan { self.new.plan ≡ self.old.plan }
         ensures failing { IsTrue fails → result ≡ Err TakeFault.Failed }
         ensures failed { result ≡ Err TakeFault.Failed → IsTrue fails ⊎ (place_of self.old.stored ≡ Missing) }
     {
@@ -107,8 +112,10 @@ impl Slot {
     /// Puts a medium back, or fails. The image is gone after a fault.
     pub fn put_in(&mut self, medium: Faulty<MemMedium>, fails: bool) -> Result<(), PutFault>
         requires taken { IsTaken (place_of self.old.stored) }
+        ensures free { IsFree (place_of self.new.stored) }
         ensures place { place_of self.new.stored ≡ put_place (place_of self.old.stored) (⟦<Faulty<MemMedium> as Medium>⟧.device medium).kept result }
         ensures cause { HasCauseOf PutFault.Failed self.old.faults self.new.faults result }
+        ensures plan { self.new.plan ≡ self.old.plan }
         ensures failing { IsTrue fails ↔ (result ≡ Err PutFault.Failed) }
         ensures worn { self.new.worn ≡ adds self.old.worn (⟦<Faulty<MemMedium> as Medium>⟧.device medium).failed }
     {

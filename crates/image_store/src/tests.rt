@@ -1,6 +1,10 @@
-use crate::{Failed, Images, MemImages, MemSink, MemSource, PutFault, Sink, Source, TakeFault};
+use crate::{
+    Failed, FileImages, Images, InSource, MemImages, MemSink, MemSource, OutSink, PutFault, Sink,
+    Source, TakeFault,
+};
 use medium::{BlockFailed, Medium, Planned};
 use std::alloc::{AllocError, Global};
+use std::fs;
 use std::test::Fail;
 
 /// Writes this byte to all blocks of a small medium by one command, as the stack does through the trait.
@@ -31,6 +35,38 @@ fn source_and_sink(rt: HostRuntime) -> Result<(), Fail> {
     assert_eq!(rt; sink.put(b"two"), Err(PutFault::Failed));
     assert_eq!(rt; sink.put(b"three"), Ok(()));
     assert_eq!(rt; sink.bytes(), b"onethree".as_slice());
+    Ok(())
+}
+
+#[test]
+fn readers_and_writers(rt: HostRuntime) -> Result<(), Fail> {
+    let mut source = InSource::make(b"abc".as_slice());
+    let mut part = [0; 2];
+    assert_eq!(rt; source.next(&mut part), Ok(2));
+    assert_eq!(rt; part, *b"ab");
+    assert_eq!(rt; source.next(&mut part), Ok(1));
+    assert_eq!(rt; source.next(&mut part), Ok(0));
+    let mut sink = OutSink::make(Vec::<u8>::new(rt.alloc()));
+    assert_eq!(rt; sink.put(b"abc"), Ok(()));
+    Ok(())
+}
+
+#[test]
+fn files(rt: HostRuntime) -> Result<(), Fail> {
+    let alloc = rt.alloc();
+    let mut images = FileImages::make(alloc, &rt);
+    assert_eq!(rt;
+        images.take(alloc, "no.img", 512, false).err(),
+        Some(TakeFault::Failed)
+    );
+    fs::write(&rt, "one.img", &[7; 1030])?;
+    let mut medium = images.take(alloc, "one.img", 512, false)?;
+    assert_eq!(rt; fill(alloc, &mut medium, 9)?, Ok(()));
+    images.put_back(alloc, "one.img", medium)?;
+    let mut back = vec![in alloc; 9; 1024]?;
+    back.extend_from_slice(&[7; 6])?;
+    assert_eq!(rt; fs::read(&rt, "one.img")?, back);
+    fs::remove_file(&rt, "one.img")?;
     Ok(())
 }
 

@@ -1,11 +1,11 @@
 -- The device that a medium with planned faults is.
-use Rattle.std.specs.Prelude.{◌≡◌, ℕ, ◌*◌, ◌-◌, ◌/◌, ◌<◌, ◌==◌, List, length, take, min, find, Option, Result, Ok, Err, if◌then◌else◌}
+use Rattle.std.specs.Prelude.{◌≡◌, ℕ, ◌*◌, ◌-◌, ◌/◌, ◌<◌, ◌==◌, List, take, min, find, Option, Result, Ok, Err}
 use Rattle.std.specs.Option.{option_map}
 use Rattle.medium.specs.declared.block_failed.BlockFailed.{BlockFailed}
 use Rattle.medium.specs.declared.faulty.Faulty.{Faulty}
 use Rattle.medium.specs.declared.faulty.Planned.{Planned}
 use Rattle.medium.specs.Counts.{adds}
-use Rattle.medium.specs.Device.{Device, IsSame, IsShaped, IsWrite}
+use Rattle.medium.specs.Device.{Device, IsShaped, IsWrite}
 
 -- the device inside, with counts of its own; its faults are those of the device inside and so many planned ones
 abbrev pub faulty_device : Device → ℕ → ℕ → ℕ → Device
@@ -51,6 +51,7 @@ pub record IsPlannedWrite (old : Device) (lba count : ℕ) (bytes : List ℕ) (r
   pub none : count ≡ 0 → (result ≡ Err (record { done = 0 })) × (new ≡ old)
   pub some : 0 < count → (inside : Result (Unit {0}) BlockFailed) × IsWrite old lba (take (count * old.size) bytes) inside new × (result ≡ Err (record { done = done_of inside count }))
 
+-- it is shaped as the device inside
 pub faulty_shaped : (inner : Device) (calls failed planned : ℕ) → IsShaped inner → IsShaped (faulty_device inner calls failed planned)
 faulty_shaped inner calls failed planned shaped = record {
   size = shaped.size;

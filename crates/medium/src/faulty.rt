@@ -41,9 +41,7 @@ impl<M: Medium> Faulty<M> {
             planned: 0,
         }
     }
-}
 
-impl<M: Medium> Faulty<M> {
     /// The medium inside.
     pub fn inner(self) -> M
         ensures { result ≡ inner_of self }

@@ -1,4 +1,4 @@
-use Rattle.std.proofs.Common.{arith, rules}
+use Rattle.std.proofs.Common.{arith}
 use Rattle.std.proofs.lemmas.Grind.{common_steps}
 use Rattle.image_store.proofs.Fronts.{front_taken}
 use Rattle.image_store.proofs.mem_source.MemSourceSource.next.Goals as goal
