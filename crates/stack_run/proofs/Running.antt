@@ -24,7 +24,7 @@ use Rattle.script_text.specs.Fit.{IsOrder, AreOrders}
 use Rattle.script_text.specs.Report.{givens_of, AreEnds, IsGiven, AreGiven}
 use Rattle.stack_run.specs.Plain.{whole_view, answered, own_collected, all_collected, outcomes_of, plain_history}
 use Rattle.stack_run.specs.Leading.{Leads, IsStep}
-use Rattle.stack_run.specs.Keeping.{Steps, Waits, IsEnd, Keeps, CollectsAll, Answers, TakesLine, Runs}
+use Rattle.stack_run.specs.Keeping.{Steps, Waits, IsEnd, Keeps, CollectsAll, Answers, TakesLine}
 use Rattle.stack_run.proofs.Leading.{leads-on, leads-request, leads-wait}
 use Rattle.stack_run.proofs.Ending.{plain-ends}
 use Rattle.stack_run.proofs.Keeping.{keeps-stays}
@@ -96,25 +96,26 @@ get-map f [] t = refl
 get-map f (x ∷ xs) zero = refl
 get-map f (x ∷ xs) (suc t) = get-map f xs t
 
-are-ends : (S : Setup) (H : List Entry) (kinds : List Kind) (lines : List TokenLine) → Keeps S H kinds lines → length lines ≡ accepted H → AreEnds S.size H lines
-are-ends S H kinds lines keeps all = record { count = all; each = λ t. by t (slice_get lines t) refl }
+-- the lines say how each token ended
+pub all-ended : (S : Setup) (G H : List Entry) (kinds : List Kind) (lines : List TokenLine) → CollectsAll S G H kinds lines → AreEnds S.size H lines
+all-ended S G H kinds lines all = record { count = all.count; each = λ t. by t (slice_get lines t) refl }
   where
   by : (t : ℕ) (o : Option TokenLine) → slice_get lines t ≡ o → IfSome o (λ line. mark_of S.size H t ≡ Some line.status)
   by t None is = tt
-  by t (Some line) is = let end : IsEnd S H t line = keeps.ended t line is in end.marked
+  by t (Some line) is = let end : IsEnd S H t line = all.keeps.ended t line is in end.marked
 
-are-given : (S : Setup) (H : List Entry) (kinds : List Kind) (lines : List TokenLine) → Keeps S H kinds lines → length lines ≡ accepted H → AreGiven S H (givens_of lines)
-are-given S H kinds lines keeps all = record { count = length-map lines (λ (line : TokenLine). line.given) ∙ all; each = λ t. rw (get-map (λ (line : TokenLine). line.given) lines t) (by t (slice_get lines t) refl) }
+-- and what it gave back
+pub all-given : (S : Setup) (G H : List Entry) (kinds : List Kind) (lines : List TokenLine) → CollectsAll S G H kinds lines → AreGiven S H (givens_of lines)
+all-given S G H kinds lines all = record { count = length-map lines (λ (line : TokenLine). line.given) ∙ all.count; each = λ t. rw (get-map (λ (line : TokenLine). line.given) lines t) (by t (slice_get lines t) refl) }
   where
   by : (t : ℕ) (o : Option TokenLine) → slice_get lines t ≡ o → IfSome (option_map (λ (line : TokenLine). line.given) o) (IsGiven S H t)
   by t None is = tt
-  by t (Some line) is = let end : IsEnd S H t line = keeps.ended t line is in end.given
+  by t (Some line) is = let end : IsEnd S H t line = all.keeps.ended t line is in end.given
 
--- all lines were taken, and then all tokens collected
-pub runs : (S : Setup) (orders : List Order) (H G H' : List Entry) (kinds : List Kind) (lines : List TokenLine) → 0 < S.size → Leads S [] orders H [] → Waits S H G → first_open S.size G ≡ None → CollectsAll S G H' kinds lines → Runs S orders H' lines
-runs S orders H G H' kinds lines some leads waits none all = record {
-    plain = rw (all.all) (plain-ends S orders G some none (leads-on S [] orders H [] G [] leads (waits.leads [] tt)));
-    collected = λ t there. all.keeps.collected t ∙ lt-ltb t (length lines) (omega (arith, there, all.count));
-    ends = are-ends S H' kinds lines all.keeps all.count;
-    given = are-given S H' kinds lines all.keeps all.count;
-  }
+-- all lines were taken, and then all tokens collected: the history is the plain one of its outcomes
+pub plain-run : (S : Setup) (orders : List Order) (H G H' : List Entry) (kinds : List Kind) (lines : List TokenLine) → 0 < S.size → Leads S [] orders H [] → Waits S H G → first_open S.size G ≡ None → CollectsAll S G H' kinds lines → H' ≡ plain_history S orders (outcomes_of H')
+plain-run S orders H G H' kinds lines some leads waits none all =
+    rw (all.all) (plain-ends S orders G some none (leads-on S [] orders H [] G [] leads (waits.leads [] tt)))
+
+pub all-collected : (S : Setup) (G H' : List Entry) (kinds : List Kind) (lines : List TokenLine) → CollectsAll S G H' kinds lines → (t : ℕ) → t < accepted H' → was_collected H' t ≡ true
+all-collected S G H' kinds lines all t there = all.keeps.collected t ∙ lt-ltb t (length lines) (omega (arith, there, all.count))

@@ -16,8 +16,8 @@ use Rattle.history.specs.Contents.{bytes_read}
 use Rattle.history.specs.Room.{owed_entries}
 use Rattle.history.specs.Next.{first_open}
 use Rattle.script_text.specs.declared.report.parts.TokenLine.{TokenLine}
-use Rattle.script_text.specs.Report.{givens_of, AreEnds, IsGiven, AreGiven}
-use Rattle.stack_run.specs.Plain.{answered, collects, own_collected, all_collected, outcomes_of, plain_history}
+use Rattle.script_text.specs.Report.{IsGiven}
+use Rattle.stack_run.specs.Plain.{answered, collects, own_collected, all_collected}
 use Rattle.stack_run.specs.Leading.{IsStep, Leads, Stay}
 
 -- the later history has the same tokens, and the ended ones are as they were
@@ -89,10 +89,3 @@ pub record Answers (S : Setup) (H H' : List Entry) (asked : Asked) (payload : Pa
 pub record TakesLine (S : Setup) (H H' : List Entry) (line : Order) (kinds' : List Kind) (ends' : List TokenLine) : Type 0 where
   pub leads : (rest : List Order) → Leads S H (line ∷ rest) H' rest
   pub keeps : Keeps S H' kinds' ends'
-
--- all lines were run: the history is the plain one of its outcomes, and all tokens are collected
-pub record Runs (S : Setup) (orders : List Order) (H' : List Entry) (lines : List TokenLine) : Type 0 where
-  pub plain : H' ≡ plain_history S orders (outcomes_of H')
-  pub collected : (t : ℕ) → t < accepted H' → was_collected H' t ≡ true
-  pub ends : AreEnds S.size H' lines
-  pub given : AreGiven S H' (givens_of lines)

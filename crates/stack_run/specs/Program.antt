@@ -4,7 +4,8 @@ use Rattle.script_text.specs.declared.grammar.plans.DiskPlan.{DiskPlan}
 use Rattle.script_text.specs.declared.grammar.plans.ClientPlan.{ClientPlan}
 use Rattle.script_text.specs.declared.grammar.refusal.Reason.{Reason}
 use Rattle.script_text.specs.Script.{script_of}
-use Rattle.image_store.specs.Place.{Image}
+use Rattle.medium.specs.Counts.{Rose}
+use Rattle.image_store.specs.Place.{Image, MayBeShort}
 use Rattle.stack_run.specs.declared.refusal.Refusal.{Refusal}
 use Rattle.stack_run.specs.declared.refusal.Refusal.TheVariants.{Words, Script, Image as ImageOf, Source, Sink, Memory}
 use Rattle.stack_run.specs.Reading.{Reads}
@@ -33,15 +34,31 @@ refusal_text Source name = codes "source" ++ (10 ∷ [])
 refusal_text Sink name = []
 refusal_text Memory name = codes "memory" ++ (10 ∷ [])
 
--- the source was read and is a script of one disk with one client, and the disk was served
-pub record Ran (left left' : Option (List ℕ)) (at at' : List ℕ → Image) (wrote wrote' : Option (List ℕ)) : Type 0 where
-  pub bytes : List ℕ
+-- the one disk of a script was served with its one client
+pub record ServedOne (plans : List DiskPlan) (at at' : List ℕ → Image) (wrote wrote' : Option (List ℕ)) : Type 0 where
   pub plan : DiskPlan
   pub client : ClientPlan
-  pub reads : Reads left left' bytes
-  pub says : script_of bytes ≡ Ok (plan ∷ [])
+  pub is : plans ≡ plan ∷ []
   pub one : plan.clients ≡ client ∷ []
   pub served : Served plan client at at' wrote wrote'
+
+-- the faults of the disk's image rose, or it may be shorter than a block
+pub record IsImageFault (plans : List DiskPlan) (at at' : List ℕ → Image) : Type 0 where
+  pub plan : DiskPlan
+  pub is : plans ≡ plan ∷ []
+  pub fault : Rose (at plan.image).faults (at' plan.image).faults ⊎ MayBeShort (at plan.image).place plan.size
+
+-- what serving a disk may answer
+abbrev pub IsServingStatus : ℕ → Type 0
+IsServingStatus n = (n ≡ 0) ⊎ ((n ≡ 3) ⊎ ((n ≡ 5) ⊎ (n ≡ 6)))
+
+-- the source was read, and is a script whose disk was served
+pub record Ran (left left' : Option (List ℕ)) (at at' : List ℕ → Image) (wrote wrote' : Option (List ℕ)) : Type 0 where
+  pub bytes : List ℕ
+  pub plans : List DiskPlan
+  pub reads : Reads left left' bytes
+  pub says : script_of bytes ≡ Ok plans
+  pub served : ServedOne plans at at' wrote wrote'
 
 -- the source was read and is refused as a script
 pub record IsRefusedScript (left left' : Option (List ℕ)) : Type 0 where

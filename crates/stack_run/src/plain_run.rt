@@ -1,9 +1,11 @@
-ghost use Rattle.std.specs.Prelude.{◌≡◌, ◌+◌, ◌<◌, ◌≤◌, ◌^◌, List, [], ◌∷◌, length, None, IfOk, OnOk};
+ghost use Rattle.std.specs.Prelude.{◌≡◌, ℕ, ◌*◌, ◌<◌, ◌≤◌, ◌^◌, [], length, true, None, IfOk, OnOk};
+ghost use Rattle.history.specs.Tokens.{accepted, was_collected};
 ghost use Rattle.history.specs.Next.{first_open};
 ghost use Rattle.disk_core.specs.Calls.{asked_of, bytes_of, buffer_of};
 ghost use Rattle.script_text.specs.Fit.{IsRequest, IsOrder, AreOrders};
-ghost use Rattle.stack_run.specs.Plain.{payload_bytes, whole_view};
-ghost use Rattle.stack_run.specs.Keeping.{Steps, Waits, Keeps, Answers, TakesLine, Runs};
+ghost use Rattle.script_text.specs.Report.{givens_of, AreEnds, AreGiven};
+ghost use Rattle.stack_run.specs.Plain.{payload_bytes, whole_view, outcomes_of, plain_history};
+ghost use Rattle.stack_run.specs.Keeping.{Steps, Waits, Keeps, Answers, TakesLine};
 
 use crate::kept_tokens::{CLIENT, Kept, collect_rest};
 use disk_core::{Ask, Disk, Step, Why};
@@ -138,9 +140,12 @@ pub fn run_lines<M: Medium>(
     orders: &[Order],
 ) -> Result<Vec<TokenLine>, AllocError>
     requires fresh { disk.old.entries ≡ [] }
-    requires fits { AreOrders orders.now }
+    requires orders { AreOrders orders.now }
     ensures setup { disk.new.setup ≡ disk.old.setup }
-    ensures runs { IfOk result (λ ends. Runs disk.old.setup orders.now disk.new.entries ends.items) }
+    ensures plain { OnOk result (disk.new.entries ≡ plain_history disk.old.setup orders.now (outcomes_of disk.new.entries)) }
+    ensures collected { OnOk result ((t : ℕ) → t < accepted disk.new.entries → was_collected disk.new.entries t ≡ true) }
+    ensures ends { IfOk result (λ ends. AreEnds disk.old.setup.size disk.new.entries ends.items) }
+    ensures given { IfOk result (λ ends. AreGiven disk.old.setup disk.new.entries (givens_of ends.items)) }
 {
     let mut kept = Kept {
         kinds: Vec::new(alloc),

@@ -1,7 +1,7 @@
 use Rattle.std.proofs.Common.{◌≡◌, ◌∙◌, refl, arith}
 use Rattle.stack_run.proofs.Leading.{leads-same}
 use Rattle.stack_run.proofs.Keeping.{keeps-stays}
-use Rattle.stack_run.proofs.Running.{keeps-none, line-fits, leads-next, leads-last, runs}
+use Rattle.stack_run.proofs.Running.{keeps-none, line-fits, leads-next, leads-last, plain-run, all-collected, all-ended, all-given}
 use Rattle.stack_run.proofs.plain_run.run_lines.Goals as goal
 
 pub loop-line-init : goal.loop-line-init
@@ -12,7 +12,7 @@ loop-line-init g c = record {
   }
 
 pub take_line-requires-clause-fits : goal.take_line-requires-clause-fits
-take_line-requires-clause-fits g c = line-fits c.args.orders.now c.loop-line.line-index _ _ c.requires.fits c.loop-line-test.true refl c.line-item.is
+take_line-requires-clause-fits g c = line-fits c.args.orders.now c.loop-line.line-index _ _ c.requires.orders c.loop-line-test.true refl c.line-item.is
 
 pub loop-line-preserved : goal.loop-line-preserved
 loop-line-preserved g c =
@@ -28,9 +28,18 @@ collect_rest-requires-clause-keeps g c =
     let waits = rw c.loop-line.invariant.setup at c.drain.ensures.waits in
     rw (c.drain.ensures.setup, c.loop-line.invariant.setup) (keeps-stays _ _ _ _ _ waits.stays c.loop-line.invariant.keeps)
 
-pub returns-clause-runs : goal.returns-clause-runs
-returns-clause-runs g c =
+pub returns-clause-plain : goal.returns-clause-plain
+returns-clause-plain g c =
     let waits = rw c.loop-line.invariant.setup at c.drain.ensures.waits in
     let drained = rw c.loop-line.invariant.setup at c.drain.ensures.drained in
     let all = rw (c.drain.ensures.setup, c.loop-line.invariant.setup) at c.in_ok-collect_rest.ensures.all in
-    runs _ _ _ _ _ _ _ c.whole_medium-view.ensures.size (leads-last _ c.args.orders.now _ c.loop-line.line-index c.loop-line-test.false c.loop-line.invariant.leads) waits drained all
+    plain-run _ _ _ _ _ _ _ c.whole_medium-view.ensures.size (leads-last _ c.args.orders.now _ c.loop-line.line-index c.loop-line-test.false c.loop-line.invariant.leads) waits drained all
+
+pub returns-clause-collected : goal.returns-clause-collected
+returns-clause-collected g c = all-collected _ _ _ _ _ c.in_ok-collect_rest.ensures.all
+
+pub returns-clause-ends : goal.returns-clause-ends
+returns-clause-ends g c = all-ended _ _ _ _ _ (rw (c.drain.ensures.setup, c.loop-line.invariant.setup) at c.in_ok-collect_rest.ensures.all)
+
+pub returns-clause-given : goal.returns-clause-given
+returns-clause-given g c = all-given _ _ _ _ _ (rw (c.drain.ensures.setup, c.loop-line.invariant.setup) at c.in_ok-collect_rest.ensures.all)
