@@ -3,8 +3,25 @@
 
 use image_store::{FileImages, InSource, OutSink};
 use stack_run::run_plain;
+use std::alloc::Global;
+use std::env;
+use std::io;
 use std::process::ExitCode;
 
+// The words after the program's name. The error is want of memory, or a word that is no text.
+fn words(rt: &(impl Env + Alloc<A = Global>)) -> io::Result<Vec<String>> {
+    let mut all = Vec::new(rt.alloc());
+    for word in env::args(rt)?.skip(1) {
+        all.push(word)?;
+    }
+    Ok(all)
+}
+
 fn main(rt: HostRuntime) -> ExitCode {
-    ExitCode::from(0)
+    let alloc = rt.alloc();
+    let words = words(&rt).unwrap_or(Vec::new(alloc));
+    let mut script = InSource::make(rt.stdin());
+    let mut images = FileImages::make(alloc, &rt);
+    let mut out = OutSink::make(rt.stdout());
+    ExitCode::from(run_plain(alloc, words.as_slice(), &mut script, &mut images, &mut out))
 }
