@@ -22,6 +22,7 @@ partition_inside h blocks n all (e ∷ entries) zero given =
     (not (overlaps_another all n e)) (not (is_hidden e)) e.first e.last blocks yes
 partition_inside h blocks n all (e ∷ entries) (suc i) given = partition_inside h blocks (n + 1) all entries i given
 
+-- the same of the list of flags
 pub usable_inside : (h : HeaderFields) (blocks : ℕ) (entries : List GptEntry) (flags : List Bool) (i : ℕ)
     → flags ≡ usable_of h blocks entries → slice_get flags i ≡ Some true → IfSome (slice_get entries i) (λ e. (e.first ≤ e.last) × (e.last < blocks))
 usable_inside h blocks entries flags i is given = partition_inside h blocks 0 entries entries i (ap (λ l. slice_get l i) (sym is) ∙ given)

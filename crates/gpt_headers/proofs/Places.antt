@@ -23,6 +23,7 @@ pub flags_more : {X Y : Type 0} (f : ℕ × X → Y) (i : ℕ) (xs : List X) (d 
 flags_more f i xs d flags flag h so_far next =
     rw (so_far, next, add-one) (rw (zero-add i) at (sym (map-enumerate_more f 0 i xs d h)))
 
+-- the number after so many bytes, by its place
 unit_is : (k : ℕ) (bytes : List ℕ) → little_number 2 (drop (2 * k) bytes) ≡ number_at (2 * k) 2 bytes
 unit_is k bytes = grind (arith, common_steps)
 

@@ -86,6 +86,7 @@ impl Header {
         }
     }
 
+    /// The header of a block that passed every test.
     #[tactic(auto, unfolding(crate::specs::Header::fields_of, crate::specs::Header::has_entry_size, crate::specs::Header::has_small_array))]
     fn fields(block: &[u8]) -> Header
         requires size { LEAST_HEADER ≤ length block.now }
