@@ -1,0 +1,28 @@
+-- Entries that give a partition have blocks, all on the medium.
+use Rattle.std.proofs.Common.{◌≡◌, ℕ, zero, suc, ◌+◌, ◌<◌, ◌≤◌, Bool, true, not, ◌&&◌, nat_le, nat_lt, List, [], ◌∷◌, map, Some, arith, sym, ap, ◌∙◌}
+use Rattle.std.specs.Prelude.{slice_get, IfSome}
+use Rattle.std.specs.List.{enumerate_from}
+use Rattle.std.proofs.lemmas.Bool.Decides.{nat_tests}
+use Rattle.gpt_headers.specs.declared.entry.GptEntry.{GptEntry}
+use Rattle.gpt_headers.specs.Fields.{HeaderFields}
+use Rattle.gpt_headers.specs.Entry.{gives_partition, is_hidden, is_usable_block, is_used, overlaps_another, usable_of}
+
+inner_tests : (a b c d e : Bool) (first last blocks : ℕ)
+    → (a && (nat_le first last && b && (c && nat_lt last blocks)) && d && e) ≡ true → (first ≤ last) × (last < blocks)
+inner_tests a b c d e first last blocks h = (grind (arith, nat_tests), grind (arith, nat_tests))
+
+-- the first block of such an entry is at most its last, which is on the medium
+partition_inside : (h : HeaderFields) (blocks n : ℕ) (all entries : List GptEntry) (i : ℕ)
+    → slice_get (map (λ (j, e). gives_partition h blocks all j e) (enumerate_from n entries)) i ≡ Some true
+    → IfSome (slice_get entries i) (λ e. (e.first ≤ e.last) × (e.last < blocks))
+partition_inside h blocks n all [] i given = tt
+partition_inside h blocks n all (e ∷ entries) zero given =
+    let yes : gives_partition h blocks all n e ≡ true = cc in
+    inner_tests (is_used e) (is_usable_block h blocks e.first) (nat_le h.first_usable e.last && nat_le e.last h.last_usable)
+    (not (overlaps_another all n e)) (not (is_hidden e)) e.first e.last blocks yes
+partition_inside h blocks n all (e ∷ entries) (suc i) given = partition_inside h blocks (n + 1) all entries i given
+
+-- the same of the list of flags
+pub usable_inside : (h : HeaderFields) (blocks : ℕ) (entries : List GptEntry) (flags : List Bool) (i : ℕ)
+    → flags ≡ usable_of h blocks entries → slice_get flags i ≡ Some true → IfSome (slice_get entries i) (λ e. (e.first ≤ e.last) × (e.last < blocks))
+usable_inside h blocks entries flags i is given = partition_inside h blocks 0 entries entries i (ap (λ l. slice_get l i) (sym is) ∙ given)

@@ -1,0 +1,5 @@
+pub mod Fields
+pub mod Header
+pub mod Array
+pub mod Name
+pub mod Entry
