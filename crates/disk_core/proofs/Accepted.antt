@@ -43,11 +43,11 @@ unfolding refusal_of
 refusal-is S H view media_id asked plain moving bytes =
     rw (plain.ejects, plain.inserts, plain.unprotected, moving, bytes) (by (is_write asked.kind))
   where
-  by : (w : Bool)
-    → (if not (nat_eq media_id 1 && nat_eq view.media_id 1) then Some MediaChanged else (if w && false then Some WriteProtected else (if is_beyond (blocks_of S 1 * S.size) view asked.at asked.length then Some InvalidParameter else None)))
-    ≡ plain_refusal (blocks_of S 1 * S.size) view media_id asked.at asked.length
-  by true = refl
-  by false = refl
+    by : (w : Bool)
+        → (if not (nat_eq media_id 1 && nat_eq view.media_id 1) then Some MediaChanged else (if w && false then Some WriteProtected else (if is_beyond (blocks_of S 1 * S.size) view asked.at asked.length then Some InvalidParameter else None)))
+        ≡ plain_refusal (blocks_of S 1 * S.size) view media_id asked.at asked.length
+    by true = refl
+    by false = refl
 
 -- an accepted request names medium 1 twice, and lies in its view, which lies on the medium
 pub record IsWithin (total : ℕ) (view : View) (media_id at n : ℕ) : Type 0 where
@@ -62,12 +62,12 @@ within-by total view media_id at n true false ids beyond none =
     record { given = eqb-true media_id 1 parts.0; view_is = eqb-true view.media_id 1 parts.1; beyond = beyond }
 within-by total view media_id at n true true ids beyond none = absurd (clash none)
   where
-  clash : Some InvalidParameter ≡ None → ⊥
-  clash e = cc
+    clash : Some InvalidParameter ≡ None → ⊥
+    clash e = cc
 within-by total view media_id at n false beyond ids is none = absurd (clash none)
   where
-  clash : Some MediaChanged ≡ None → ⊥
-  clash e = cc
+    clash : Some MediaChanged ≡ None → ⊥
+    clash e = cc
 
 pub within : (total : ℕ) (view : View) (media_id at n : ℕ) → plain_refusal total view media_id at n ≡ None → IsWithin total view media_id at n
 within total view media_id at n none =
@@ -90,9 +90,9 @@ last-or [] r x zero is = let same : r ≡ x = cc in inr (refl, sym same)
 last-or [] r x (suc t) is = cc
 last-or (y ∷ records) r x zero is = inl is
 last-or (y ∷ records) r x (suc t) is = elim (last-or records r x t is) [
-    inl before ↦ inl before
+  | inl before ↦ inl before
   | inr (same, one) ↦ inr (ap suc same, one)
-  ]
+]
 
 pub before-last : (records : List Record) (r x : Record) (t : ℕ) → slice_get records t ≡ Some x → slice_get (records ++ (r ∷ [])) t ≡ Some x
 before-last [] r x t is = cc
@@ -128,12 +128,12 @@ mark-new S H tag view asked bytes buffer legal is =
     let born : IsUnborn S H (accepted H) = unborn S H (accepted H) legal (omega arith) in
     rw (born.unmarked, eq-eqb (accepted H) (accepted H) refl, request-new H tag view asked bytes, is.moving) (by (cases_eq asked.length 0) born)
   where
-  by : (asked.length ≡ 0) ⊎ (asked.length ≡ 0 → ⊥) → IsUnborn S H (accepted H)
-    → status_if (all_from (is_moved S.size (Accept tag view asked bytes ∷ H) (accepted H)) (from_of S.size (record { tag = tag; view = view; asked = asked; bytes = bytes })) asked.length) Success
-    ≡ (if nat_eq (length buffer) 0 then Some Success else None)
-  by (inl none) born = rw (none, eq-eqb (length buffer) 0 (sym is.long ∙ none)) (empty (is_moved S.size (Accept tag view asked bytes ∷ H) (accepted H)) (from_of S.size (record { tag = tag; view = view; asked = asked; bytes = bytes })))
-  by (inr some) born =
-      let first : ℕ = from_of S.size (record { tag = tag; view = view; asked = asked; bytes = bytes }) in
-      rw (ne_eqb (length buffer) 0 (λ e. some (is.long ∙ e)))
+    by : (asked.length ≡ 0) ⊎ (asked.length ≡ 0 → ⊥) → IsUnborn S H (accepted H)
+        → status_if (all_from (is_moved S.size (Accept tag view asked bytes ∷ H) (accepted H)) (from_of S.size (record { tag = tag; view = view; asked = asked; bytes = bytes })) asked.length) Success
+        ≡ (if nat_eq (length buffer) 0 then Some Success else None)
+    by (inl none) born = rw (none, eq-eqb (length buffer) 0 (sym is.long ∙ none)) (empty (is_moved S.size (Accept tag view asked bytes ∷ H) (accepted H)) (from_of S.size (record { tag = tag; view = view; asked = asked; bytes = bytes })))
+    by (inr some) born =
+        let first : ℕ = from_of S.size (record { tag = tag; view = view; asked = asked; bytes = bytes }) in
+        rw (ne_eqb (length buffer) 0 (λ e. some (is.long ∙ e)))
         (ap (λ b. status_if b Success)
-          (all_from-false (is_moved S.size (Accept tag view asked bytes ∷ H) (accepted H)) first asked.length first (omega arith) (omega (arith, some)) (same-marks S H tag view asked bytes first ∙ born.unmoved first)))
+        (all_from-false (is_moved S.size (Accept tag view asked bytes ∷ H) (accepted H)) first asked.length first (omega arith) (omega (arith, some)) (same-marks S H tag view asked bytes first ∙ born.unmoved first)))

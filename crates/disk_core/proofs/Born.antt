@@ -28,13 +28,13 @@ unborn-none S t = record { unnamed = refl; unmarked = refl; unmoved = λ x. refl
 
 unborn-silent : (S : Setup) (H : List Entry) (e : Entry) (t : ℕ) → IsSilent S H e t → IsUnborn S H t → IsUnborn S (e ∷ H) t
 unborn-silent S H e t silent unborn = record {
-    unnamed = silent.named ∙ unborn.unnamed;
-    unmarked = silent.marked ∙ unborn.unmarked;
-    unmoved = λ x. silent.moved x ∙ unborn.unmoved x;
-    uncollected = silent.collected ∙ unborn.uncollected;
-    unread = λ x. silent.given x ∙ unborn.unread x;
-    unfetched = λ b. silent.fetched b ∙ unborn.unfetched b;
-  }
+  unnamed = silent.named ∙ unborn.unnamed;
+  unmarked = silent.marked ∙ unborn.unmarked;
+  unmoved = λ x. silent.moved x ∙ unborn.unmoved x;
+  uncollected = silent.collected ∙ unborn.uncollected;
+  unread = λ x. silent.given x ∙ unborn.unread x;
+  unfetched = λ b. silent.fetched b ∙ unborn.unfetched b;
+}
 
 -- a command is made for an accepted token
 commanded : (S : Setup) (H : List Entry) (t : ℕ) (c : Command) → MayCommand S H t c → t < accepted H
@@ -50,13 +50,13 @@ cancelled : (S : Setup) (H : List Entry) (e : Entry) (t : ℕ) → IsUnborn S H 
     → was_collected (e ∷ H) t ≡ was_collected H t → ((x : ℕ) → bytes_read S (e ∷ H) t x ≡ bytes_read S H t x) → ((b : ℕ) → was_fetched (e ∷ H) t b ≡ was_fetched H t b) → IsUnborn S (e ∷ H) t
 unfolding mark_of
 cancelled S H e t unborn past ends named moved collected read fetched = record {
-    unnamed = named ∙ unborn.unnamed;
-    unmarked = rw (unborn.unmarked, ends);
-    unmoved = λ x. moved x ∙ unborn.unmoved x;
-    uncollected = collected ∙ unborn.uncollected;
-    unread = λ x. read x ∙ unborn.unread x;
-    unfetched = λ b. fetched b ∙ unborn.unfetched b;
-  }
+  unnamed = named ∙ unborn.unnamed;
+  unmarked = rw (unborn.unmarked, ends);
+  unmoved = λ x. moved x ∙ unborn.unmoved x;
+  uncollected = collected ∙ unborn.uncollected;
+  unread = λ x. read x ∙ unborn.unread x;
+  unfetched = λ b. fetched b ∙ unborn.unfetched b;
+}
 
 pub unborn : (S : Setup) (H : List Entry) (t : ℕ) → IsLegal S H → accepted H ≤ t → IsUnborn S H t
 unfolding IsLegal MayFollow accepted request is_moved was_collected bytes_read was_fetched ending
@@ -72,11 +72,11 @@ unborn S (Fault u c done ∷ H) t (legal, may) past =
 unborn S (Collect tag u ∷ H) t (legal, may) past =
     unborn-silent S H (Collect tag u) t (collect-silent S H tag u t (λ same. marked (rw same at may.0) (unborn S H t legal past).unmarked)) (unborn S H t legal past)
   where
-  marked : {m : Option Status} → is_some m ≡ true → m ≡ None → ⊥
-  marked some none = clash (rw none at some)
-    where
-    clash : false ≡ true → ⊥
-    clash e = cc
+    marked : {m : Option Status} → is_some m ≡ true → m ≡ None → ⊥
+    marked some none = clash (rw none at some)
+      where
+        clash : false ≡ true → ⊥
+        clash e = cc
 unborn S (Cancel tag view ∷ H) t (legal, may) past =
     cancelled S H (Cancel tag view) t (unborn S H t legal past) past (rw (unborn S H t legal past).unnamed) refl (λ x. refl) refl (λ x. refl) (λ b. refl)
 unborn S (Reset tag ∷ H) t (legal, may) past =
@@ -88,6 +88,6 @@ unborn S (Insert tag media_id ∷ H) t (legal, may) past =
 unborn S (Protect tag on ∷ H) t (legal, may) past =
     cancelled S H (Protect tag on) t (unborn S H t legal past) past (rw (unborn S H t legal past).unnamed (off on)) refl (λ x. refl) refl (λ x. refl) (λ b. refl)
   where
-  off : (on : Bool) → status_if (on && false) WriteProtected ≡ None
-  off true = refl
-  off false = refl
+    off : (on : Bool) → status_if (on && false) WriteProtected ≡ None
+    off true = refl
+    off false = refl

@@ -34,27 +34,28 @@ may-collect S H tag t status marked uncollected = (ap is_some marked, uncollecte
 tracks-collect : (S : Setup) (H : List Entry) (tag t : ℕ) (r r' : Record) (q : Request) (c c' : Core) (status : Status) → Tracks S H t r q → r.status ≡ Some status → HandsBack c c' tag t r r' → Tracks S (Collect tag t ∷ H) t r' q
 unfolding request mark_of ending is_moved was_collected bytes_read
 tracks-collect S H tag t r r' q c c' status tracks ended back = record {
-    named = tracks.named;
-    of_kind = tracks.of_kind ∙ sym back.kind;
-    moving = rw back.kind tracks.moving;
-    from = back.from ∙ tracks.from;
-    units = rw back.units tracks.units;
-    within = tracks.within;
-    status = or_else-none (mark_of S.size H t) ∙ (tracks.status ∙ sym back.status);
-    collected = rw (eq-eqb t t refl) (sym back.collected);
-    unfinished = λ open_. absurd (clash (sym ended ∙ (sym back.status ∙ open_)));
-    moved = λ open_. absurd (clash (sym ended ∙ (sym back.status ∙ open_)));
-    uncollected = λ open_. absurd (clash (sym ended ∙ (sym back.status ∙ open_)));
-    long = λ kept. absurd (true-false (sym back.collected ∙ kept));
-    bytes = λ kept. absurd (true-false (sym back.collected ∙ kept));
-    given = λ kept. absurd (true-false (sym back.collected ∙ kept));
-    emptied = λ _. back.emptied;
-  }
+  named = tracks.named;
+  of_kind = tracks.of_kind ∙ sym back.kind;
+  moving = rw back.kind tracks.moving;
+  from = back.from ∙ tracks.from;
+  units = rw back.units tracks.units;
+  within = tracks.within;
+  status = or_else-none (mark_of S.size H t) ∙ (tracks.status ∙ sym back.status);
+  collected = rw (eq-eqb t t refl) (sym back.collected);
+  unfinished = λ open_. absurd (clash (sym ended ∙ (sym back.status ∙ open_)));
+  moved = λ open_. absurd (clash (sym ended ∙ (sym back.status ∙ open_)));
+  uncollected = λ open_. absurd (clash (sym ended ∙ (sym back.status ∙ open_)));
+  long = λ kept. absurd (true-false (sym back.collected ∙ kept));
+  bytes = λ kept. absurd (true-false (sym back.collected ∙ kept));
+  given = λ kept. absurd (true-false (sym back.collected ∙ kept));
+  emptied = λ _. back.emptied;
+}
   where
-  clash : Some status ≡ None → ⊥
-  clash e = cc
-  true-false : true ≡ false → ⊥
-  true-false e = cc
+    clash : Some status ≡ None → ⊥
+    clash e = cc
+
+    true-false : true ≡ false → ⊥
+    true-false e = cc
 
 collected-owed : (S : Setup) (H : List Entry) (tag t : ℕ) (q : Request) (status : Status) → request H t ≡ Some q → mark_of S.size H t ≡ Some status → was_collected H t ≡ false → token_owed S.size (Collect tag t ∷ H) t + 1 ≤ token_owed S.size H t
 unfolding token_owed request mark_of ending was_collected
@@ -64,18 +65,18 @@ collected-owed S H tag t q status named marked uncollected = rw (named, marked, 
 collect-holds : (S : Setup) (H : List Entry) (tag t u b : ℕ) (status : Status) → mark_of S.size H t ≡ Some status → Holds S.size (Collect tag t ∷ H) u b → Holds S.size H u b
 unfolding accepted was_fetched was_stored
 collect-holds S H tag t u b status marked holds = record {
-    outstanding = record { token = holds.outstanding.token; unmarked = open-before S.size H (Collect tag t) u holds.outstanding.unmarked };
-    fetched = holds.fetched;
-    unstored = holds.unstored;
-  }
+  outstanding = record { token = holds.outstanding.token; unmarked = open-before S.size H (Collect tag t) u holds.outstanding.unmarked };
+  fetched = holds.fetched;
+  unstored = holds.unstored;
+}
 
 holds-collect : (S : Setup) (H : List Entry) (tag t u b : ℕ) → Holds S.size H u b → Holds S.size (Collect tag t ∷ H) u b
 unfolding accepted mark_of ending was_fetched was_stored
 holds-collect S H tag t u b holds = record {
-    outstanding = record { token = holds.outstanding.token; unmarked = or_else-none (mark_of S.size H u) ∙ holds.outstanding.unmarked };
-    fetched = holds.fetched;
-    unstored = holds.unstored;
-  }
+  outstanding = record { token = holds.outstanding.token; unmarked = or_else-none (mark_of S.size H u) ∙ holds.outstanding.unmarked };
+  fetched = holds.fetched;
+  unstored = holds.unstored;
+}
 
 collect-gate : (S : Setup) (d : Device) (prepared : ℕ → Type 0) (c c' : Core) (tag t : ℕ) (r r' : Record) (status : Status) → IsSound S d prepared c → slice_get c.records.items t ≡ Some r → mark_of S.size c.history.entries t ≡ Some status → HandsBack c c' tag t r r'
     → IsGate S (Collect tag t ∷ c.history.entries) c'.records.items c.first c'.block.items c'.held
@@ -86,13 +87,13 @@ collect-gate S d prepared c c' tag t r r' status sound was marked back =
       holds = λ b held. holds-collect S H tag t c.first b (sound.gate.holds b held);
       copy = λ b held. rw (quiet-contents S H (Collect tag t) sound.plain.inserts (collect-quiet S H tag t)) (sound.gate.copy b held);
       unit = λ b x u held is unit. elim (cases_eq t c.first) [
-          inl same ↦ absurd (clash (sym marked ∙ (rw (sym same) at (sound.gate.holds b held).outstanding.unmarked)))
+        | inl same ↦ absurd (clash (sym marked ∙ (rw (sym same) at (sound.gate.holds b held).outstanding.unmarked)))
         | inr other ↦ sound.gate.unit b x u held (sym (get-set-other c.records.items t c.first r' other) ∙ is) unit
-        ];
+      ];
     })
   where
-  clash : Some status ≡ None → ⊥
-  clash e = cc
+    clash : Some status ≡ None → ⊥
+    clash e = cc
 
 pub collected-sound : (S : Setup) (d : Device) (prepared : ℕ → Type 0) (c c' : Core) (tag t : ℕ) (r r' : Record) (q : Request) (status : Status) → IsSound S d prepared c → slice_get c.records.items t ≡ Some r → Tracks S c.history.entries t r q
     → r.status ≡ Some status → r.collected ≡ false → HandsBack c c' tag t r r' → IsSound S d prepared c'
@@ -120,6 +121,9 @@ collected-sound S d prepared c c' tag t r r' q status sound was tracks ended kep
 pub collect-room : (S : Setup) (d : Device) (prepared : ℕ → Type 0) (c : Core) (tag t : ℕ) (r : Record) (q : Request) (status : Status) → IsSound S d prepared c → slice_get c.records.items t ≡ Some r → Tracks S c.history.entries t r q → r.status ≡ Some status → r.collected ≡ false → 0 < c.history.spare
 collect-room S d prepared c tag t r q status sound was tracks ended kept =
     let H = c.history.entries in
-    omega (arith, sound.room,
+    omega (
+      arith,
+      sound.room,
       owed-falls S H (Collect tag t) t (collect-own S H tag t) (rw (sym sound.count) (inside-some c.records.items t r was))
-        (collected-owed S H tag t q status tracks.named (tracks.status ∙ ended) (tracks.collected ∙ kept)))
+          (collected-owed S H tag t q status tracks.named (tracks.status ∙ ended) (tracks.collected ∙ kept)),
+    )

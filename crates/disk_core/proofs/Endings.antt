@@ -58,22 +58,22 @@ kept-same false kept now now' kept' uncached same is = is ∙ (uncached refl ∙
 -- a record with the same bytes in its buffer
 pub tracks-same : (S : Setup) (H : List Entry) (t : ℕ) (r r' : Record) (q : Request) → SameButBuffer r r' → r'.buffer.items ≡ r.buffer.items → Tracks S H t r q → Tracks S H t r' q
 tracks-same S H t r r' q same bytes tracks = record {
-    named = tracks.named;
-    of_kind = tracks.of_kind ∙ sym same.kind;
-    moving = rw same.kind tracks.moving;
-    from = same.from ∙ tracks.from;
-    units = rw same.units tracks.units;
-    within = tracks.within;
-    status = tracks.status ∙ sym same.status;
-    collected = tracks.collected ∙ sym same.collected;
-    unfinished = rw (same.status, same.finished, same.units) tracks.unfinished;
-    moved = rw (same.status, same.finished, same.units) tracks.moved;
-    uncollected = rw (same.status, same.collected) tracks.uncollected;
-    long = rw (same.collected, bytes) tracks.long;
-    bytes = rw (same.collected, same.kind, bytes) tracks.bytes;
-    given = rw (same.collected, same.kind, bytes) tracks.given;
-    emptied = rw (same.collected, bytes) tracks.emptied;
-  }
+  named = tracks.named;
+  of_kind = tracks.of_kind ∙ sym same.kind;
+  moving = rw same.kind tracks.moving;
+  from = same.from ∙ tracks.from;
+  units = rw same.units tracks.units;
+  within = tracks.within;
+  status = tracks.status ∙ sym same.status;
+  collected = tracks.collected ∙ sym same.collected;
+  unfinished = rw (same.status, same.finished, same.units) tracks.unfinished;
+  moved = rw (same.status, same.finished, same.units) tracks.moved;
+  uncollected = rw (same.status, same.collected) tracks.uncollected;
+  long = rw (same.collected, bytes) tracks.long;
+  bytes = rw (same.collected, same.kind, bytes) tracks.bytes;
+  given = rw (same.collected, same.kind, bytes) tracks.given;
+  emptied = rw (same.collected, bytes) tracks.emptied;
+}
 
 pub read-write : Read ≡ Write → ⊥
 read-write e = cc
@@ -83,13 +83,13 @@ some-list a b e = cc
 
 pub same-finishes : (r r' : Record) → SameButBuffer r r' → Finishes r (finished_record r')
 same-finishes r r' same = record {
-    kind = same.kind;
-    from = same.from;
-    units = rw same.units refl;
-    finished = ap (λ n. n + 1) same.finished;
-    status = rw (same.finished, same.units, same.status) refl;
-    collected = same.collected;
-  }
+  kind = same.kind;
+  from = same.from;
+  units = rw same.units refl;
+  finished = ap (λ n. n + 1) same.finished;
+  status = rw (same.finished, same.units, same.status) refl;
+  collected = same.collected;
+}
 
 pub may-done : (S : Setup) (H : List Entry) (t : ℕ) (command : Command) → MayCommand S H t command → MayFollow S H (Done t command)
 unfolding MayFollow
@@ -130,26 +130,26 @@ faulted S d d' prepared prepared' c c' r r' q u command done failure sound stay 
     let tracks : Tracks S H c.first r q = is.tracks in
     let few : length H + 1 < 2 ^ 63 = omega (arith, sound.few, ends.spare) in
     let none : NoneHeld S.size (Fault c.first command done ∷ H) =
-        none-after-fault S H c.first command done (λ t b holds. (sound.gate.only t b holds).0) (tracks.status ∙ is.unended) in
+    none-after-fault S H c.first command done (λ t b holds. (sound.gate.only t b holds).0) (tracks.status ∙ is.unended) in
     did S d d' prepared prepared' c c' (Fault c.first command done) r (failed_record r') q (record { token = c.first; command = command }) (Failed done) sound stay
-      (record {
-        was = was;
-        entries = ends.entries;
-        spare = ends.spare;
-        records = ends.records;
-        first = ends.first;
-        block = ends.block ∙ sound.block;
-        own = fault-own S H c.first command done;
-        may = may-fault S H c.first command done may stops;
-        meets = meets-command S H d d' (Fault c.first command done) 1 (Err failure) sound.meets made (is_fault c.first command done) refl few now kept;
-        tracks = tracks-fault S H c.first command done r' q (tracks-same S H c.first r r' q same bytes tracks) (same.status ∙ is.unended);
-        gate = gate-none S (Fault c.first command done ∷ H) c'.records.items c.first c'.block.items c'.held none ends.held;
-        owed = fault-owed S.size H c.first command done q tracks.named (rw tracks.of_kind tracks.moving) (tracks.status ∙ is.unended);
-        becomes = record { units = rw same.units refl; kind = same.kind; unended = λ _. is.unended };
-      })
-      next refl
-      (fills-failed S H c.first command done (buffers_of c.records.items) (buffers_of c'.records.items) (buffers-same c.records.items c'.records.items c.first r (failed_record r') was ends.records bytes))
-      made.later (λ n failed. made.cause) (not-fetched command done)
+    (record {
+      was = was;
+      entries = ends.entries;
+      spare = ends.spare;
+      records = ends.records;
+      first = ends.first;
+      block = ends.block ∙ sound.block;
+      own = fault-own S H c.first command done;
+      may = may-fault S H c.first command done may stops;
+      meets = meets-command S H d d' (Fault c.first command done) 1 (Err failure) sound.meets made (is_fault c.first command done) refl few now kept;
+      tracks = tracks-fault S H c.first command done r' q (tracks-same S H c.first r r' q same bytes tracks) (same.status ∙ is.unended);
+      gate = gate-none S (Fault c.first command done ∷ H) c'.records.items c.first c'.block.items c'.held none ends.held;
+      owed = fault-owed S.size H c.first command done q tracks.named (rw tracks.of_kind tracks.moving) (tracks.status ∙ is.unended);
+      becomes = record { units = rw same.units refl; kind = same.kind; unended = λ _. is.unended };
+    })
+    next refl
+    (fills-failed S H c.first command done (buffers_of c.records.items) (buffers_of c'.records.items) (buffers-same c.records.items c'.records.items c.first r (failed_record r') was ends.records bytes))
+    made.later (λ n failed. made.cause) (not-fetched command done)
 
 -- a store or a put of the next unit was done
 pub wrote : (S : Setup) (d d' : Device) (prepared prepared' : ℕ → Type 0) (c c' : Core) (r : Record) (q : Request) (u : Span) (command : Command)
@@ -168,34 +168,37 @@ wrote S d d' prepared prepared' c c' r q u command sound stay is was writes made
     let few : length H + 1 < 2 ^ 63 = omega (arith, sound.few, ends.spare) in
     let same : SameButBuffer r r = record { kind = refl; from = refl; units = refl; finished = refl; status = refl; collected = refl } in
     did S d d' prepared prepared' c c' (Done c.first command) r (finished_record r) q (record { token = c.first; command = command }) Made sound stay
-      (record {
-        was = was;
-        entries = ends.entries;
-        spare = ends.spare;
-        records = ends.records;
-        first = ends.first;
-        block = ends.block ∙ sound.block;
-        own = done-own S H c.first command;
-        may = may-done S H c.first command may;
-        meets = meets-command S H d d' (Done c.first command) 0 (Ok tt) sound.meets made entry refl few now kept;
-        tracks = tracks-unit S H c.first command r (finished_record r) q u tracks is.unended is.has moving (same-finishes r r same) refl (λ _. refl) (λ reads. absurd (read-write (sym reads ∙ writes)));
-        gate = gate-none S (Done c.first command ∷ H) c'.records.items c.first c'.block.items c'.held none ends.held;
-        owed = done-owed S.size H c.first command q r.finished u tracks.named (rw tracks.of_kind tracks.moving) (tracks.status ∙ is.unended) (rw tracks.units at is.has.is)
+    (record {
+      was = was;
+      entries = ends.entries;
+      spare = ends.spare;
+      records = ends.records;
+      first = ends.first;
+      block = ends.block ∙ sound.block;
+      own = done-own S H c.first command;
+      may = may-done S H c.first command may;
+      meets = meets-command S H d d' (Done c.first command) 0 (Ok tt) sound.meets made entry refl few now kept;
+      tracks = tracks-unit S H c.first command r (finished_record r) q u tracks is.unended is.has moving (same-finishes r r same) refl (λ _. refl) (λ reads. absurd (read-write (sym reads ∙ writes)));
+      gate = gate-none S (Done c.first command ∷ H) c'.records.items c.first c'.block.items c'.held none ends.held;
+      owed = done-owed S.size H c.first command q r.finished u tracks.named (rw tracks.of_kind tracks.moving) (tracks.status ∙ is.unended) (rw tracks.units at is.has.is)
           (rw (tracks.of_kind, writes) falls);
-        becomes = record { units = refl; kind = refl; unended = λ _. is.unended };
-      })
-      next refl
-      (fills (buffers_of c.records.items) (buffers_of c'.records.items) (buffers-same c.records.items c'.records.items c.first r (finished_record r) was ends.records refl))
-      made.later (λ n failed. absurd (made-failed n failed)) answer
+      becomes = record { units = refl; kind = refl; unended = λ _. is.unended };
+    })
+    next refl
+    (fills (buffers_of c.records.items) (buffers_of c'.records.items) (buffers-same c.records.items c'.records.items c.first r (finished_record r) was ends.records refl))
+    made.later (λ n failed. absurd (made-failed n failed)) answer
 
 -- an open token's disk has room for an entry
 pub room-some : (S : Setup) (d : Device) (prepared : ℕ → Type 0) (c : Core) (r : Record) (q : Request) (u : Span) → IsSound S d prepared c → IsNext S c.history.entries c.first r q u → 0 < c.history.spare
 room-some S d prepared c r q u sound is =
     let H = c.history.entries in
     let tracks : Tracks S H c.first r q = is.tracks in
-    omega (arith, sound.room,
+    omega (
+      arith,
+      sound.room,
       owed-falls S H (Fault c.first Sync 0) c.first (fault-own S H c.first Sync 0) is.token
-        (fault-owed S.size H c.first Sync 0 q tracks.named (rw tracks.of_kind tracks.moving) (tracks.status ∙ is.unended)))
+          (fault-owed S.size H c.first Sync 0 q tracks.named (rw tracks.of_kind tracks.moving) (tracks.status ∙ is.unended)),
+    )
 
 -- an element that was read from a list
 pub read-is : (records : List Record) (k : ℕ) (r x : Record) → slice_get records k ≡ Some r → x ≡ get_or records k x → x ≡ r
@@ -207,8 +210,8 @@ unit-left S H records t r r' x q tracks open_ same was is =
     let one : r' ≡ x = some-record r' x (sym (get-set-same records t r r' was) ∙ is) in
     rw (sym one, same.finished, same.units) (tracks.unfinished open_)
   where
-  some-record : (a b : Record) → Some a ≡ Some b → a ≡ b
-  some-record a b e = cc
+    some-record : (a b : Record) → Some a ≡ Some b → a ≡ b
+    some-record a b e = cc
 
 pub next-room : (S : Setup) (d : Device) (prepared : ℕ → Type 0) (c : Core) (r : Record) (u : Span) (kind : Kind) → IsShaped d → IsSound S d prepared c → NextUnit c u kind r → 0 < c.history.spare
 next-room S d prepared c r u kind shaped sound next =
@@ -221,8 +224,8 @@ next-left S d prepared c r x u kind shaped sound next there =
     let one : r ≡ x = some-record r x (sym next.is ∙ there) in
     rw (sym one) (is.tracks.unfinished is.unended)
   where
-  some-record : (a b : Record) → Some a ≡ Some b → a ≡ b
-  some-record a b e = cc
+    some-record : (a b : Record) → Some a ≡ Some b → a ≡ b
+    some-record a b e = cc
 
 -- a record that was read, with its unit that was read
 pub next-read : (S : Setup) (d : Device) (prepared : ℕ → Type 0) (c : Core) (kept : Record) (u : Span) (kind : Kind) → IsSound S d prepared c → c.first < length c.records.items
@@ -230,13 +233,15 @@ pub next-read : (S : Setup) (d : Device) (prepared : ℕ → Type 0) (c : Core) 
     → (r : Record) × NextUnit c u kind r
 next-read S d prepared c kept u kind sound there unended at unit_at of_kind =
     let is : slice_get c.records.items c.first ≡ Some kept = slice_get_read c.records.items (length c.records.items) c.first kept refl there at in
-    let (q, tracks) = sound.tracked c.first kept is in
-    (kept, record {
-      is = is;
-      unended = unended kept is;
-      of_kind = of_kind;
-      unit = slice_get_read kept.units.items (length kept.units.items) kept.finished u refl (tracks.unfinished (unended kept is)) unit_at;
-    })
+    let (q, tracks) = sound.tracked c.first kept is in (
+      kept,
+      record {
+        is = is;
+        unended = unended kept is;
+        of_kind = of_kind;
+        unit = slice_get_read kept.units.items (length kept.units.items) kept.finished u refl (tracks.unfinished (unended kept is)) unit_at;
+      },
+    )
 
 pub not-flush : (S : Setup) (d : Device) (prepared : ℕ → Type 0) (c : Core) (kept : Record) → IsSound S d prepared c → c.first < length c.records.items → kept ≡ get_or c.records.items c.first kept → kept.kind ≡ Flush → ⊥
 not-flush S d prepared c kept sound there at flush =
@@ -244,5 +249,5 @@ not-flush S d prepared c kept sound there at flush =
     let (q, tracks) = sound.tracked c.first kept is in
     clash (rw flush at tracks.moving)
   where
-  clash : true ≡ false → ⊥
-  clash e = cc
+    clash : true ≡ false → ⊥
+    clash e = cc

@@ -32,7 +32,7 @@ pub mark-complete : (size : ℕ) (H : List Entry) (t : ℕ) (c : Command) (q : R
     → mark_of size (Done t c ∷ H) t ≡ Some Success
 mark-complete size H t c q named moving unmarked moved =
     let all : all_from (is_moved size (Done t c ∷ H) t) (from_of size q) q.asked.length ≡ true =
-        all_from-true (is_moved size (Done t c ∷ H) t) (from_of size q) q.asked.length (λ x from until. moved x from until ∙ lt-ltb x (until_of size q) until) in
+    all_from-true (is_moved size (Done t c ∷ H) t) (from_of size q) q.asked.length (λ x from until. moved x from until ∙ lt-ltb x (until_of size q) until) in
     let whole : is_complete size (Done t c ∷ H) t ≡ true = complete size (Done t c ∷ H) t q (request-done H t t c ∙ named) moving ∙ all in
     done-mark size H t c unmarked ∙ ap (λ b. status_if b Success) whole
 
@@ -42,7 +42,7 @@ pub mark-open : (size : ℕ) (H : List Entry) (t : ℕ) (c : Command) (q : Reque
     → mark_of size (Done t c ∷ H) t ≡ None
 mark-open size H t c q x named moving unmarked from until unmoved =
     let some : all_from (is_moved size (Done t c ∷ H) t) (from_of size q) q.asked.length ≡ false =
-        all_from-false (is_moved size (Done t c ∷ H) t) (from_of size q) q.asked.length x from until unmoved in
+    all_from-false (is_moved size (Done t c ∷ H) t) (from_of size q) q.asked.length x from until unmoved in
     let whole : is_complete size (Done t c ∷ H) t ≡ false = complete size (Done t c ∷ H) t q (request-done H t t c ∙ named) moving ∙ some in
     done-mark size H t c unmarked ∙ ap (λ b. status_if b Success) whole
 

@@ -26,17 +26,20 @@ use Rattle.disk_core.proofs.Tracked.{HasUnit, has-unit}
 pub sizes-bounds : (size : ℕ) → is_block_size size ≡ true → (512 ≤ size) × (size ≤ 4096)
 sizes-bounds size one = by (cases_or (nat_eq size 512) _ one)
   where
-  cases_or : (a b : Bool) → (a || b) ≡ true → (a ≡ true) ⊎ (b ≡ true)
-  cases_or a b e = or_cases a b e
-  last : (nat_eq size 2048 ≡ true) ⊎ (nat_eq size 4096 ≡ true) → (512 ≤ size) × (size ≤ 4096)
-  last (inl e) = let is : size ≡ 2048 = eqb-true size 2048 e in (omega arith, omega arith)
-  last (inr e) = let is : size ≡ 4096 = eqb-true size 4096 e in (omega arith, omega arith)
-  third : (nat_eq size 1024 ≡ true) ⊎ ((nat_eq size 2048 || nat_eq size 4096) ≡ true) → (512 ≤ size) × (size ≤ 4096)
-  third (inl e) = let is : size ≡ 1024 = eqb-true size 1024 e in (omega arith, omega arith)
-  third (inr e) = last (or_cases (nat_eq size 2048) (nat_eq size 4096) e)
-  by : (nat_eq size 512 ≡ true) ⊎ ((nat_eq size 1024 || (nat_eq size 2048 || nat_eq size 4096)) ≡ true) → (512 ≤ size) × (size ≤ 4096)
-  by (inl e) = let is : size ≡ 512 = eqb-true size 512 e in (omega arith, omega arith)
-  by (inr e) = third (or_cases (nat_eq size 1024) (nat_eq size 2048 || nat_eq size 4096) e)
+    cases_or : (a b : Bool) → (a || b) ≡ true → (a ≡ true) ⊎ (b ≡ true)
+    cases_or a b e = or_cases a b e
+
+    last : (nat_eq size 2048 ≡ true) ⊎ (nat_eq size 4096 ≡ true) → (512 ≤ size) × (size ≤ 4096)
+    last (inl e) = let is : size ≡ 2048 = eqb-true size 2048 e in (omega arith, omega arith)
+    last (inr e) = let is : size ≡ 4096 = eqb-true size 4096 e in (omega arith, omega arith)
+
+    third : (nat_eq size 1024 ≡ true) ⊎ ((nat_eq size 2048 || nat_eq size 4096) ≡ true) → (512 ≤ size) × (size ≤ 4096)
+    third (inl e) = let is : size ≡ 1024 = eqb-true size 1024 e in (omega arith, omega arith)
+    third (inr e) = last (or_cases (nat_eq size 2048) (nat_eq size 4096) e)
+
+    by : (nat_eq size 512 ≡ true) ⊎ ((nat_eq size 1024 || (nat_eq size 2048 || nat_eq size 4096)) ≡ true) → (512 ≤ size) × (size ≤ 4096)
+    by (inl e) = let is : size ≡ 512 = eqb-true size 512 e in (omega arith, omega arith)
+    by (inr e) = third (or_cases (nat_eq size 1024) (nat_eq size 2048 || nat_eq size 4096) e)
 
 pub blocks-of : (S : Setup) (d : Device) → setup_of d ≡ S → blocks_of S 1 ≡ d.blocks
 unfolding setup_of
@@ -62,15 +65,17 @@ pub next-of : (S : Setup) (d : Device) (prepared : ℕ → Type 0) (c : Core) (r
 next-of S d prepared c r u kind shaped sound next =
     let tracks : (q : Request) × Tracks S c.history.entries c.first r q = sound.tracked c.first r next.is in
     let size : d.size ≡ S.size = size-of S d sound.meets.setup in
-    let positive : 0 < S.size = omega (arith, (sizes-bounds d.size shaped.size).0) in
-    (tracks.0, record {
-      legal = sound.legal;
-      positive = positive;
-      token = rw (sym sound.count) (inside-some c.records.items c.first r next.is);
-      tracks = tracks.1;
-      unended = next.unended;
-      has = has-unit S c.history.entries c.first r tracks.0 u positive tracks.1 next.unit;
-    })
+    let positive : 0 < S.size = omega (arith, (sizes-bounds d.size shaped.size).0) in (
+      tracks.0,
+      record {
+        legal = sound.legal;
+        positive = positive;
+        token = rw (sym sound.count) (inside-some c.records.items c.first r next.is);
+        tracks = tracks.1;
+        unended = next.unended;
+        has = has-unit S c.history.entries c.first r tracks.0 u positive tracks.1 next.unit;
+      },
+    )
 
 pub unit-facts : (S : Setup) (d : Device) (prepared : ℕ → Type 0) (c : Core) (r : Record) (q : Request) (u : Span) → IsShaped d → IsSound S d prepared c → IsNext S c.history.entries c.first r q u → UnitLies d r (length c.block.items) u
 unit-facts S d prepared c r q u shaped sound next =

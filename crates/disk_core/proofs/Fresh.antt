@@ -28,20 +28,20 @@ kept-first : (d : Device) → kept_contents (setup_of d) 1 [] ≡ d.first
 unfolding kept_contents flushed_contents setup_of
 kept-first d = rw (contents-first d) (by d.cached)
   where
-  by : (b : Bool) → (if b then d.first else d.first) ≡ d.first
-  by true = refl
-  by false = refl
+    by : (b : Bool) → (if b then d.first else d.first) ≡ d.first
+    by true = refl
+    by false = refl
 
 fresh-meets : (d : Device) → IsFresh d → Meets (setup_of d) [] d
 unfolding commands faults
 fresh-meets d fresh = record {
-    setup = refl;
-    now = fresh.now ∙ sym (contents-first d);
-    kept = fresh.kept ∙ sym (kept-first d);
-    calls = fresh.calls;
-    failed = fresh.failed;
-    faults = omega arith;
-  }
+  setup = refl;
+  now = fresh.now ∙ sym (contents-first d);
+  kept = fresh.kept ∙ sym (kept-first d);
+  calls = fresh.calls;
+  failed = fresh.failed;
+  faults = omega arith;
+}
 
 fresh-plain : (d : Device) → IsPlain (setup_of d) []
 unfolding setup_of ejects inserts is_protected
@@ -59,8 +59,8 @@ none-held : (size t b : ℕ) → Holds size [] t b → ⊥
 unfolding was_fetched
 none-held size t b holds = clash holds.fetched
   where
-  clash : false ≡ true → ⊥
-  clash e = cc
+    clash : false ≡ true → ⊥
+    clash e = cc
 
 accepted-none : accepted [] ≡ 0
 unfolding accepted
@@ -72,19 +72,19 @@ size-first d = refl
 
 pub fresh-sound : (d : Device) (prepared : ℕ → Type 0) (c : Core) → IsFresh d → IsNewCore c d.size → IsSound (setup_of d) d prepared c
 fresh-sound d prepared c fresh new = record {
-    legal = rw new.entries (legal-none (setup_of d));
-    plain = rw new.entries (fresh-plain d);
-    meets = rw new.entries (fresh-meets d fresh);
-    count = rw (new.entries, new.records) (sym accepted-none);
-    tracked = λ t r is. absurd (nothing t r (rw new.records at is));
-    prior = λ t r lt is. absurd (nothing t r (rw new.records at is));
-    bound = rw (new.first, new.records) (omega arith);
-    block = new.block ∙ sym (size-first d);
-    gate = rw new.entries (gate-none (setup_of d) [] c.records.items c.first c.block.items c.held (none-held (setup_of d).size) new.held);
-    ready = λ t k b r u is. absurd (nothing t r (rw new.records at is));
-    few = rw (new.entries, new.spare) (omega arith);
-    room = rw (new.entries, new.spare) (fresh-owed d);
-  }
+  legal = rw new.entries (legal-none (setup_of d));
+  plain = rw new.entries (fresh-plain d);
+  meets = rw new.entries (fresh-meets d fresh);
+  count = rw (new.entries, new.records) (sym accepted-none);
+  tracked = λ t r is. absurd (nothing t r (rw new.records at is));
+  prior = λ t r lt is. absurd (nothing t r (rw new.records at is));
+  bound = rw (new.first, new.records) (omega arith);
+  block = new.block ∙ sym (size-first d);
+  gate = rw new.entries (gate-none (setup_of d) [] c.records.items c.first c.block.items c.held (none-held (setup_of d).size) new.held);
+  ready = λ t k b r u is. absurd (nothing t r (rw new.records at is));
+  few = rw (new.entries, new.spare) (omega arith);
+  room = rw (new.entries, new.spare) (fresh-owed d);
+}
   where
-  nothing : (t : ℕ) (r : Record) → slice_get [] t ≡ Some r → ⊥
-  nothing t r is = cc
+    nothing : (t : ℕ) (r : Record) → slice_get [] t ≡ Some r → ⊥
+    nothing t r is = cc

@@ -34,21 +34,21 @@ accepted-fault H u c done = refl
 -- a holder was one before an entry that says nothing of it
 holds-before : (S : Setup) (H : List Entry) (e : Entry) (t b : ℕ) → accepted (e ∷ H) ≡ accepted H → IsSilent S H e t → Holds S.size (e ∷ H) t b → Holds S.size H t b
 holds-before S H e t b same silent holds = record {
-    outstanding = record { token = rw same at holds.outstanding.token; unmarked = sym silent.marked ∙ holds.outstanding.unmarked };
-    fetched = sym (silent.fetched b) ∙ holds.fetched;
-    unstored = sym (silent.stored b) ∙ holds.unstored;
-  }
+  outstanding = record { token = rw same at holds.outstanding.token; unmarked = sym silent.marked ∙ holds.outstanding.unmarked };
+  fetched = sym (silent.fetched b) ∙ holds.fetched;
+  unstored = sym (silent.stored b) ∙ holds.unstored;
+}
 
 -- a token that is open after an entry was open before it
 pub open-before : (size : ℕ) (H : List Entry) (e : Entry) (t : ℕ) → mark_of size (e ∷ H) t ≡ None → mark_of size H t ≡ None
 open-before size H e t unmarked = by (mark_of size H t) refl
   where
-  by : (m : Option Status) → mark_of size H t ≡ m → mark_of size H t ≡ None
-  by None is = is
-  by (Some s) is = let marked : mark_of size (e ∷ H) t ≡ Some s = mark-stays size H e t s is in absurd (clash s (sym marked ∙ unmarked))
-    where
-    clash : (s : Status) → Some s ≡ None → ⊥
-    clash s e = cc
+    by : (m : Option Status) → mark_of size H t ≡ m → mark_of size H t ≡ None
+    by None is = is
+    by (Some s) is = let marked : mark_of size (e ∷ H) t ≡ Some s = mark-stays size H e t s is in absurd (clash s (sym marked ∙ unmarked))
+      where
+        clash : (s : Status) → Some s ≡ None → ⊥
+        clash s e = cc
 
 some-is : (a b : ℕ) → Some a ≡ Some b → a ≡ b
 some-is a b e = cc
@@ -72,14 +72,14 @@ get-leaves H t b n = record { fetched = λ _. refl; stored = λ _. refl }
 none-after : (S : Setup) (H : List Entry) (t : ℕ) (c : Command) → NoneHeld S.size H → LeavesGates H (Done t c ∷ H) t → NoneHeld S.size (Done t c ∷ H)
 none-after S H t c none leaves u b holds =
     elim (cases_eq t u) [
-      inl same ↦
-        let own : Holds S.size (Done t c ∷ H) t b = rw (sym same) at holds in
-        none t b (record {
-          outstanding = record { token = rw (accepted-done H t c) at own.outstanding.token; unmarked = open-before S.size H (Done t c) t own.outstanding.unmarked };
-          fetched = sym (leaves.fetched b) ∙ own.fetched;
-          unstored = sym (leaves.stored b) ∙ own.unstored;
-        })
-    | inr other ↦ none u b (holds-before S H (Done t c) u b (accepted-done H t c) (done-silent S H t u c other) holds)
+      | inl same ↦
+          let own : Holds S.size (Done t c ∷ H) t b = rw (sym same) at holds in
+          none t b (record {
+            outstanding = record { token = rw (accepted-done H t c) at own.outstanding.token; unmarked = open-before S.size H (Done t c) t own.outstanding.unmarked };
+            fetched = sym (leaves.fetched b) ∙ own.fetched;
+            unstored = sym (leaves.stored b) ∙ own.unstored;
+          })
+      | inr other ↦ none u b (holds-before S H (Done t c) u b (accepted-done H t c) (done-silent S H t u c other) holds)
     ]
 
 pub none-after-put : (S : Setup) (H : List Entry) (t b n : ℕ) → NoneHeld S.size H → NoneHeld S.size (Done t (Put b n) ∷ H)
@@ -92,41 +92,41 @@ none-after-get S H t b n none = none-after S H t (Get b n) none (get-leaves H t 
 pub none-after-fault : (S : Setup) (H : List Entry) (t : ℕ) (c : Command) (done : ℕ) → ((u b : ℕ) → Holds S.size H u b → u ≡ t) → mark_of S.size H t ≡ None → NoneHeld S.size (Fault t c done ∷ H)
 none-after-fault S H t c done only unmarked u b holds =
     elim (cases_eq t u) [
-      inl same ↦
-        let own : Holds S.size (Fault t c done ∷ H) t b = rw (sym same) at holds in
-        clash (sym (mark-fault S.size H t c done unmarked) ∙ own.outstanding.unmarked)
-    | inr other ↦ other (sym (only u b (holds-before S H (Fault t c done) u b (accepted-fault H t c done) (fault-silent S H t u c done other) holds)))
+      | inl same ↦
+          let own : Holds S.size (Fault t c done ∷ H) t b = rw (sym same) at holds in
+          clash (sym (mark-fault S.size H t c done unmarked) ∙ own.outstanding.unmarked)
+      | inr other ↦ other (sym (only u b (holds-before S H (Fault t c done) u b (accepted-fault H t c done) (fault-silent S H t u c done other) holds)))
     ]
   where
-  clash : Some DeviceError ≡ None → ⊥
-  clash e = cc
+    clash : Some DeviceError ≡ None → ⊥
+    clash e = cc
 
 -- a store frees its block, the only one that was held
 pub none-after-store : (S : Setup) (H : List Entry) (t b : ℕ) → ((u c : ℕ) → Holds S.size H u c → (u ≡ t) × (c ≡ b)) → NoneHeld S.size (Done t (Store b) ∷ H)
 unfolding was_fetched was_stored
 none-after-store S H t b only u c holds =
     elim (cases_eq t u) [
-      inl same ↦
-        let own : Holds S.size (Done t (Store b) ∷ H) t c = rw (sym same) at holds in
-        let parts : ((nat_eq t t && nat_eq b c) ≡ false) × (was_stored H t c ≡ false) = or_parts (nat_eq t t && nat_eq b c) (was_stored H t c) own.unstored in
-        let before : Holds S.size H t c = record {
-          outstanding = record { token = rw (accepted-done H t (Store b)) at own.outstanding.token; unmarked = open-before S.size H (Done t (Store b)) t own.outstanding.unmarked };
-          fetched = own.fetched;
-          unstored = parts.1;
-        } in
-        let is : c ≡ b = (only t c before).1 in
-        both_ways (nat_eq t t && nat_eq b c) parts.0 (rw (eq-eqb t t refl, eq-eqb b c (sym is)))
-    | inr other ↦ other (sym (only u c (holds-before S H (Done t (Store b)) u c (accepted-done H t (Store b)) (done-silent S H t u (Store b) other) holds)).0)
+      | inl same ↦
+          let own : Holds S.size (Done t (Store b) ∷ H) t c = rw (sym same) at holds in
+          let parts : ((nat_eq t t && nat_eq b c) ≡ false) × (was_stored H t c ≡ false) = or_parts (nat_eq t t && nat_eq b c) (was_stored H t c) own.unstored in
+          let before : Holds S.size H t c = record {
+            outstanding = record { token = rw (accepted-done H t (Store b)) at own.outstanding.token; unmarked = open-before S.size H (Done t (Store b)) t own.outstanding.unmarked };
+            fetched = own.fetched;
+            unstored = parts.1;
+          } in
+          let is : c ≡ b = (only t c before).1 in
+          both_ways (nat_eq t t && nat_eq b c) parts.0 (rw (eq-eqb t t refl, eq-eqb b c (sym is)))
+      | inr other ↦ other (sym (only u c (holds-before S H (Done t (Store b)) u c (accepted-done H t (Store b)) (done-silent S H t u (Store b) other) holds)).0)
     ]
 
 -- a gate where nothing is held
 pub gate-none : (S : Setup) (H : List Entry) (records : List Record) (first : ℕ) (block : List ℕ) (held : Option ℕ) → NoneHeld S.size H → held ≡ None → IsGate S H records first block held
 gate-none S H records first block held none is = record {
-    only = λ t b holds. absurd (none t b holds);
-    holds = λ b some. absurd (none-some b (sym is ∙ some));
-    copy = λ b some. absurd (none-some b (sym is ∙ some));
-    unit = λ b r u some named next. absurd (none-some b (sym is ∙ some));
-  }
+  only = λ t b holds. absurd (none t b holds);
+  holds = λ b some. absurd (none-some b (sym is ∙ some));
+  copy = λ b some. absurd (none-some b (sym is ∙ some));
+  unit = λ b r u some named next. absurd (none-some b (sym is ∙ some));
+}
 
 -- what a gate with nothing held says
 pub none-held : (S : Setup) (H : List Entry) (records : List Record) (first : ℕ) (block : List ℕ) (held : Option ℕ) → IsGate S H records first block held → held ≡ None → NoneHeld S.size H
@@ -140,42 +140,43 @@ pub gate-fetch : (S : Setup) (H : List Entry) (records : List Record) (t : ℕ) 
     → IsGate S (Done t (Fetch u.block) ∷ H) records t block held
 unfolding was_fetched was_stored
 gate-fetch S H records t r u block held none is token unmarked unstored told named next writes part = record {
-    only = λ v b holds. only v b holds;
-    holds = λ b some.
+  only = λ v b holds. only v b holds;
+  holds = λ b some.
       let same : u.block ≡ b = some-is u.block b (sym is ∙ some) in
       rw (sym same) (record {
         outstanding = record { token = rw (accepted-done H t (Fetch u.block)) token; unmarked = unmarked };
         fetched = rw (eq-eqb t t refl, eq-eqb u.block u.block refl);
         unstored = unstored;
       });
-    copy = λ b some. let same : u.block ≡ b = some-is u.block b (sym is ∙ some) in rw (sym same) told;
-    unit = λ b r' u' some named' next'.
+  copy = λ b some. let same : u.block ≡ b = some-is u.block b (sym is ∙ some) in rw (sym same) told;
+  unit = λ b r' u' some named' next'.
       let same : u.block ≡ b = some-is u.block b (sym is ∙ some) in
       let one : r ≡ r' = cc in
       let two : u ≡ u' = unit-same r r' u u' one next next' in
       (rw (sym one) writes, rw (sym two) part, rw (sym two) same);
-  }
+}
   where
-  unit-same : (r r' : Record) (u u' : Span) → r ≡ r' → slice_get r.units.items r.finished ≡ Some u → slice_get r'.units.items r'.finished ≡ Some u' → u ≡ u'
-  unit-same r r' u u' one next next' = some-span (sym next ∙ (ap (λ (x : Record). slice_get x.units.items x.finished) one ∙ next'))
-    where
-    some-span : Some u ≡ Some u' → u ≡ u'
-    some-span e = cc
-  only : (v b : ℕ) → Holds S.size (Done t (Fetch u.block) ∷ H) v b → (v ≡ t) × (held ≡ Some b)
-  only v b holds =
-      elim (cases_eq t v) [
-        inl same ↦
-          let own : Holds S.size (Done t (Fetch u.block) ∷ H) t b = rw (sym same) at holds in
-          elim (or_cases (nat_eq t t && nat_eq u.block b) (was_fetched H t b) own.fetched) [
-            inl now ↦
-              let parts : (nat_eq t t ≡ true) × (nat_eq u.block b ≡ true) = and_parts (nat_eq t t) (nat_eq u.block b) now in
-              (sym same, is ∙ ap Some (eqb-true u.block b parts.1))
-          | inr before ↦
-              absurd (none t b (record {
-                outstanding = record { token = token; unmarked = open-before S.size H (Done t (Fetch u.block)) t own.outstanding.unmarked };
-                fetched = before;
-                unstored = own.unstored;
-              }))
-          ]
-      | inr other ↦ absurd (none v b (holds-before S H (Done t (Fetch u.block)) v b (accepted-done H t (Fetch u.block)) (done-silent S H t v (Fetch u.block) other) holds))
-      ]
+    unit-same : (r r' : Record) (u u' : Span) → r ≡ r' → slice_get r.units.items r.finished ≡ Some u → slice_get r'.units.items r'.finished ≡ Some u' → u ≡ u'
+    unit-same r r' u u' one next next' = some-span (sym next ∙ (ap (λ (x : Record). slice_get x.units.items x.finished) one ∙ next'))
+      where
+        some-span : Some u ≡ Some u' → u ≡ u'
+        some-span e = cc
+
+    only : (v b : ℕ) → Holds S.size (Done t (Fetch u.block) ∷ H) v b → (v ≡ t) × (held ≡ Some b)
+    only v b holds =
+        elim (cases_eq t v) [
+          | inl same ↦
+              let own : Holds S.size (Done t (Fetch u.block) ∷ H) t b = rw (sym same) at holds in
+              elim (or_cases (nat_eq t t && nat_eq u.block b) (was_fetched H t b) own.fetched) [
+                | inl now ↦
+                    let parts : (nat_eq t t ≡ true) × (nat_eq u.block b ≡ true) = and_parts (nat_eq t t) (nat_eq u.block b) now in
+                    (sym same, is ∙ ap Some (eqb-true u.block b parts.1))
+                | inr before ↦
+                    absurd (none t b (record {
+                      outstanding = record { token = token; unmarked = open-before S.size H (Done t (Fetch u.block)) t own.outstanding.unmarked };
+                      fetched = before;
+                      unstored = own.unstored;
+                    }))
+              ]
+          | inr other ↦ absurd (none v b (holds-before S H (Done t (Fetch u.block)) v b (accepted-done H t (Fetch u.block)) (done-silent S H t v (Fetch u.block) other) holds))
+        ]

@@ -42,20 +42,20 @@ given-get S H t q u buffer buffer' piece one unit long given counted filled told
     let fits : u.low - from_of S.size q + length piece ≤ length buffer = omega arith in
     let lies : lies_in S.size u.block u.count x ≡ (nat_le u.low x && nat_lt x u.high) = lies-in-unit S.size (from_of S.size q) (until_of S.size q) x u unit from until in
     rw filled (elim (cases_lt x u.low) [
-      inl below ↦
-        let outside : lies_in S.size u.block u.count x ≡ false = lies ∙ (rw (lt-leb u.low x below)) in
-        patch-before buffer (u.low - from_of S.size q) piece (x - from_of S.size q) fits (omega arith)
-        ∙ given x v from until (sym (read-before S H t u.block u.count x outside) ∙ got)
-    | inr above ↦
-        elim (cases_lt x u.high) [
-          inl within ↦
-            let inside : lies_in S.size u.block u.count x ≡ true = lies ∙ (rw (le-leb u.low x above, lt-ltb x u.high within)) in
-            let place : x - from_of S.size q - (u.low - from_of S.size q) ≡ x - u.low = omega arith in
-            patch-in buffer (u.low - from_of S.size q) piece (x - from_of S.size q) fits (omega arith) (omega arith)
-            ∙ (ap (slice_get piece) place ∙ told-byte (contents S 1 H) u.low piece x v told above (omega arith) (sym (read-now S H t u.block u.count x one inside) ∙ got))
-        | inr behind ↦
-            let outside : lies_in S.size u.block u.count x ≡ false = lies ∙ (rw (le-leb u.low x above, le-ltb x u.high behind)) in
-            patch-behind buffer (u.low - from_of S.size q) piece (x - from_of S.size q) fits (omega arith)
-            ∙ given x v from until (sym (read-before S H t u.block u.count x outside) ∙ got)
-        ]
+      | inl below ↦
+          let outside : lies_in S.size u.block u.count x ≡ false = lies ∙ (rw (lt-leb u.low x below)) in
+          patch-before buffer (u.low - from_of S.size q) piece (x - from_of S.size q) fits (omega arith)
+          ∙ given x v from until (sym (read-before S H t u.block u.count x outside) ∙ got)
+      | inr above ↦
+          elim (cases_lt x u.high) [
+            | inl within ↦
+                let inside : lies_in S.size u.block u.count x ≡ true = lies ∙ (rw (le-leb u.low x above, lt-ltb x u.high within)) in
+                let place : x - from_of S.size q - (u.low - from_of S.size q) ≡ x - u.low = omega arith in
+                patch-in buffer (u.low - from_of S.size q) piece (x - from_of S.size q) fits (omega arith) (omega arith)
+                ∙ (ap (slice_get piece) place ∙ told-byte (contents S 1 H) u.low piece x v told above (omega arith) (sym (read-now S H t u.block u.count x one inside) ∙ got))
+            | inr behind ↦
+                let outside : lies_in S.size u.block u.count x ≡ false = lies ∙ (rw (le-leb u.low x above, le-ltb x u.high behind)) in
+                patch-behind buffer (u.low - from_of S.size q) piece (x - from_of S.size q) fits (omega arith)
+                ∙ given x v from until (sym (read-before S H t u.block u.count x outside) ∙ got)
+          ]
     ])

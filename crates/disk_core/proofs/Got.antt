@@ -57,21 +57,21 @@ pub got : (S : Setup) (d d' : Device) (prepared prepared' : ℕ → Type 0) (c c
     → Stepped S d d' prepared' c c' step.Did
 got S d d' prepared prepared' c c' r r' u shaped sound stay next same fills ends = by (next-of S d prepared c r u Read shaped sound next)
   where
-  by : (q : Request) × IsNext S c.history.entries c.first r q u → Stepped S d d' prepared' c c' step.Did
-  by (q, is) =
-      let H = c.history.entries in
-      let command : Command = Get u.block u.count in
-      let tracks : Tracks S H c.first r q = is.tracks in
-      let free : NoneHeld S.size H = read-free S H c r u sound.gate next in
-      let filled : IsFilled d.now u.low (u.low - r.from) (u.high - u.low) r.buffer.items r'.buffer.items = fills.given in
-      let long : length r.buffer.items ≡ q.asked.length = tracks.long (tracks.uncollected next.unended) in
-      let low : from_of S.size q ≤ u.low = omega (arith, is.has.unit.low) in
-      let high : u.high ≤ until_of S.size q = omega (arith, is.has.unit.high) in
-      let some : u.low < u.high = is.has.unit.some in
-      let fits : (u.low - r.from) + length filled.piece ≤ length r.buffer.items = omega (arith, tracks.from, filled.counted) in
-      let told : AreToldAt (contents S 1 H) u.low filled.piece = rw (sym sound.meets.now) filled.same in
-      let few : length H + 1 < 2 ^ 63 = omega (arith, sound.few, ends.spare) in
-      did S d d' prepared prepared' c c' (Done c.first command) r (finished_record r') q (record { token = c.first; command = command }) Made sound stay
+    by : (q : Request) × IsNext S c.history.entries c.first r q u → Stepped S d d' prepared' c c' step.Did
+    by (q, is) =
+        let H = c.history.entries in
+        let command : Command = Get u.block u.count in
+        let tracks : Tracks S H c.first r q = is.tracks in
+        let free : NoneHeld S.size H = read-free S H c r u sound.gate next in
+        let filled : IsFilled d.now u.low (u.low - r.from) (u.high - u.low) r.buffer.items r'.buffer.items = fills.given in
+        let long : length r.buffer.items ≡ q.asked.length = tracks.long (tracks.uncollected next.unended) in
+        let low : from_of S.size q ≤ u.low = omega (arith, is.has.unit.low) in
+        let high : u.high ≤ until_of S.size q = omega (arith, is.has.unit.high) in
+        let some : u.low < u.high = is.has.unit.some in
+        let fits : (u.low - r.from) + length filled.piece ≤ length r.buffer.items = omega (arith, tracks.from, filled.counted) in
+        let told : AreToldAt (contents S 1 H) u.low filled.piece = rw (sym sound.meets.now) filled.same in
+        let few : length H + 1 < 2 ^ 63 = omega (arith, sound.few, ends.spare) in
+        did S d d' prepared prepared' c c' (Done c.first command) r (finished_record r') q (record { token = c.first; command = command }) Made sound stay
         (record {
           was = next.is;
           entries = ends.entries;
@@ -82,29 +82,31 @@ got S d d' prepared prepared' c c' r r' u shaped sound stay next same fills ends
           own = done-own S H c.first command;
           may = may-done S H c.first command (may-get S H c.first r q u is next.of_kind);
           meets = meets-command S H d d' (Done c.first command) 0 (Ok tt) sound.meets fills.command (is_get c.first u.block u.count) refl few
-            (fills.now ∙ (sound.meets.now ∙ sym (contents-same S H (Done c.first command) sound.plain.inserts (get-silent S.size H c.first u.block u.count))))
-            (kept-same d.cached d.kept d.now d'.now d'.kept shaped.uncached fills.now fills.kept);
+              (fills.now ∙ (sound.meets.now ∙ sym (contents-same S H (Done c.first command) sound.plain.inserts (get-silent S.size H c.first u.block u.count))))
+              (kept-same d.cached d.kept d.now d'.now d'.kept shaped.uncached fills.now fills.kept);
           tracks = tracks-unit S H c.first command r (finished_record r') q u tracks next.unended is.has (λ y. refl) (same-finishes r r' same)
-            (rw filled.filled (length-patch r.buffer.items (u.low - r.from) filled.piece fits))
-            (λ writes. absurd (read-write (sym next.of_kind ∙ writes)))
-            (λ _. given-get S H c.first q u r.buffer.items r'.buffer.items filled.piece sound.plain.inserts is.has.unit long
+              (rw filled.filled (length-patch r.buffer.items (u.low - r.from) filled.piece fits))
+              (λ writes. absurd (read-write (sym next.of_kind ∙ writes)))
+              (λ _. given-get S H c.first q u r.buffer.items r'.buffer.items filled.piece sound.plain.inserts is.has.unit long
               (tracks.given (tracks.uncollected next.unended) next.of_kind) filled.counted (rw (sym tracks.from) filled.filled) told);
           gate = gate-none S (Done c.first command ∷ H) c'.records.items c.first c'.block.items c'.held (none-after-get S H c.first u.block u.count free) ends.held;
           owed = done-owed S.size H c.first command q r.finished u tracks.named (rw tracks.of_kind tracks.moving) (tracks.status ∙ next.unended) (rw tracks.units at is.has.is)
-            (rw (tracks.of_kind, next.of_kind) (got-falls H c.first u.block u.count u.whole (next-ungot S H c.first r q u is)));
+              (rw (tracks.of_kind, next.of_kind) (got-falls H c.first u.block u.count u.whole (next-ungot S H c.first r q u is)));
           becomes = record { units = rw same.units refl; kind = same.kind; unended = λ _. next.unended };
         })
-        (turn-get S d prepared c r q u sound is next.of_kind) refl
-        (q, record {
-          named = tracks.named;
-          piece = filled.piece;
-          counted = rw (sym is.has.unit.low, sym is.has.unit.high) filled.counted;
-          same = rw (sound.plain.inserts, sym is.has.unit.low) told;
-          filled = λ buffer there.
-            let one : r.buffer.items ≡ buffer = some-list r.buffer.items buffer (sym (get-map (λ (x : Record). x.buffer.items) c.records.items c.first r next.is) ∙ there) in
-            buffers-set c.records.items c'.records.items c.first (finished_record r') ends.records
-            ∙ (rw (filled.filled, one, sym is.has.unit.low, tracks.from) refl);
-        })
+        (turn-get S d prepared c r q u sound is next.of_kind) refl (
+          q,
+          record {
+            named = tracks.named;
+            piece = filled.piece;
+            counted = rw (sym is.has.unit.low, sym is.has.unit.high) filled.counted;
+            same = rw (sound.plain.inserts, sym is.has.unit.low) told;
+            filled = λ buffer there.
+                let one : r.buffer.items ≡ buffer = some-list r.buffer.items buffer (sym (get-map (λ (x : Record). x.buffer.items) c.records.items c.first r next.is) ∙ there) in
+                buffers-set c.records.items c'.records.items c.first (finished_record r') ends.records
+                ∙ (rw (filled.filled, one, sym is.has.unit.low, tracks.from) refl);
+          },
+        )
         fills.command.later (λ done failed. absurd (made-failed done failed)) refl
 
 pub got-not : (S : Setup) (d d' : Device) (prepared prepared' : ℕ → Type 0) (c c' : Core) (r r' : Record) (u : Span) (failure : BlockFailed) → IsShaped d → IsSound S d prepared c → StayPrepared prepared prepared'
@@ -113,10 +115,10 @@ pub got-not : (S : Setup) (d d' : Device) (prepared prepared' : ℕ → Type 0) 
     → Stepped S d d' prepared' c c' step.Did
 got-not S d d' prepared prepared' c c' r r' u failure shaped sound stay next same fills ends = by (next-of S d prepared c r u Read shaped sound next)
   where
-  by : (q : Request) × IsNext S c.history.entries c.first r q u → Stepped S d d' prepared' c c' step.Did
-  by (q, is) =
-      let H = c.history.entries in
-      faulted S d d' prepared prepared' c c' r r' q u (Get u.block u.count) 0 failure sound stay is next.is same fills.left fills.command
+    by : (q : Request) × IsNext S c.history.entries c.first r q u → Stepped S d d' prepared' c c' step.Did
+    by (q, is) =
+        let H = c.history.entries in
+        faulted S d d' prepared prepared' c c' r r' q u (Get u.block u.count) 0 failure sound stay is next.is same fills.left fills.command
         (may-get S H c.first r q u is next.of_kind) refl
         (fills.now ∙ (sound.meets.now ∙ sym (contents-same S H (Fault c.first (Get u.block u.count) 0) sound.plain.inserts (fault-silent-get S.size H c.first u.block u.count 0))))
         (kept-same d.cached d.kept d.now d'.now d'.kept shaped.uncached fills.now fills.kept)

@@ -77,27 +77,29 @@ new-tracks S H tag view asked buffer r some legal is new lies =
       emptied = λ gone. absurd (true-false (sym gone ∙ new.collected));
     }
   where
-  clash : (v : ℕ) → None ≡ Some v → ⊥
-  clash v e = cc
-  true-false : true ≡ false → ⊥
-  true-false e = cc
-  not-empty : r.status ≡ None → length buffer ≡ 0 → ⊥
-  not-empty open_ none = done (sym (rw (eq-eqb (length buffer) 0 none) at new.status) ∙ open_)
-    where
-    done : Some Success ≡ None → ⊥
-    done e = cc
+    clash : (v : ℕ) → None ≡ Some v → ⊥
+    clash v e = cc
+
+    true-false : true ≡ false → ⊥
+    true-false e = cc
+
+    not-empty : r.status ≡ None → length buffer ≡ 0 → ⊥
+    not-empty open_ none = done (sym (rw (eq-eqb (length buffer) 0 none) at new.status) ∙ open_)
+      where
+        done : Some Success ≡ None → ⊥
+        done e = cc
 
 kept-before : (S : Setup) (H : List Entry) (e : Entry) (records : List Record) (r : Record) → length records ≡ accepted H → ((t : ℕ) → t ≢ accepted H → IsSilent S H e t) → ((t : ℕ) (x : Record) → slice_get records t ≡ Some x → (q : Request) × Tracks S H t x q)
     → ((q : Request) × Tracks S (e ∷ H) (accepted H) r q) → (t : ℕ) (x : Record) → slice_get (records ++ (r ∷ [])) t ≡ Some x → (q : Request) × Tracks S (e ∷ H) t x q
 kept-before S H e records r count silent each new t x is =
     elim (last-or records r x t is) [
-      inl before ↦
-        let (q, tracks) = each t x before in
-        let other : t ≢ accepted H = λ same. absurd (omega (arith, inside-some records t x before)) in
-        (q, tracks-silent S H e t x q (silent t other) tracks)
-    | inr (last, one) ↦
-        let here : t ≡ accepted H = last ∙ count in
-        (new.0, rw (here, one) new.1)
+      | inl before ↦
+          let (q, tracks) = each t x before in
+          let other : t ≢ accepted H = λ same. absurd (omega (arith, inside-some records t x before)) in
+          (q, tracks-silent S H e t x q (silent t other) tracks)
+      | inr (last, one) ↦
+          let here : t ≡ accepted H = last ∙ count in
+          (new.0, rw (here, one) new.1)
     ]
 
 -- what a call that adds a record leaves of the disk
@@ -119,37 +121,38 @@ new-owes : (S : Setup) (H : List Entry) (t : ℕ) (r : Record) (q : Request) →
 unfolding token_owed
 new-owes S H t r q tracks = rw tracks.named (by (mark_of S.size H t) (was_collected H t))
   where
-  commands : (kind : Kind) → is_flush kind ≡ false → commands_owed S.size H t q kind ≤ cost_of kind (units_of S.size (from_of S.size q) (until_of S.size q))
-  commands Read moving = spans-few Read H t (units_of S.size (from_of S.size q) (until_of S.size q))
-  commands Write moving = spans-few Write H t (units_of S.size (from_of S.size q) (until_of S.size q))
-  commands Flush moving = cc
-  by : (m : Option Status) (gone : Bool) → owed_by S.size H t (Some q) m gone ≤ cost_of r.kind r.units.items + 2
-  by None gone = rw (sym tracks.of_kind, tracks.units) (omega (arith, commands q.asked.kind (rw tracks.of_kind tracks.moving)))
-  by (Some status) true = omega arith
-  by (Some status) false = omega arith
+    commands : (kind : Kind) → is_flush kind ≡ false → commands_owed S.size H t q kind ≤ cost_of kind (units_of S.size (from_of S.size q) (until_of S.size q))
+    commands Read moving = spans-few Read H t (units_of S.size (from_of S.size q) (until_of S.size q))
+    commands Write moving = spans-few Write H t (units_of S.size (from_of S.size q) (until_of S.size q))
+    commands Flush moving = cc
+
+    by : (m : Option Status) (gone : Bool) → owed_by S.size H t (Some q) m gone ≤ cost_of r.kind r.units.items + 2
+    by None gone = rw (sym tracks.of_kind, tracks.units) (omega (arith, commands q.asked.kind (rw tracks.of_kind tracks.moving)))
+    by (Some status) true = omega arith
+    by (Some status) false = omega arith
 
 owed-more : (S : Setup) (H : List Entry) (tag : ℕ) (view : View) (asked : Asked) (bytes : List ℕ) (n : ℕ) → token_owed S.size (Accept tag view asked bytes ∷ H) (accepted H) ≤ n → owed_entries S (Accept tag view asked bytes ∷ H) ≤ owed_entries S H + n
 unfolding owed_entries accepted ejects inserts tokens_owed
 owed-more S H tag view asked bytes n owes =
     let next : accepted H + 1 ≡ suc (accepted H) = omega arith in
     let before : tokens_owed S.size (Accept tag view asked bytes ∷ H) (accepted H) ≡ tokens_owed S.size H (accepted H) =
-        tokens-same S H (Accept tag view asked bytes) (accepted H) (λ t lt. accept-silent S H tag view asked bytes t (λ same. absurd (omega arith))) in
+    tokens-same S H (Accept tag view asked bytes) (accepted H) (λ t lt. accept-silent S H tag view asked bytes t (λ same. absurd (omega arith))) in
     rw next (omega (arith, before, owes))
 
 holds-before : (S : Setup) (H : List Entry) (tag : ℕ) (view : View) (asked : Asked) (bytes : List ℕ) (t b : ℕ) → IsLegal S H → Holds S.size (Accept tag view asked bytes ∷ H) t b → Holds S.size H t b
 unfolding was_fetched was_stored accepted
 holds-before S H tag view asked bytes t b legal holds =
     elim (cases_lt t (accepted H)) [
-      inl token ↦ record {
+      | inl token ↦ record {
         outstanding = record { token = token; unmarked = open-before S.size H (Accept tag view asked bytes) t holds.outstanding.unmarked };
         fetched = holds.fetched;
         unstored = holds.unstored;
       }
-    | inr past ↦ absurd (clash (sym ((unborn S H t legal past).unfetched b) ∙ holds.fetched))
+      | inr past ↦ absurd (clash (sym ((unborn S H t legal past).unfetched b) ∙ holds.fetched))
     ]
   where
-  clash : false ≡ true → ⊥
-  clash e = cc
+    clash : false ≡ true → ⊥
+    clash e = cc
 
 holds-after : (S : Setup) (H : List Entry) (tag : ℕ) (view : View) (asked : Asked) (bytes : List ℕ) (t b : ℕ) → Holds S.size H t b → Holds S.size (Accept tag view asked bytes ∷ H) t b
 unfolding was_fetched was_stored
@@ -180,10 +183,10 @@ may-accept : (S : Setup) (H : List Entry) (tag : ℕ) (view : View) (media_id : 
     → MayFollow S H (Accept tag view asked (payload_of asked.kind buffer))
 unfolding MayFollow
 may-accept S H tag view media_id asked buffer plain is lies = record {
-    unrefused = view-refusal S H view media_id asked plain is.moving is.bytes lies;
-    payload = payload-fits asked.kind asked.length buffer is.long;
-    well_asked = well-asked asked asked.kind is.moving;
-  }
+  unrefused = view-refusal S H view media_id asked plain is.moving is.bytes lies;
+  payload = payload-fits asked.kind asked.length buffer is.long;
+  well_asked = well-asked asked asked.kind is.moving;
+}
 
 -- the disk is sound with one more token
 pub keeps-sound : (S : Setup) (d : Device) (prepared prepared' : ℕ → Type 0) (c c' : Core) (tag : ℕ) (view : View) (media_id : ℕ) (asked : Asked) (buffer : List ℕ) (r : Record)
@@ -196,7 +199,7 @@ keeps-sound S d prepared prepared' c c' tag view media_id asked buffer r some so
     let e : Entry = Accept tag view asked bytes in
     let silent : (t : ℕ) → t ≢ accepted H → IsSilent S H e t = λ t ne. accept-silent S H tag view asked bytes t ne in
     let tracks : Tracks S (e ∷ H) (accepted H) r (record { tag = tag; view = view; asked = asked; bytes = bytes }) =
-        new-tracks S H tag view asked buffer r some sound.legal is new (within-range (blocks_of S 1 * S.size) view media_id asked.at asked.length lies) in
+    new-tracks S H tag view asked buffer r some sound.legal is new (within-range (blocks_of S 1 * S.size) view media_id asked.at asked.length lies) in
     let may : MayFollow S H e = may-accept S H tag view media_id asked buffer sound.plain is lies in
     let same : contents S 1 (e ∷ H) ≡ contents S 1 H = quiet-contents S H e sound.plain.inserts (accept-quiet S H tag view asked bytes) in
     record {
@@ -206,9 +209,9 @@ keeps-sound S d prepared prepared' c c' tag view media_id asked buffer r some so
       count = rw (keeps.entries, keeps.records) (length-append c.records.items (r ∷ []) ∙ (rw sound.count (sym (accepted-more H tag view asked bytes))));
       tracked = rw (keeps.entries, keeps.records) (kept-before S H e c.records.items r sound.count silent sound.tracked (record { tag = tag; view = view; asked = asked; bytes = bytes }, tracks));
       prior = λ t x lt is_. elim (last-or c.records.items r x t (rw keeps.records at is_)) [
-          inl before ↦ sound.prior t x (rw keeps.first at lt) before
+        | inl before ↦ sound.prior t x (rw keeps.first at lt) before
         | inr (last, one) ↦ absurd (omega (arith, sound.bound, keeps.first))
-        ];
+      ];
       bound = rw (keeps.first, keeps.records) (omega (arith, sound.bound, length-append c.records.items (r ∷ [])));
       block = rw keeps.block sound.block;
       gate = rw (keeps.entries, keeps.records, keeps.first, keeps.block, keeps.held) (record {
@@ -216,14 +219,14 @@ keeps-sound S d prepared prepared' c c' tag view media_id asked buffer r some so
         holds = λ b held. holds-after S H tag view asked bytes c.first b (sound.gate.holds b held);
         copy = λ b held. rw same (sound.gate.copy b held);
         unit = λ b x u held is_ unit. elim (last-or c.records.items r x c.first is_) [
-            inl before ↦ sound.gate.unit b x u held before unit
+          | inl before ↦ sound.gate.unit b x u held before unit
           | inr (last, one) ↦ let token : c.first < accepted H = (sound.gate.holds b held).outstanding.token in absurd (omega (arith, sound.count))
-          ];
+        ];
       });
       ready = rw keeps.records (λ t k b x u is_ unended writes unit lo hi. elim (last-or c.records.items r x t is_) [
-          inl before ↦ stay b (sound.ready t k b x u before unended writes unit lo hi)
+        | inl before ↦ stay b (sound.ready t k b x u before unended writes unit lo hi)
         | inr (last, one) ↦ ready (ap (λ (y : Record). y.kind) (sym one) ∙ writes) k b u (ap (λ (y : Record). slice_get y.units.items k) (sym one) ∙ unit) lo hi
-        ]);
+      ]);
       few = keeps.few;
       room = rw keeps.entries (omega (arith, sound.room, keeps.room, owed-more S H tag view asked bytes (cost_of r.kind r.units.items + 2) (new-owes S (e ∷ H) (accepted H) r (record { tag = tag; view = view; asked = asked; bytes = bytes }) tracks)));
     }

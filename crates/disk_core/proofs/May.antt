@@ -28,10 +28,10 @@ pub record IsNext (S : Setup) (H : List Entry) (t : ℕ) (r : Record) (q : Reque
 
 is-open : (S : Setup) (H : List Entry) (t : ℕ) (r : Record) (q : Request) (u : Span) (kind : Kind) → IsNext S H t r q u → r.kind ≡ kind → IsOpen S.size H t kind q
 is-open S H t r q u kind next is = record {
-    outstanding = record { token = next.token; unmarked = next.tracks.status ∙ next.unended };
-    named = next.tracks.named;
-    of_kind = next.tracks.of_kind ∙ is;
-  }
+  outstanding = record { token = next.token; unmarked = next.tracks.status ∙ next.unended };
+  named = next.tracks.named;
+  of_kind = next.tracks.of_kind ∙ is;
+}
 
 pub unmoved : (S : Setup) (H : List Entry) (t : ℕ) (r : Record) (q : Request) (u : Span) → IsNext S H t r q u → is_moved S.size H t u.low ≡ false
 unmoved S H t r q u next =
@@ -58,13 +58,15 @@ next-ungot S H t r q u next =
 
 pub may-fetch : (S : Setup) (H : List Entry) (t : ℕ) (r : Record) (q : Request) (u : Span) → IsNext S H t r q u → NoneHeld S.size H → r.kind ≡ Write → u.whole ≡ false → MayCommand S H t (Fetch u.block)
 unfolding MayCommand
-may-fetch S H t r q u next none writes part =
-    (q, record {
-      at = is-open S H t r q u Write next writes;
-      part = (part-of S.size (from_of S.size q) (until_of S.size q) u next.has.unit part).0;
-      unstored = next-unstored S H t r q u next;
-      free = λ v holds. none v u.block holds;
-    })
+may-fetch S H t r q u next none writes part = (
+  q,
+  record {
+    at = is-open S H t r q u Write next writes;
+    part = (part-of S.size (from_of S.size q) (until_of S.size q) u next.has.unit part).0;
+    unstored = next-unstored S H t r q u next;
+    free = λ v holds. none v u.block holds;
+  },
+)
 
 pub may-store : (S : Setup) (H : List Entry) (t b : ℕ) → Holds S.size H t b → MayCommand S H t (Store b)
 unfolding MayCommand
@@ -72,23 +74,27 @@ may-store S H t b holds = holds
 
 pub may-put : (S : Setup) (H : List Entry) (t : ℕ) (r : Record) (q : Request) (u : Span) → IsNext S H t r q u → NoneHeld S.size H → r.kind ≡ Write → u.whole ≡ true → MayCommand S H t (Put u.block u.count)
 unfolding MayCommand
-may-put S H t r q u next none writes whole =
-    (q, record {
-      at = is-open S H t r q u Write next writes;
-      run = run-of S.size (from_of S.size q) (until_of S.size q) u next.has.unit whole;
-      unput = next-unput S H t r q u next;
-      free = λ c from until v holds. none v c holds;
-    })
+may-put S H t r q u next none writes whole = (
+  q,
+  record {
+    at = is-open S H t r q u Write next writes;
+    run = run-of S.size (from_of S.size q) (until_of S.size q) u next.has.unit whole;
+    unput = next-unput S H t r q u next;
+    free = λ c from until v holds. none v c holds;
+  },
+)
 
 pub may-get : (S : Setup) (H : List Entry) (t : ℕ) (r : Record) (q : Request) (u : Span) → IsNext S H t r q u → r.kind ≡ Read → MayCommand S H t (Get u.block u.count)
 unfolding MayCommand
-may-get S H t r q u next reads =
-    (q, record {
-      at = is-open S H t r q u Read next reads;
-      unit = by u.whole next.has.unit.kind;
-      ungot = next-ungot S H t r q u next;
-    })
+may-get S H t r q u next reads = (
+  q,
+  record {
+    at = is-open S H t r q u Read next reads;
+    unit = by u.whole next.has.unit.kind;
+    ungot = next-ungot S H t r q u next;
+  },
+)
   where
-  by : (w : Bool) → IsKind S.size (from_of S.size q) (until_of S.size q) w u.block u.count → IsRun S.size (from_of S.size q) (until_of S.size q) u.block u.count ⊎ (IsPart S.size (from_of S.size q) (until_of S.size q) u.block × (u.count ≡ 1))
-  by true run = inl run
-  by false part = inr part
+    by : (w : Bool) → IsKind S.size (from_of S.size q) (until_of S.size q) w u.block u.count → IsRun S.size (from_of S.size q) (until_of S.size q) u.block u.count ⊎ (IsPart S.size (from_of S.size q) (until_of S.size q) u.block × (u.count ≡ 1))
+    by true run = inl run
+    by false part = inr part

@@ -27,40 +27,40 @@ unfolding all_from
 all_from-false test a zero x from until fails = absurd (omega arith)
 all_from-false test a (suc n) x from until fails =
     elim (cases_eq a x) [
-      inl same ↦ rw (same, fails)
-    | inr other ↦
-        let rest : all_from test (a + 1) n ≡ false = all_from-false test (a + 1) n x (omega (arith, other)) (omega arith) fails in
-        rw rest (and-false (test a))
+      | inl same ↦ rw (same, fails)
+      | inr other ↦
+          let rest : all_from test (a + 1) n ≡ false = all_from-false test (a + 1) n x (omega (arith, other)) (omega arith) fails in
+          rw rest (and-false (test a))
     ]
   where
-  and-false : (p : Bool) → (p && false) ≡ false
-  and-false true = refl
-  and-false false = refl
+    and-false : (p : Bool) → (p && false) ≡ false
+    and-false true = refl
+    and-false false = refl
 
 -- within the range, the bytes in a unit's blocks are those of the unit
 pub lies-in-unit : (size a z x : ℕ) (u : Span) → IsUnit size a z u → a ≤ x → x < z → lies_in size u.block u.count x ≡ (nat_le u.low x && nat_lt x u.high)
 lies-in-unit size a z x u unit from until =
     elim (cases_lt x (u.block * size)) [
-      inl below ↦ rw (lt-leb (u.block * size) x below, lt-leb u.low x (omega (arith, unit.low)))
-    | inr above ↦
-        elim (cases_lt x ((u.block + u.count) * size)) [
-          inl inside ↦
-            rw (le-leb (u.block * size) x above, lt-ltb x ((u.block + u.count) * size) inside, le-leb u.low x (omega (arith, unit.low)), lt-ltb x u.high (omega (arith, unit.high)))
-        | inr behind ↦
-            rw (le-leb (u.block * size) x above, le-ltb x ((u.block + u.count) * size) behind, le-leb u.low x (omega (arith, unit.low)), le-ltb x u.high (omega (arith, unit.high)))
-        ]
+      | inl below ↦ rw (lt-leb (u.block * size) x below, lt-leb u.low x (omega (arith, unit.low)))
+      | inr above ↦
+          elim (cases_lt x ((u.block + u.count) * size)) [
+            | inl inside ↦
+                rw (le-leb (u.block * size) x above, lt-ltb x ((u.block + u.count) * size) inside, le-leb u.low x (omega (arith, unit.low)), lt-ltb x u.high (omega (arith, unit.high)))
+            | inr behind ↦
+                rw (le-leb (u.block * size) x above, le-ltb x ((u.block + u.count) * size) behind, le-leb u.low x (omega (arith, unit.low)), le-ltb x u.high (omega (arith, unit.high)))
+          ]
     ]
 
 -- what was moved before a unit, and the unit, are all bytes before its end
 grown : (low high x : ℕ) → low < high → ((nat_le low x && nat_lt x high) || nat_lt x low) ≡ nat_lt x high
 grown low high x some =
     elim (cases_lt x low) [
-      inl below ↦ rw (lt-leb low x below, lt-ltb x low below, lt-ltb x high (omega arith))
-    | inr above ↦
-        elim (cases_lt x high) [
-          inl inside ↦ rw (le-leb low x above, lt-ltb x high inside)
-        | inr behind ↦ rw (le-leb low x above, le-ltb x high behind, le-ltb x low above)
-        ]
+      | inl below ↦ rw (lt-leb low x below, lt-ltb x low below, lt-ltb x high (omega arith))
+      | inr above ↦
+          elim (cases_lt x high) [
+            | inl inside ↦ rw (le-leb low x above, lt-ltb x high inside)
+            | inr behind ↦ rw (le-leb low x above, le-ltb x high behind, le-ltb x low above)
+          ]
     ]
 
 -- a command that moves the blocks of a unit moves the unit
@@ -74,6 +74,6 @@ moved-unit size H t c a z x u unit same from until was =
 pub next-low : (a z : ℕ) (us : List Span) (k : ℕ) (u : Span) → Tile a z us → slice_get us k ≡ Some u → low_or (slice_get us (k + 1)) z ≡ u.high
 next-low a z us k u tiled is = after (slice_get us (k + 1)) refl
   where
-  after : (o : Option Span) → slice_get us (k + 1) ≡ o → low_or o z ≡ u.high
-  after None e = sym (tile-last a z us k (k + 1) u tiled refl is e)
-  after (Some v) e = tile-next a z us k (k + 1) u v tiled refl is e
+    after : (o : Option Span) → slice_get us (k + 1) ≡ o → low_or o z ≡ u.high
+    after None e = sym (tile-last a z us k (k + 1) u tiled refl is e)
+    after (Some v) e = tile-next a z us k (k + 1) u v tiled refl is e

@@ -23,9 +23,9 @@ unfolding first_from
 first-at test a zero k from until before here = absurd (omega arith)
 first-at test a (suc n) k from until before here =
     elim (cases_eq a k) [
-      inl same ↦ rw (same, here)
-    | inr other ↦
-        rw (before a (omega arith) (omega (arith, other))) (first-at test (a + 1) n k (omega (arith, other)) (omega arith) (λ j lo hi. before j (omega arith) hi) here)
+      | inl same ↦ rw (same, here)
+      | inr other ↦
+          rw (before a (omega arith) (omega (arith, other))) (first-at test (a + 1) n k (omega (arith, other)) (omega arith) (λ j lo hi. before j (omega arith) hi) here)
     ]
 
 -- none where the test holds of none
@@ -39,17 +39,17 @@ unfolding first_open
 first-open-is size H t token unmarked before =
     first-at (is_open size H) 0 (accepted H) t (omega arith) (omega arith) (λ j lo hi. closed (mark_of size H j) (before j hi)) (rw unmarked)
   where
-  closed : (m : Option Status) → m ≢ None → is_none m ≡ false
-  closed None ne = absurd (ne refl)
-  closed (Some s) ne = refl
+    closed : (m : Option Status) → m ≢ None → is_none m ≡ false
+    closed None ne = absurd (ne refl)
+    closed (Some s) ne = refl
 
 pub first-open-none : (size : ℕ) (H : List Entry) → ((u : ℕ) → u < accepted H → mark_of size H u ≢ None) → first_open size H ≡ None
 unfolding first_open
 first-open-none size H each = first-none (is_open size H) 0 (accepted H) (λ j lo hi. closed (mark_of size H j) (each j (omega arith)))
   where
-  closed : (m : Option Status) → m ≢ None → is_none m ≡ false
-  closed None ne = absurd (ne refl)
-  closed (Some s) ne = refl
+    closed : (m : Option Status) → m ≢ None → is_none m ≡ false
+    closed None ne = absurd (ne refl)
+    closed (Some s) ne = refl
 
 -- the first element of a list that passes a test
 find-at : (test : Span → Bool) (us : List Span) (k : ℕ) (u : Span) → slice_get us k ≡ Some u → test u ≡ true → ((j : ℕ) (v : Span) → j < k → slice_get us j ≡ Some v → test v ≡ false) → find test us ≡ Some u
@@ -62,16 +62,17 @@ pub next-span-is : (S : Setup) (H : List Entry) (t : ℕ) (r : Record) (q : Requ
 unfolding next_span
 next-span-is S H t r q u tracks open_ has =
     rw (sym tracks.units) (find-at (λ v. not (is_moved S.size H t v.low)) r.units.items r.finished u has.is
-      (ap not (at-low u.low (low-in u.low (tile-within (from_of S.size q) (until_of S.size q) r.units.items r.finished u has.tile has.is)) ∙ le-ltb u.low u.low (omega arith)))
-      (λ j v lt is.
-        let within : (from_of S.size q ≤ v.low) × (v.low < v.high) × (v.high ≤ until_of S.size q) = tile-within (from_of S.size q) (until_of S.size q) r.units.items j v has.tile is in
-        let before : v.high ≤ u.low = tile-parted (from_of S.size q) (until_of S.size q) r.units.items j r.finished v u has.tile is has.is lt in
-        ap not (at-low v.low (within.0, omega arith) ∙ lt-ltb v.low u.low (omega arith))))
+    (ap not (at-low u.low (low-in u.low (tile-within (from_of S.size q) (until_of S.size q) r.units.items r.finished u has.tile has.is)) ∙ le-ltb u.low u.low (omega arith)))
+    (λ j v lt is.
+    let within : (from_of S.size q ≤ v.low) × (v.low < v.high) × (v.high ≤ until_of S.size q) = tile-within (from_of S.size q) (until_of S.size q) r.units.items j v has.tile is in
+    let before : v.high ≤ u.low = tile-parted (from_of S.size q) (until_of S.size q) r.units.items j r.finished v u has.tile is has.is lt in
+    ap not (at-low v.low (within.0, omega arith) ∙ lt-ltb v.low u.low (omega arith))))
   where
-  low-in : (x : ℕ) → (from_of S.size q ≤ u.low) × (u.low < u.high) × (u.high ≤ until_of S.size q) → (from_of S.size q ≤ u.low) × (u.low < until_of S.size q)
-  low-in x within = (within.0, omega arith)
-  at-low : (x : ℕ) → (from_of S.size q ≤ x) × (x < until_of S.size q) → is_moved S.size H t x ≡ nat_lt x u.low
-  at-low x within = tracks.moved open_ x within.0 within.1 ∙ ap (λ o. nat_lt x (low_or o (until_of S.size q))) has.is
+    low-in : (x : ℕ) → (from_of S.size q ≤ u.low) × (u.low < u.high) × (u.high ≤ until_of S.size q) → (from_of S.size q ≤ u.low) × (u.low < until_of S.size q)
+    low-in x within = (within.0, omega arith)
+
+    at-low : (x : ℕ) → (from_of S.size q ≤ x) × (x < until_of S.size q) → is_moved S.size H t x ≡ nat_lt x u.low
+    at-low x within = tracks.moved open_ x within.0 within.1 ∙ ap (λ o. nat_lt x (low_or o (until_of S.size q))) has.is
 
 -- the command that comes next
 pub next-turn-is : (S : Setup) (H : List Entry) (t : ℕ) (r : Record) (q : Request) (u : Span) → first_open S.size H ≡ Some t → Tracks S H t r q → next_span S.size H t q ≡ Some u
@@ -79,7 +80,7 @@ pub next-turn-is : (S : Setup) (H : List Entry) (t : ℕ) (r : Record) (q : Requ
 unfolding next_turn next_span
 next-turn-is S H t r q u first tracks span = rw (first, tracks.named, tracks.of_kind, span) (by r.kind tracks.moving)
   where
-  by : (kind : Kind) → is_flush kind ≡ false → turn_with H t kind (Some u) ≡ Some (record { token = t; command = span_command H t kind u.whole u.block u.count })
-  by Read moving = refl
-  by Write moving = refl
-  by Flush moving = cc
+    by : (kind : Kind) → is_flush kind ≡ false → turn_with H t kind (Some u) ≡ Some (record { token = t; command = span_command H t kind u.whole u.block u.count })
+    by Read moving = refl
+    by Write moving = refl
+    by Flush moving = cc

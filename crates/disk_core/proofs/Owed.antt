@@ -66,14 +66,14 @@ unfolding tokens_owed
 tokens-fall S H e zero t lt falls silent = absurd (omega arith)
 tokens-fall S H e (suc n) t lt falls silent =
     elim (cases_eq t n) [
-      inl same ↦
-        let own : token_owed S.size (e ∷ H) n + 1 ≤ token_owed S.size H n = rw same at falls in
-        let rest : tokens_owed S.size (e ∷ H) n ≡ tokens_owed S.size H n = tokens-same S H e n (λ u below. silent u (λ is. absurd (omega arith))) in
-        omega arith
-    | inr other ↦
-        let own : token_owed S.size (e ∷ H) n ≡ token_owed S.size H n = silent-owed S H e n (silent n other) in
-        let rest : tokens_owed S.size (e ∷ H) n + 1 ≤ tokens_owed S.size H n = tokens-fall S H e n t (omega (arith, other)) falls silent in
-        omega arith
+      | inl same ↦
+          let own : token_owed S.size (e ∷ H) n + 1 ≤ token_owed S.size H n = rw same at falls in
+          let rest : tokens_owed S.size (e ∷ H) n ≡ tokens_owed S.size H n = tokens-same S H e n (λ u below. silent u (λ is. absurd (omega arith))) in
+          omega arith
+      | inr other ↦
+          let own : token_owed S.size (e ∷ H) n ≡ token_owed S.size H n = silent-owed S H e n (silent n other) in
+          let rest : tokens_owed S.size (e ∷ H) n + 1 ≤ tokens_owed S.size H n = tokens-fall S H e n t (omega (arith, other)) falls silent in
+          omega arith
     ]
 
 one_unless-or : (p w : Bool) → one_unless (p || w) ≤ one_unless w

@@ -34,9 +34,9 @@ marked-owed : (size : ℕ) (H : List Entry) (t : ℕ) (q : Request) (status : St
 unfolding token_owed
 marked-owed size H t q status named marked = rw (named, marked) (by (was_collected H t))
   where
-  by : (c : Bool) → owed_by size H t (Some q) (Some status) c ≤ 1
-  by true = omega arith
-  by false = omega arith
+    by : (c : Bool) → owed_by size H t (Some q) (Some status) c ≤ 1
+    by true = omega arith
+    by false = omega arith
 
 request-done : (H : List Entry) (t u : ℕ) (c : Command) → request (Done u c ∷ H) t ≡ request H t
 unfolding request
@@ -53,12 +53,16 @@ pub done-owed : (size : ℕ) (H : List Entry) (t : ℕ) (c : Command) (q : Reque
     → token_owed size (Done t c ∷ H) t + 1 ≤ token_owed size H t
 done-owed size H t c q k v named moving unmarked is falls = after (mark_of size (Done t c ∷ H) t) refl
   where
-  after : (m : Option Status) → mark_of size (Done t c ∷ H) t ≡ m → token_owed size (Done t c ∷ H) t + 1 ≤ token_owed size H t
-  after (Some status) marked =
-      omega (arith, marked-owed size (Done t c ∷ H) t q status (request-done H t t c ∙ named) marked, open-owed size H t q named moving unmarked)
-  after None unmarked' =
-      omega (arith, open-owed size (Done t c ∷ H) t q (request-done H t t c ∙ named) moving unmarked', open-owed size H t q named moving unmarked,
-        spans-fall q.asked.kind H t c t k (units_of size (from_of size q) (until_of size q)) v is falls)
+    after : (m : Option Status) → mark_of size (Done t c ∷ H) t ≡ m → token_owed size (Done t c ∷ H) t + 1 ≤ token_owed size H t
+    after (Some status) marked =
+        omega (arith, marked-owed size (Done t c ∷ H) t q status (request-done H t t c ∙ named) marked, open-owed size H t q named moving unmarked)
+    after None unmarked' =
+        omega (
+          arith,
+          open-owed size (Done t c ∷ H) t q (request-done H t t c ∙ named) moving unmarked',
+          open-owed size H t q named moving unmarked,
+          spans-fall q.asked.kind H t c t k (units_of size (from_of size q) (until_of size q)) v is falls,
+        )
 
 -- so does a fault
 pub fault-owed : (size : ℕ) (H : List Entry) (t : ℕ) (c : Command) (done : ℕ) (q : Request) → request H t ≡ Some q → is_flush q.asked.kind ≡ false → mark_of size H t ≡ None

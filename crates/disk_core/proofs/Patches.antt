@@ -70,19 +70,19 @@ block-byte : (b : List ℕ) (at : ℕ) (block : List ℕ) (skip : ℕ) (p : List
 block-byte b at block skip p i fits inside same from until =
     let place : at + (i - at) ≡ i = omega arith in
     elim (cases_lt i (at + skip)) [
-      inl below ↦
-        patch-before block skip p (i - at) inside (omega arith)
-        ∙ (same (i - at) (omega arith) ∙ (ap (slice_get b) place ∙ sym (patch-before b (at + skip) p i (omega arith) below)))
-    | inr above ↦
-        elim (cases_lt i (at + skip + length p)) [
-          inl in_piece ↦
-            let offset : i - at - skip ≡ i - (at + skip) = omega arith in
-            patch-in block skip p (i - at) inside (omega arith) (omega arith)
-            ∙ (ap (slice_get p) offset ∙ sym (patch-in b (at + skip) p i (omega arith) above in_piece))
-        | inr behind ↦
-            patch-behind block skip p (i - at) inside (omega arith)
-            ∙ (same (i - at) (omega arith) ∙ (ap (slice_get b) place ∙ sym (patch-behind b (at + skip) p i (omega arith) behind)))
-        ]
+      | inl below ↦
+          patch-before block skip p (i - at) inside (omega arith)
+          ∙ (same (i - at) (omega arith) ∙ (ap (slice_get b) place ∙ sym (patch-before b (at + skip) p i (omega arith) below)))
+      | inr above ↦
+          elim (cases_lt i (at + skip + length p)) [
+            | inl in_piece ↦
+                let offset : i - at - skip ≡ i - (at + skip) = omega arith in
+                patch-in block skip p (i - at) inside (omega arith) (omega arith)
+                ∙ (ap (slice_get p) offset ∙ sym (patch-in b (at + skip) p i (omega arith) above in_piece))
+            | inr behind ↦
+                patch-behind block skip p (i - at) inside (omega arith)
+                ∙ (same (i - at) (omega arith) ∙ (ap (slice_get b) place ∙ sym (patch-behind b (at + skip) p i (omega arith) behind)))
+          ]
     ]
 
 -- a block of a medium that is patched and put back is the medium patched
@@ -92,24 +92,24 @@ pub patch-block : (b : List ℕ) (at : ℕ) (block : List ℕ) (skip : ℕ) (p :
 patch-block b at block skip p fits inside same =
     let patched : length (patch block skip p) ≡ length block = length-patch block skip p inside in
     same-bytes (patch b at (patch block skip p)) (patch b (at + skip) p)
-      (length-patch b at (patch block skip p) (omega arith) ∙ sym (length-patch b (at + skip) p (omega arith)))
-      (λ i lt. each i patched)
+    (length-patch b at (patch block skip p) (omega arith) ∙ sym (length-patch b (at + skip) p (omega arith)))
+    (λ i lt. each i patched)
   where
-  each : (i : ℕ) → length (patch block skip p) ≡ length block → slice_get (patch b at (patch block skip p)) i ≡ slice_get (patch b (at + skip) p) i
-  each i patched =
-      elim (cases_lt i at) [
-        inl below ↦
-          patch-before b at (patch block skip p) i (omega arith) below ∙ sym (patch-before b (at + skip) p i (omega arith) (omega arith))
-      | inr above ↦
-          elim (cases_lt i (at + length block)) [
-            inl within ↦
-              patch-in b at (patch block skip p) i (omega arith) above (omega arith)
-              ∙ block-byte b at block skip p i fits inside same above within
-          | inr behind ↦
-              patch-behind b at (patch block skip p) i (omega arith) (omega arith)
-              ∙ sym (patch-behind b (at + skip) p i (omega arith) (omega arith))
-          ]
-      ]
+    each : (i : ℕ) → length (patch block skip p) ≡ length block → slice_get (patch b at (patch block skip p)) i ≡ slice_get (patch b (at + skip) p) i
+    each i patched =
+        elim (cases_lt i at) [
+          | inl below ↦
+              patch-before b at (patch block skip p) i (omega arith) below ∙ sym (patch-before b (at + skip) p i (omega arith) (omega arith))
+          | inr above ↦
+              elim (cases_lt i (at + length block)) [
+                | inl within ↦
+                    patch-in b at (patch block skip p) i (omega arith) above (omega arith)
+                    ∙ block-byte b at block skip p i fits inside same above within
+                | inr behind ↦
+                    patch-behind b at (patch block skip p) i (omega arith) (omega arith)
+                    ∙ sym (patch-behind b (at + skip) p i (omega arith) (omega arith))
+              ]
+        ]
 
 -- the bytes of a part of a list
 pub part-byte : (b : List ℕ) (at n j : ℕ) → j < n → slice_get (take n (drop at b)) j ≡ slice_get b (at + j)

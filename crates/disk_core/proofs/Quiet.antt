@@ -42,17 +42,17 @@ quiet-contents S H e one quiet = contents-same S H e one quiet.no_piece
 pub meets-quiet : (S : Setup) (H : List Entry) (d : Device) (e : Entry) → inserts H ≡ 0 → IsQuiet S H e → Meets S H d → Meets S (e ∷ H) d
 unfolding kept_contents
 meets-quiet S H d e one quiet meets = record {
-    setup = meets.setup;
-    now = meets.now ∙ sym (quiet-contents S H e one quiet);
-    kept = meets.kept ∙ sym (rw (quiet.no_flush, quiet-contents S H e one quiet) refl);
-    calls = meets.calls ∙ sym quiet.no_command;
-    failed = meets.failed ∙ sym quiet.no_fault;
-    faults = rw quiet.no_fault meets.faults;
-  }
+  setup = meets.setup;
+  now = meets.now ∙ sym (quiet-contents S H e one quiet);
+  kept = meets.kept ∙ sym (rw (quiet.no_flush, quiet-contents S H e one quiet) refl);
+  calls = meets.calls ∙ sym quiet.no_command;
+  failed = meets.failed ∙ sym quiet.no_fault;
+  faults = rw quiet.no_fault meets.faults;
+}
 
 pub plain-quiet : (S : Setup) (H : List Entry) (e : Entry) → IsQuiet S H e → IsPlain S H → IsPlain S (e ∷ H)
 plain-quiet S H e quiet plain = record {
-    ejects = quiet.no_eject ∙ plain.ejects;
-    inserts = quiet.no_insert ∙ plain.inserts;
-    unprotected = quiet.no_protect ∙ plain.unprotected;
-  }
+  ejects = quiet.no_eject ∙ plain.ejects;
+  inserts = quiet.no_insert ∙ plain.inserts;
+  unprotected = quiet.no_protect ∙ plain.unprotected;
+}

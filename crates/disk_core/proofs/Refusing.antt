@@ -40,17 +40,17 @@ owed-same S H e nothing = rw (nothing.same_accepted, nothing.quiet.no_eject, not
 
 holds-both : (S : Setup) (H : List Entry) (e : Entry) (t b : ℕ) → SaysNothing S H e → Holds S.size (e ∷ H) t b → Holds S.size H t b
 holds-both S H e t b nothing holds = record {
-    outstanding = record { token = rw nothing.same_accepted at holds.outstanding.token; unmarked = sym (nothing.silent t).marked ∙ holds.outstanding.unmarked };
-    fetched = sym ((nothing.silent t).fetched b) ∙ holds.fetched;
-    unstored = sym ((nothing.silent t).stored b) ∙ holds.unstored;
-  }
+  outstanding = record { token = rw nothing.same_accepted at holds.outstanding.token; unmarked = sym (nothing.silent t).marked ∙ holds.outstanding.unmarked };
+  fetched = sym ((nothing.silent t).fetched b) ∙ holds.fetched;
+  unstored = sym ((nothing.silent t).stored b) ∙ holds.unstored;
+}
 
 holds-still : (S : Setup) (H : List Entry) (e : Entry) (t b : ℕ) → SaysNothing S H e → Holds S.size H t b → Holds S.size (e ∷ H) t b
 holds-still S H e t b nothing holds = record {
-    outstanding = record { token = rw nothing.same_accepted holds.outstanding.token; unmarked = (nothing.silent t).marked ∙ holds.outstanding.unmarked };
-    fetched = (nothing.silent t).fetched b ∙ holds.fetched;
-    unstored = (nothing.silent t).stored b ∙ holds.unstored;
-  }
+  outstanding = record { token = rw nothing.same_accepted holds.outstanding.token; unmarked = (nothing.silent t).marked ∙ holds.outstanding.unmarked };
+  fetched = (nothing.silent t).fetched b ∙ holds.fetched;
+  unstored = (nothing.silent t).stored b ∙ holds.unstored;
+}
 
 well-asked : (asked : Asked) (kind : Kind) → is_flush kind ≡ false → IsAsked kind asked.unit asked.at asked.length
 well-asked asked Read moving = tt

@@ -66,73 +66,73 @@ got-other H u t b Sync ne = refl
 pub done-silent : (S : Setup) (H : List Entry) (u t : ℕ) (c : Command) → u ≢ t → IsSilent S H (Done u c) t
 unfolding request mark_of ending is_moved was_collected bytes_read
 done-silent S H u t c ne = record {
-    named = refl;
-    marked = rw (ne_eqb u t ne) (or_else-none (mark_of S.size H t));
-    moved = λ x. rw (ne_eqb u t ne);
-    collected = refl;
-    given = λ x. rw (ne_eqb u t ne);
-    fetched = λ b. fetched-other H u t b c ne;
-    stored = λ b. stored-other H u t b c ne;
-    put = λ b. put-other H u t b c ne;
-    got = λ b. got-other H u t b c ne;
-  }
+  named = refl;
+  marked = rw (ne_eqb u t ne) (or_else-none (mark_of S.size H t));
+  moved = λ x. rw (ne_eqb u t ne);
+  collected = refl;
+  given = λ x. rw (ne_eqb u t ne);
+  fetched = λ b. fetched-other H u t b c ne;
+  stored = λ b. stored-other H u t b c ne;
+  put = λ b. put-other H u t b c ne;
+  got = λ b. got-other H u t b c ne;
+}
 
 -- a failed command of another token
 pub fault-silent : (S : Setup) (H : List Entry) (u t : ℕ) (c : Command) (done : ℕ) → u ≢ t → IsSilent S H (Fault u c done) t
 unfolding request mark_of ending is_moved was_collected bytes_read was_fetched was_stored was_put was_got
 fault-silent S H u t c done ne = record {
-    named = refl;
-    marked = rw (ne_eqb u t ne) (or_else-none (mark_of S.size H t));
-    moved = λ x. refl;
-    collected = refl;
-    given = λ x. refl;
-    fetched = λ b. refl;
-    stored = λ b. refl;
-    put = λ b. refl;
-    got = λ b. refl;
-  }
+  named = refl;
+  marked = rw (ne_eqb u t ne) (or_else-none (mark_of S.size H t));
+  moved = λ x. refl;
+  collected = refl;
+  given = λ x. refl;
+  fetched = λ b. refl;
+  stored = λ b. refl;
+  put = λ b. refl;
+  got = λ b. refl;
+}
 
 -- another token is handed back
 pub collect-silent : (S : Setup) (H : List Entry) (tag u t : ℕ) → u ≢ t → IsSilent S H (Collect tag u) t
 unfolding request mark_of ending is_moved was_collected bytes_read was_fetched was_stored was_put was_got
 collect-silent S H tag u t ne = record {
-    named = refl;
-    marked = or_else-none (mark_of S.size H t);
-    moved = λ x. refl;
-    collected = rw (ne_eqb u t ne);
-    given = λ x. refl;
-    fetched = λ b. refl;
-    stored = λ b. refl;
-    put = λ b. refl;
-    got = λ b. refl;
-  }
+  named = refl;
+  marked = or_else-none (mark_of S.size H t);
+  moved = λ x. refl;
+  collected = rw (ne_eqb u t ne);
+  given = λ x. refl;
+  fetched = λ b. refl;
+  stored = λ b. refl;
+  put = λ b. refl;
+  got = λ b. refl;
+}
 
 -- a request is refused
 pub refuse-silent : (S : Setup) (H : List Entry) (tag : ℕ) (view : View) (asked : Asked) (media_id : ℕ) (status : Status) (t : ℕ) → IsSilent S H (Refuse tag view asked media_id status) t
 unfolding request mark_of ending is_moved was_collected bytes_read was_fetched was_stored was_put was_got
 refuse-silent S H tag view asked media_id status t = record {
-    named = refl;
-    marked = or_else-none (mark_of S.size H t);
-    moved = λ x. refl;
-    collected = refl;
-    given = λ x. refl;
-    fetched = λ b. refl;
-    stored = λ b. refl;
-    put = λ b. refl;
-    got = λ b. refl;
-  }
+  named = refl;
+  marked = or_else-none (mark_of S.size H t);
+  moved = λ x. refl;
+  collected = refl;
+  given = λ x. refl;
+  fetched = λ b. refl;
+  stored = λ b. refl;
+  put = λ b. refl;
+  got = λ b. refl;
+}
 
 -- another request is accepted
 pub accept-silent : (S : Setup) (H : List Entry) (tag : ℕ) (view : View) (asked : Asked) (bytes : List ℕ) (t : ℕ) → t ≢ accepted H → IsSilent S H (Accept tag view asked bytes) t
 unfolding request mark_of ending is_moved was_collected bytes_read was_fetched was_stored was_put was_got
 accept-silent S H tag view asked bytes t ne = record {
-    named = rw (ne_eqb t (accepted H) ne);
-    marked = rw (ne_eqb t (accepted H) ne) (or_else-none (mark_of S.size H t));
-    moved = λ x. refl;
-    collected = refl;
-    given = λ x. refl;
-    fetched = λ b. refl;
-    stored = λ b. refl;
-    put = λ b. refl;
-    got = λ b. refl;
-  }
+  named = rw (ne_eqb t (accepted H) ne);
+  marked = rw (ne_eqb t (accepted H) ne) (or_else-none (mark_of S.size H t));
+  moved = λ x. refl;
+  collected = refl;
+  given = λ x. refl;
+  fetched = λ b. refl;
+  stored = λ b. refl;
+  put = λ b. refl;
+  got = λ b. refl;
+}

@@ -46,10 +46,10 @@ owed-falls S H e t own token falls =
 
 pub plain-own : (S : Setup) (H : List Entry) (e : Entry) (t : ℕ) → IsOwn S H e t → IsPlain S H → IsPlain S (e ∷ H)
 plain-own S H e t own plain = record {
-    ejects = own.same_ejects ∙ plain.ejects;
-    inserts = own.same_inserts ∙ plain.inserts;
-    unprotected = own.same_protection ∙ plain.unprotected;
-  }
+  ejects = own.same_ejects ∙ plain.ejects;
+  inserts = own.same_inserts ∙ plain.inserts;
+  unprotected = own.same_protection ∙ plain.unprotected;
+}
 
 -- what the first open record is after the entry
 pub record Becomes (r r' : Record) : Type 0 where
@@ -82,45 +82,45 @@ tracked-after : (S : Setup) (H : List Entry) (e : Entry) (records : List Record)
     → (u : ℕ) (x : Record) → slice_get (set records t r') u ≡ Some x → (p : Request) × Tracks S (e ∷ H) u x p
 tracked-after S H e records t r r' q own was tracks each u x is =
     elim (cases_eq t u) [
-      inl same ↦
-        let here : slice_get (set records t r') t ≡ Some x = rw (sym same) at is in
-        let one : r' ≡ x = some-is r' x (sym (get-set-same records t r r' was) ∙ here) in
-        (q, rw (sym same, sym one) tracks)
-    | inr other ↦
-        let before : (p : Request) × Tracks S H u x p = each u x (sym (get-set-other records t u r' other) ∙ is) in
-        (before.0, tracks-silent S H e u x before.0 (own.silent u other) before.1)
+      | inl same ↦
+          let here : slice_get (set records t r') t ≡ Some x = rw (sym same) at is in
+          let one : r' ≡ x = some-is r' x (sym (get-set-same records t r r' was) ∙ here) in
+          (q, rw (sym same, sym one) tracks)
+      | inr other ↦
+          let before : (p : Request) × Tracks S H u x p = each u x (sym (get-set-other records t u r' other) ∙ is) in
+          (before.0, tracks-silent S H e u x before.0 (own.silent u other) before.1)
     ]
   where
-  some-is : (a b : Record) → Some a ≡ Some b → a ≡ b
-  some-is a b e = cc
+    some-is : (a b : Record) → Some a ≡ Some b → a ≡ b
+    some-is a b e = cc
 
 ready-after : (S : Setup) (prepared prepared' : ℕ → Type 0) (records : List Record) (t : ℕ) (r r' : Record) → StayPrepared prepared prepared' → slice_get records t ≡ Some r → Becomes r r' → AreReady S records prepared → AreReady S (set records t r') prepared'
 ready-after S prepared prepared' records t r r' stay was becomes ready u k b x v is unended writes unit from until =
     stay b (elim (cases_eq t u) [
-      inl same ↦
-        let here : slice_get (set records t r') t ≡ Some x = rw (sym same) at is in
-        let one : r' ≡ x = some-is r' x (sym (get-set-same records t r r' was) ∙ here) in
-        ready t k b r v was (becomes.unended (ap (λ (y : Record). y.status) one ∙ unended)) (sym becomes.kind ∙ (ap (λ (y : Record). y.kind) one ∙ writes))
+      | inl same ↦
+          let here : slice_get (set records t r') t ≡ Some x = rw (sym same) at is in
+          let one : r' ≡ x = some-is r' x (sym (get-set-same records t r r' was) ∙ here) in
+          ready t k b r v was (becomes.unended (ap (λ (y : Record). y.status) one ∙ unended)) (sym becomes.kind ∙ (ap (λ (y : Record). y.kind) one ∙ writes))
           (ap (λ us. slice_get us k) (sym becomes.units) ∙ (ap (λ (y : Record). slice_get y.units.items k) one ∙ unit)) from until
-    | inr other ↦ ready u k b x v (sym (get-set-other records t u r' other) ∙ is) unended writes unit from until
+      | inr other ↦ ready u k b x v (sym (get-set-other records t u r' other) ∙ is) unended writes unit from until
     ])
   where
-  some-is : (a b : Record) → Some a ≡ Some b → a ≡ b
-  some-is a b e = cc
+    some-is : (a b : Record) → Some a ≡ Some b → a ≡ b
+    some-is a b e = cc
 
 prior-after : (records : List Record) (first t : ℕ) (r r' : Record) → slice_get records t ≡ Some r → Becomes r r' → ((u : ℕ) (x : Record) → u < first → slice_get records u ≡ Some x → x.status ≢ None)
     → (u : ℕ) (x : Record) → u < first → slice_get (set records t r') u ≡ Some x → x.status ≢ None
 prior-after records first t r r' was becomes prior u x lt is unended =
     elim (cases_eq t u) [
-      inl same ↦
-        let here : slice_get (set records t r') t ≡ Some x = rw (sym same) at is in
-        let one : r' ≡ x = some-is r' x (sym (get-set-same records t r r' was) ∙ here) in
-        prior t r (rw (sym same) at lt) was (becomes.unended (ap (λ (y : Record). y.status) one ∙ unended))
-    | inr other ↦ prior u x lt (sym (get-set-other records t u r' other) ∙ is) unended
+      | inl same ↦
+          let here : slice_get (set records t r') t ≡ Some x = rw (sym same) at is in
+          let one : r' ≡ x = some-is r' x (sym (get-set-same records t r r' was) ∙ here) in
+          prior t r (rw (sym same) at lt) was (becomes.unended (ap (λ (y : Record). y.status) one ∙ unended))
+      | inr other ↦ prior u x lt (sym (get-set-other records t u r' other) ∙ is) unended
     ]
   where
-  some-is : (a b : Record) → Some a ≡ Some b → a ≡ b
-  some-is a b e = cc
+    some-is : (a b : Record) → Some a ≡ Some b → a ≡ b
+    some-is a b e = cc
 
 -- the disk is sound after the entry
 pub sound-after : (S : Setup) (d d' : Device) (prepared prepared' : ℕ → Type 0) (c c' : Core) (e : Entry) (t : ℕ) (r r' : Record) (q : Request) → IsSound S d prepared c → StayPrepared prepared prepared' → Leaves S d d' c c' e t r r' q → IsSound S d' prepared' c'

@@ -54,7 +54,7 @@ accept-sound S d prepared prepared' c m c' tag view media_id asked buffer us byt
     let kept : IsKept m c' tag view asked us bytes buffer r = takes.kept in
     let some : 0 < S.size = rw (sym (size-of S d sound.meets.setup)) (omega (arith, (sizes-bounds d.size shaped.size).0)) in
     let lies : IsWithin (blocks_of S 1 * S.size) view media_id asked.at asked.length =
-        within (blocks_of S 1 * S.size) view media_id asked.at asked.length (ap (λ n. plain_refusal n view media_id asked.at asked.length) (sym (total S d sound.meets.setup)) ∙ unrefused) in
+    within (blocks_of S 1 * S.size) view media_id asked.at asked.length (ap (λ n. plain_refusal n view media_id asked.at asked.length) (sym (total S d sound.meets.setup)) ∙ unrefused) in
     let new : IsNew S asked view buffer r = record {
       kind = kept.kind;
       from = kept.from;
@@ -67,32 +67,32 @@ accept-sound S d prepared prepared' c m c' tag view media_id asked buffer us byt
     let cost : cost_of r.kind r.units.items ≡ cost_of asked.kind us = rw (kept.kind, kept.units_are) refl in
     let long : length c'.history.entries ≡ length m.history.entries + 1 = ap length kept.entries ∙ (omega arith) in
     keeps-sound S d prepared prepared' c c' tag view media_id asked buffer r some sound stay is new lies
-      (record {
-        entries = kept.entries ∙ (rw (takes.same.entries, takes.bytes_are) refl);
-        few = omega (arith, long, takes.same.few, kept.spare);
-        records = kept.records ∙ ap (λ records. records ++ (r ∷ [])) takes.same.records;
-        first = kept.first ∙ takes.same.first;
-        block = kept.block ∙ takes.same.block;
-        held = kept.held ∙ takes.same.held;
-        room = omega (arith, cost, takes.room, kept.spare);
-      })
-      (λ writes. rw kept.units_are (takes.ready (sym kept.kind ∙ writes)))
+    (record {
+      entries = kept.entries ∙ (rw (takes.same.entries, takes.bytes_are) refl);
+      few = omega (arith, long, takes.same.few, kept.spare);
+      records = kept.records ∙ ap (λ records. records ++ (r ∷ [])) takes.same.records;
+      first = kept.first ∙ takes.same.first;
+      block = kept.block ∙ takes.same.block;
+      held = kept.held ∙ takes.same.held;
+      room = omega (arith, cost, takes.room, kept.spare);
+    })
+    (λ writes. rw kept.units_are (takes.ready (sym kept.kind ∙ writes)))
 
 pub accept-accepts : (d : Device) (prepared prepared' : ℕ → Type 0) (c m c' : Core) (tag : ℕ) (view : View) (media_id : ℕ) (asked : Asked) (buffer : List ℕ) (us : List Span) (bytes : List ℕ) (r : Record) (number : ℕ)
     → IsSound (setup_of d) d prepared c → IsMoving asked buffer → plain_refusal (d.blocks * d.size) view media_id asked.at asked.length ≡ None
     → TakesRoom (setup_of d) prepared' c m c' tag view asked buffer us bytes r → IsSound (setup_of d) d prepared' c' → number ≡ length m.records.items
     → Accepts (state_of d c) tag view media_id asked (payload_of asked.kind buffer) buffer number (state_of d c')
 accept-accepts d prepared prepared' c m c' tag view media_id asked buffer us bytes r number sound is unrefused takes sound' numbered = record {
-    adds = record {
-      setup = refl;
-      entries = takes.kept.entries ∙ (rw (takes.same.entries, takes.bytes_are) refl);
-      legal = sound'.legal;
-    };
-    unrefused = refusal-here (setup_of d) d prepared c view media_id asked buffer None sound is unrefused;
-    numbered = numbered ∙ (ap length takes.same.records ∙ sound.count);
-    buffers = ap buffers_of takes.kept.records ∙ (map-append (λ (x : Record). x.buffer.items) m.records.items (r ∷ []) ∙ (rw (takes.same.records, takes.kept.bytes_are) refl));
-    faults = refl;
-  }
+  adds = record {
+    setup = refl;
+    entries = takes.kept.entries ∙ (rw (takes.same.entries, takes.bytes_are) refl);
+    legal = sound'.legal;
+  };
+  unrefused = refusal-here (setup_of d) d prepared c view media_id asked buffer None sound is unrefused;
+  numbered = numbered ∙ (ap length takes.same.records ∙ sound.count);
+  buffers = ap buffers_of takes.kept.records ∙ (map-append (λ (x : Record). x.buffer.items) m.records.items (r ∷ []) ∙ (rw (takes.same.records, takes.kept.bytes_are) refl));
+  faults = refl;
+}
 
 -- a refused request
 pub refuse-refuses : (d : Device) (prepared : ℕ → Type 0) (c c' : Core) (tag : ℕ) (view : View) (media_id : ℕ) (asked : Asked) (buffer : List ℕ) (status : Status)
@@ -100,12 +100,12 @@ pub refuse-refuses : (d : Device) (prepared : ℕ → Type 0) (c c' : Core) (tag
     → LeavesRefused c c' (Refuse tag view asked media_id status) → IsSound (setup_of d) d prepared c'
     → Refuses (state_of d c) tag view media_id asked status buffer buffer (state_of d c')
 refuse-refuses d prepared c c' tag view media_id asked buffer status sound is refused leaves sound' = record {
-    adds = record { setup = refl; entries = leaves.entries; legal = sound'.legal };
-    refused = refusal-here (setup_of d) d prepared c view media_id asked buffer (Some status) sound is refused;
-    handed_back = refl;
-    buffers = ap (λ records. buffers_of records.items) leaves.records;
-    faults = refl;
-  }
+  adds = record { setup = refl; entries = leaves.entries; legal = sound'.legal };
+  refused = refusal-here (setup_of d) d prepared c view media_id asked buffer (Some status) sound is refused;
+  handed_back = refl;
+  buffers = ap (λ records. buffers_of records.items) leaves.records;
+  faults = refl;
+}
 
 -- a request that is handed back
 pub collect-collects : (d : Device) (prepared : ℕ → Type 0) (c c' : Core) (tag t : ℕ) (r r' : Record) (q : Request) (status : Status)
@@ -113,14 +113,14 @@ pub collect-collects : (d : Device) (prepared : ℕ → Type 0) (c c' : Core) (t
     → HandsBack c c' tag t r r' → IsSound (setup_of d) d prepared c'
     → Collects (state_of d c) tag t status r.buffer.items (state_of d c') q
 collect-collects d prepared c c' tag t r r' q status sound was tracks ended kept back sound' = record {
-    adds = record { setup = refl; entries = back.entries; legal = sound'.legal };
-    named = tracks.named;
-    marked = tracks.status ∙ ended;
-    uncollected = tracks.collected ∙ kept;
-    handed_back = get-map (λ (x : Record). x.buffer.items) c.records.items t r was;
-    written = λ writes. tracks.bytes kept (sym tracks.of_kind ∙ writes);
-    read = λ reads. tracks.given kept (sym tracks.of_kind ∙ reads);
-    long = tracks.long kept;
-    buffers = ap buffers_of back.records ∙ (map-set (λ (x : Record). x.buffer.items) c.records.items t r' ∙ (rw back.emptied refl));
-    faults = refl;
-  }
+  adds = record { setup = refl; entries = back.entries; legal = sound'.legal };
+  named = tracks.named;
+  marked = tracks.status ∙ ended;
+  uncollected = tracks.collected ∙ kept;
+  handed_back = get-map (λ (x : Record). x.buffer.items) c.records.items t r was;
+  written = λ writes. tracks.bytes kept (sym tracks.of_kind ∙ writes);
+  read = λ reads. tracks.given kept (sym tracks.of_kind ∙ reads);
+  long = tracks.long kept;
+  buffers = ap buffers_of back.records ∙ (map-set (λ (x : Record). x.buffer.items) c.records.items t r' ∙ (rw back.emptied refl));
+  faults = refl;
+}

@@ -16,15 +16,15 @@ told-part (Some bytes) at skip count block same inside =
     let long_told : length block ≤ length (drop at bytes) = omega (arith, ap length same, length-take (length block) (drop at bytes)) in
     let long_there : length (take count (drop (at + skip) bytes)) ≡ count = omega (arith, length-take count (drop (at + skip) bytes), length-drop (at + skip) bytes, length-drop at bytes) in
     same-bytes (take count (drop skip block)) (take (length (take count (drop skip block))) (drop (at + skip) bytes)) (rw long (sym long_there))
-      (λ i lt. each i (omega arith) ∙ (rw long refl))
+    (λ i lt. each i (omega arith) ∙ (rw long refl))
   where
-  each : (i : ℕ) → i < count → slice_get (take count (drop skip block)) i ≡ slice_get (take count (drop (at + skip) bytes)) i
-  each i lt =
-      let place : at + (skip + i) ≡ at + skip + i = omega arith in
-      part-byte block skip count i lt
-      ∙ (ap (λ b. slice_get b (skip + i)) same
-      ∙ (part-byte bytes at (length block) (skip + i) (omega arith)
-      ∙ (ap (slice_get bytes) place ∙ sym (part-byte bytes (at + skip) count i lt))))
+    each : (i : ℕ) → i < count → slice_get (take count (drop skip block)) i ≡ slice_get (take count (drop (at + skip) bytes)) i
+    each i lt =
+        let place : at + (skip + i) ≡ at + skip + i = omega arith in
+        part-byte block skip count i lt
+        ∙ (ap (λ b. slice_get b (skip + i)) same
+        ∙ (part-byte bytes at (length block) (skip + i) (omega arith)
+        ∙ (ap (slice_get bytes) place ∙ sym (part-byte bytes (at + skip) count i lt))))
 
 -- a told block lies within what is told
 block-fits : (told : Option (List ℕ)) (bytes : List ℕ) (size blocks lba n : ℕ) → told ≡ Some bytes → IsTold told (blocks * size) → n ≡ size → lba < blocks → lba * size + n ≤ length bytes
@@ -38,7 +38,7 @@ patched-block : (told : Option (List ℕ)) (size blocks lba skip : ℕ) (block p
 patched-block None size blocks lba skip block piece long one within inside same = refl
 patched-block (Some bytes) size blocks lba skip block piece long one within inside same =
     ap Some (patch-block bytes (lba * size) block skip piece (block-fits (Some bytes) bytes size blocks lba (length block) refl long one within) inside
-      (λ j lt. ap (λ b. slice_get b j) same ∙ part-byte bytes (lba * size) (length block) j lt))
+    (λ j lt. ap (λ b. slice_get b j) same ∙ part-byte bytes (lba * size) (length block) j lt))
 
 nothing-told : (told : Option (List ℕ)) (at : ℕ) → patch_told told at [] ≡ told
 nothing-told None at = refl
@@ -53,12 +53,12 @@ pub writes-part : (old new : Device) (lba skip : ℕ) (block block' piece : List
     → length block' ≡ length block → block' ≡ patch block skip piece → skip + length piece ≤ length block → AreToldAt old.now (lba * old.size) block → IsWrite old lba block' result new
     → WritesTo old (lba * old.size + skip) piece result new
 writes-part old new lba skip block block' piece (Ok done) shaped transfer one long is inside same write = record {
-    command = write.command;
-    written = write.now ∙ (rw is (patched-block old.now old.size old.blocks lba skip block piece shaped.told_now one (omega arith) inside same));
-    left = tt;
-    kept = write.kept;
-    done = tt;
-  }
+  command = write.command;
+  written = write.now ∙ (rw is (patched-block old.now old.size old.blocks lba skip block piece shaped.told_now one (omega arith) inside same));
+  left = tt;
+  kept = write.kept;
+  done = tt;
+}
 writes-part old new lba skip block block' piece (Err fault) shaped transfer one long is inside same write =
     let none : fault.done ≡ 0 = zero-from fault.done old.size (length block') write.done (omega arith) in
     let no_bytes : 0 * old.size ≡ 0 = omega arith in

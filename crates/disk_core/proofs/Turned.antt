@@ -39,9 +39,9 @@ turn-is : (S : Setup) (d : Device) (prepared : ℕ → Type 0) (c : Core) (r : R
     → next_turn S.size c.history.entries ≡ Some (record { token = c.first; command = span_command c.history.entries c.first r.kind u.whole u.block u.count })
 turn-is S d prepared c r q u sound next =
     next-turn-is S c.history.entries c.first r q u
-      (first-open-is S.size c.history.entries c.first next.token (next.tracks.status ∙ next.unended) (none-marked S d prepared c sound))
-      next.tracks
-      (next-span-is S c.history.entries c.first r q u next.tracks next.unended next.has)
+    (first-open-is S.size c.history.entries c.first next.token (next.tracks.status ∙ next.unended) (none-marked S d prepared c sound))
+    next.tracks
+    (next-span-is S c.history.entries c.first r q u next.tracks next.unended next.has)
 
 turn-at : (t : ℕ) (H : List Entry) (r : Record) (u : Span) (kind : Kind) (whole : Bool) (command : Command) → r.kind ≡ kind → u.whole ≡ whole → span_command H t kind whole u.block u.count ≡ command
     → span_command H t r.kind u.whole u.block u.count ≡ command
@@ -53,8 +53,8 @@ turn-get S d prepared c r q u sound next reads =
     turn-is S d prepared c r q u sound next
     ∙ ap (λ command. Some (turn c.first command)) (turn-at c.first c.history.entries r u Read u.whole (Get u.block u.count) reads refl refl)
   where
-  turn : ℕ → Command → Turn
-  turn t command = record { token = t; command = command }
+    turn : ℕ → Command → Turn
+    turn t command = record { token = t; command = command }
 
 pub turn-put : (S : Setup) (d : Device) (prepared : ℕ → Type 0) (c : Core) (r : Record) (q : Request) (u : Span) → IsSound S d prepared c → IsNext S c.history.entries c.first r q u → r.kind ≡ Write → u.whole ≡ true
     → next_turn S.size c.history.entries ≡ Some (record { token = c.first; command = Put u.block u.count })
@@ -62,8 +62,8 @@ turn-put S d prepared c r q u sound next writes whole =
     turn-is S d prepared c r q u sound next
     ∙ ap (λ command. Some (turn c.first command)) (turn-at c.first c.history.entries r u Write true (Put u.block u.count) writes whole refl)
   where
-  turn : ℕ → Command → Turn
-  turn t command = record { token = t; command = command }
+    turn : ℕ → Command → Turn
+    turn t command = record { token = t; command = command }
 
 pub turn-store : (S : Setup) (d : Device) (prepared : ℕ → Type 0) (c : Core) (r : Record) (q : Request) (u : Span) → IsSound S d prepared c → IsNext S c.history.entries c.first r q u → r.kind ≡ Write → u.whole ≡ false
     → was_fetched c.history.entries c.first u.block ≡ true
@@ -72,18 +72,18 @@ turn-store S d prepared c r q u sound next writes part fetched =
     turn-is S d prepared c r q u sound next
     ∙ ap (λ command. Some (turn c.first command)) (turn-at c.first c.history.entries r u Write false (Store u.block) writes part (rw fetched refl))
   where
-  turn : ℕ → Command → Turn
-  turn t command = record { token = t; command = command }
+    turn : ℕ → Command → Turn
+    turn t command = record { token = t; command = command }
 
 -- where nothing is held, the next unit was not fetched
 pub unfetched : (S : Setup) (H : List Entry) (t : ℕ) (r : Record) (q : Request) (u : Span) → IsNext S H t r q u → NoneHeld S.size H → was_fetched H t u.block ≡ false
 unfetched S H t r q u next none =
     false_from_ne_true (was_fetched H t u.block) (λ fetched.
-      none t u.block (record {
-        outstanding = record { token = next.token; unmarked = next.tracks.status ∙ next.unended };
-        fetched = fetched;
-        unstored = next-unstored S H t r q u next;
-      }))
+    none t u.block (record {
+      outstanding = record { token = next.token; unmarked = next.tracks.status ∙ next.unended };
+      fetched = fetched;
+      unstored = next-unstored S H t r q u next;
+    }))
 
 pub turn-fetch : (S : Setup) (d : Device) (prepared : ℕ → Type 0) (c : Core) (r : Record) (q : Request) (u : Span) → IsSound S d prepared c → IsNext S c.history.entries c.first r q u → r.kind ≡ Write → u.whole ≡ false
     → NoneHeld S.size c.history.entries
@@ -92,8 +92,8 @@ turn-fetch S d prepared c r q u sound next writes part none =
     turn-is S d prepared c r q u sound next
     ∙ ap (λ command. Some (turn c.first command)) (turn-at c.first c.history.entries r u Write false (Fetch u.block) writes part (rw (unfetched S c.history.entries c.first r q u next none) refl))
   where
-  turn : ℕ → Command → Turn
-  turn t command = record { token = t; command = command }
+    turn : ℕ → Command → Turn
+    turn t command = record { token = t; command = command }
 
 -- the buffers where one record's buffer is replaced
 pub buffers-set : (records records' : List Record) (t : ℕ) (r' : Record) → records' ≡ set records t r' → buffers_of records' ≡ set (buffers_of records) t r'.buffer.items
@@ -125,6 +125,6 @@ pub did : (S : Setup) (d d' : Device) (prepared prepared' : ℕ → Type 0) (c c
     → Fills S c.history.entries turn.token turn.command outcome (buffers_of c.records.items) (buffers_of c'.records.items) → d.faults ≤ d'.faults → ((done : ℕ) → outcome ≡ Failed done → Rose d.faults d'.faults)
     → is_fetched turn.command outcome ≡ false → Stepped S d d' prepared' c c' step.Did
 did S d d' prepared prepared' c c' e r r' q turn outcome sound stay leaves next is fills later cause answer = record {
-    sound = sound-after S d d' prepared prepared' c c' e c.first r r' q sound stay leaves;
-    steps = record { turn = turn; outcome = outcome; moves = moves-by S d d' prepared c c' e r r' q turn outcome sound leaves next is fills later cause; answer = answer };
-  }
+  sound = sound-after S d d' prepared prepared' c c' e c.first r r' q sound stay leaves;
+  steps = record { turn = turn; outcome = outcome; moves = moves-by S d d' prepared c c' e r r' q turn outcome sound leaves next is fills later cause; answer = answer };
+}

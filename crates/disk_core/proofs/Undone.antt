@@ -41,8 +41,8 @@ unfolding was_stored is_moved
 moved-store size [] t b x was inside = cc
 moved-store size (Done u (Store d) ∷ H) t b x was inside =
     elim (or_cases (nat_eq u t && nat_eq d b) (was_stored H t b) was) [
-      inl now ↦ let same : (u ≡ t) × (d ≡ b) = same-block u t d b now in moved-now size H u t x (Store d) same.0 (rw same.1 inside)
-    | inr before ↦ moved-before size H u t x (Store d) (moved-store size H t b x before inside)
+      | inl now ↦ let same : (u ≡ t) × (d ≡ b) = same-block u t d b now in moved-now size H u t x (Store d) same.0 (rw same.1 inside)
+      | inr before ↦ moved-before size H u t x (Store d) (moved-store size H t b x before inside)
     ]
 moved-store size (Done u (Fetch d) ∷ H) t b x was inside = moved-before size H u t x (Fetch d) (moved-store size H t b x was inside)
 moved-store size (Done u (Put d n) ∷ H) t b x was inside = moved-before size H u t x (Put d n) (moved-store size H t b x was inside)
@@ -68,19 +68,19 @@ put-some S H t b n (r, may) = run-some S.size (from_of S.size r) (until_of S.siz
 got-some : (S : Setup) (H : List Entry) (t b n : ℕ) → MayFollow S H (Done t (Get b n)) → 0 < n
 unfolding MayFollow MayCommand
 got-some S H t b n (r, may) = elim (may.unit) [
-    inl run ↦ run-some S.size (from_of S.size r) (until_of S.size r) b n run
+  | inl run ↦ run-some S.size (from_of S.size r) (until_of S.size r) b n run
   | inr part ↦ let one : n ≡ 1 = part.1 in omega arith
-  ]
+]
 
 moved-put : (S : Setup) (H : List Entry) (t b x : ℕ) → IsLegal S H → was_put H t b ≡ true → lies_in S.size b 1 x ≡ true → is_moved S.size H t x ≡ true
 unfolding was_put is_moved IsLegal
 moved-put S [] t b x legal was inside = cc
 moved-put S (Done u (Put d n) ∷ H) t b x (legal, may) was inside =
     elim (or_cases (nat_eq u t && nat_eq d b) (was_put H t b) was) [
-      inl now ↦
-        let same : (u ≡ t) × (d ≡ b) = same-block u t d b now in
-        moved-now S.size H u t x (Put d n) same.0 (rw same.1 (wide S.size b n x (put-some S H u d n may) inside))
-    | inr before ↦ moved-before S.size H u t x (Put d n) (moved-put S H t b x legal before inside)
+      | inl now ↦
+          let same : (u ≡ t) × (d ≡ b) = same-block u t d b now in
+          moved-now S.size H u t x (Put d n) same.0 (rw same.1 (wide S.size b n x (put-some S H u d n may) inside))
+      | inr before ↦ moved-before S.size H u t x (Put d n) (moved-put S H t b x legal before inside)
     ]
 moved-put S (Done u (Fetch d) ∷ H) t b x (legal, may) was inside = moved-before S.size H u t x (Fetch d) (moved-put S H t b x legal was inside)
 moved-put S (Done u (Store d) ∷ H) t b x (legal, may) was inside = moved-before S.size H u t x (Store d) (moved-put S H t b x legal was inside)
@@ -101,10 +101,10 @@ unfolding was_got is_moved IsLegal
 moved-got S [] t b x legal was inside = cc
 moved-got S (Done u (Get d n) ∷ H) t b x (legal, may) was inside =
     elim (or_cases (nat_eq u t && nat_eq d b) (was_got H t b) was) [
-      inl now ↦
-        let same : (u ≡ t) × (d ≡ b) = same-block u t d b now in
-        moved-now S.size H u t x (Get d n) same.0 (rw same.1 (wide S.size b n x (got-some S H u d n may) inside))
-    | inr before ↦ moved-before S.size H u t x (Get d n) (moved-got S H t b x legal before inside)
+      | inl now ↦
+          let same : (u ≡ t) × (d ≡ b) = same-block u t d b now in
+          moved-now S.size H u t x (Get d n) same.0 (rw same.1 (wide S.size b n x (got-some S H u d n may) inside))
+      | inr before ↦ moved-before S.size H u t x (Get d n) (moved-got S H t b x legal before inside)
     ]
 moved-got S (Done u (Fetch d) ∷ H) t b x (legal, may) was inside = moved-before S.size H u t x (Fetch d) (moved-got S H t b x legal was inside)
 moved-got S (Done u (Store d) ∷ H) t b x (legal, may) was inside = moved-before S.size H u t x (Store d) (moved-got S H t b x legal was inside)
@@ -125,12 +125,12 @@ pub unit-low : (size a z : ℕ) (u : Span) → 0 < size → IsUnit size a z u �
 unit-low size a z u some unit =
     and_from (nat_le (u.block * size) u.low) (nat_lt u.low ((u.block + 1) * size)) (le-leb (u.block * size) u.low (omega (arith, unit.low))) (lt-ltb u.low ((u.block + 1) * size) (ends u.whole unit.kind))
   where
-  ends : (w : Bool) → IsKind size a z w u.block u.count → u.low < (u.block + 1) * size
-  ends false (part, one) = let high : u.high ≡ min z ((u.block + 1) * size) = rw one at unit.high in omega (arith, high, unit.some)
-  ends true run =
-      let first : up size a * size ≤ u.block * size = mul-le-mul_right size (omega arith) in
-      let next : u.block * size < (u.block + 1) * size = wider size u.block 1 some (omega arith) in
-      omega (arith, unit.low, up-reaches size a some)
+    ends : (w : Bool) → IsKind size a z w u.block u.count → u.low < (u.block + 1) * size
+    ends false (part, one) = let high : u.high ≡ min z ((u.block + 1) * size) = rw one at unit.high in omega (arith, high, unit.some)
+    ends true run =
+        let first : up size a * size ≤ u.block * size = mul-le-mul_right size (omega arith) in
+        let next : u.block * size < (u.block + 1) * size = wider size u.block 1 some (omega arith) in
+        omega (arith, unit.low, up-reaches size a some)
 
 pub unstored : (S : Setup) (H : List Entry) (t : ℕ) (u : Span) → lies_in S.size u.block 1 u.low ≡ true → is_moved S.size H t u.low ≡ false → was_stored H t u.block ≡ false
 unstored S H t u low unmoved = false_from_ne_true (was_stored H t u.block) (λ was. both_ways (is_moved S.size H t u.low) unmoved (moved-store S.size H t u.block u.low was low))

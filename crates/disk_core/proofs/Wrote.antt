@@ -45,8 +45,8 @@ put-free : (S : Setup) (H : List Entry) (c : Core) (r : Record) (u : Span) → I
 put-free S H c r u gate next whole t b holds =
     clash (sym whole ∙ (gate.unit b r u (gate.only t b holds).1 next.is next.unit).1)
   where
-  clash : true ≡ false → ⊥
-  clash e = cc
+    clash : true ≡ false → ⊥
+    clash e = cc
 
 same-record : (r : Record) → SameButBuffer r r
 same-record r = record { kind = refl; from = refl; units = refl; finished = refl; status = refl; collected = refl }
@@ -56,14 +56,14 @@ pub put-done : (S : Setup) (d d' : Device) (prepared prepared' : ℕ → Type 0)
     → Stepped S d d' prepared' c c' step.Did
 put-done S d d' prepared prepared' c c' r u shaped sound stay next whole write ends = by (next-of S d prepared c r u Write shaped sound next)
   where
-  by : (q : Request) × IsNext S c.history.entries c.first r q u → Stepped S d d' prepared' c c' step.Did
-  by (q, is) =
-      let H = c.history.entries in
-      let lies : UnitLies d r (length c.block.items) u = unit-facts S d prepared c r q u shaped sound is in
-      let bytes : unit_bytes r u ≡ bytes_between S.size q u.low u.high = unit-bytes-are S H c.first r q u is.tracks is.unended next.of_kind in
-      let low : u.block * d.size ≡ u.low = sym (lies.whole_low whole) in
-      let free : NoneHeld S.size H = put-free S H c r u sound.gate next whole in
-      wrote S d d' prepared prepared' c c' r q u (Put u.block u.count) sound stay is next.is next.of_kind write.command (is_put c.first u.block u.count) (λ y. refl)
+    by : (q : Request) × IsNext S c.history.entries c.first r q u → Stepped S d d' prepared' c c' step.Did
+    by (q, is) =
+        let H = c.history.entries in
+        let lies : UnitLies d r (length c.block.items) u = unit-facts S d prepared c r q u shaped sound is in
+        let bytes : unit_bytes r u ≡ bytes_between S.size q u.low u.high = unit-bytes-are S H c.first r q u is.tracks is.unended next.of_kind in
+        let low : u.block * d.size ≡ u.low = sym (lies.whole_low whole) in
+        let free : NoneHeld S.size H = put-free S H c r u sound.gate next whole in
+        wrote S d d' prepared prepared' c c' r q u (Put u.block u.count) sound stay is next.is next.of_kind write.command (is_put c.first u.block u.count) (λ y. refl)
         (may-put S H c.first r q u is free next.of_kind whole) (none-after-put S H c.first u.block u.count free)
         (write.now ∙ (rw (low, bytes, sound.meets.now) (sym (put-contents S H c.first q u sound.plain.inserts is.tracks.named is.has.unit))))
         write.kept
@@ -75,18 +75,18 @@ pub put-not : (S : Setup) (d d' : Device) (prepared prepared' : ℕ → Type 0) 
     → Stepped S d d' prepared' c c' step.Did
 put-not S d d' prepared prepared' c c' r u failure shaped sound stay next whole write ends = by (next-of S d prepared c r u Write shaped sound next)
   where
-  by : (q : Request) × IsNext S c.history.entries c.first r q u → Stepped S d d' prepared' c c' step.Did
-  by (q, is) =
-      let H = c.history.entries in
-      let lies : UnitLies d r (length c.block.items) u = unit-facts S d prepared c r q u shaped sound is in
-      let bytes : unit_bytes r u ≡ bytes_between S.size q u.low u.high = unit-bytes-are S H c.first r q u is.tracks is.unended next.of_kind in
-      let low : u.block * d.size ≡ u.low = sym (lies.whole_low whole) in
-      let size : d.size ≡ S.size = size-of S d sound.meets.setup in
-      let free : NoneHeld S.size H = put-free S H c r u sound.gate next whole in
-      let long : u.high - u.low ≡ u.count * d.size = omega (arith, lies.whole_low whole, lies.whole_high whole) in
-      let less_bytes : failure.done * d.size < u.count * d.size = omega (arith, write.done, length-take (u.high - u.low) (drop (u.low - r.from) r.buffer.items)) in
-      let less : failure.done < u.count = lt_of_mul-lt-mul_right d.size less_bytes in
-      faulted S d d' prepared prepared' c c' r r q u (Put u.block u.count) failure.done failure sound stay is next.is (same-record r) refl write.command
+    by : (q : Request) × IsNext S c.history.entries c.first r q u → Stepped S d d' prepared' c c' step.Did
+    by (q, is) =
+        let H = c.history.entries in
+        let lies : UnitLies d r (length c.block.items) u = unit-facts S d prepared c r q u shaped sound is in
+        let bytes : unit_bytes r u ≡ bytes_between S.size q u.low u.high = unit-bytes-are S H c.first r q u is.tracks is.unended next.of_kind in
+        let low : u.block * d.size ≡ u.low = sym (lies.whole_low whole) in
+        let size : d.size ≡ S.size = size-of S d sound.meets.setup in
+        let free : NoneHeld S.size H = put-free S H c r u sound.gate next whole in
+        let long : u.high - u.low ≡ u.count * d.size = omega (arith, lies.whole_low whole, lies.whole_high whole) in
+        let less_bytes : failure.done * d.size < u.count * d.size = omega (arith, write.done, length-take (u.high - u.low) (drop (u.low - r.from) r.buffer.items)) in
+        let less : failure.done < u.count = lt_of_mul-lt-mul_right d.size less_bytes in
+        faulted S d d' prepared prepared' c c' r r q u (Put u.block u.count) failure.done failure sound stay is next.is (same-record r) refl write.command
         (may-put S H c.first r q u is free next.of_kind whole) less
         (write.now ∙ (rw (low, bytes, sound.meets.now, size) (sym (fault-contents S H c.first failure.done q u is.positive sound.plain.inserts is.tracks.named is.has.unit whole less))))
         write.kept (turn-put S d prepared c r q u sound is next.of_kind whole) ends
@@ -99,13 +99,13 @@ pub store-done : (S : Setup) (d d' : Device) (prepared prepared' : ℕ → Type 
     → Stepped S d d' prepared' c c' step.Did
 store-done S d d' prepared prepared' c c' r u shaped sound stay next part held write ends = by (next-of S d prepared c r u Write shaped sound next)
   where
-  by : (q : Request) × IsNext S c.history.entries c.first r q u → Stepped S d d' prepared' c c' step.Did
-  by (q, is) =
-      let H = c.history.entries in
-      let bytes : unit_bytes r u ≡ bytes_between S.size q u.low u.high = unit-bytes-are S H c.first r q u is.tracks is.unended next.of_kind in
-      let holds : Holds S.size H c.first u.block = sound.gate.holds u.block held in
-      let one : u.count ≡ 1 = (part-of S.size (from_of S.size q) (until_of S.size q) u is.has.unit part).1 in
-      wrote S d d' prepared prepared' c c' r q u (Store u.block) sound stay is next.is next.of_kind write.command (is_store c.first u.block) (λ y. rw one refl)
+    by : (q : Request) × IsNext S c.history.entries c.first r q u → Stepped S d d' prepared' c c' step.Did
+    by (q, is) =
+        let H = c.history.entries in
+        let bytes : unit_bytes r u ≡ bytes_between S.size q u.low u.high = unit-bytes-are S H c.first r q u is.tracks is.unended next.of_kind in
+        let holds : Holds S.size H c.first u.block = sound.gate.holds u.block held in
+        let one : u.count ≡ 1 = (part-of S.size (from_of S.size q) (until_of S.size q) u is.has.unit part).1 in
+        wrote S d d' prepared prepared' c c' r q u (Store u.block) sound stay is next.is next.of_kind write.command (is_store c.first u.block) (λ y. rw one refl)
         (may-store S H c.first u.block holds)
         (none-after-store S H c.first u.block (λ t b held_too. ((sound.gate.only t b held_too).0, sym (some-is u.block b (sym held ∙ (sound.gate.only t b held_too).1)))))
         (write.written ∙ (rw (bytes, sound.meets.now) (sym (store-contents S H c.first q u sound.plain.inserts is.tracks.named is.has.unit one))))
@@ -130,11 +130,11 @@ pub store-not : (S : Setup) (d d' : Device) (prepared prepared' : ℕ → Type 0
     → Stepped S d d' prepared' c c' step.Did
 store-not S d d' prepared prepared' c c' r u failure shaped sound stay next part held write ends = by (next-of S d prepared c r u Write shaped sound next)
   where
-  by : (q : Request) × IsNext S c.history.entries c.first r q u → Stepped S d d' prepared' c c' step.Did
-  by (q, is) =
-      let H = c.history.entries in
-      let holds : Holds S.size H c.first u.block = sound.gate.holds u.block held in
-      faulted S d d' prepared prepared' c c' r r q u (Store u.block) 0 failure sound stay is next.is (same-record r) refl write.command
+    by : (q : Request) × IsNext S c.history.entries c.first r q u → Stepped S d d' prepared' c c' step.Did
+    by (q, is) =
+        let H = c.history.entries in
+        let holds : Holds S.size H c.first u.block = sound.gate.holds u.block held in
+        faulted S d d' prepared prepared' c c' r r q u (Store u.block) 0 failure sound stay is next.is (same-record r) refl write.command
         (may-store S H c.first u.block holds) refl
         (write.left ∙ (sound.meets.now ∙ sym (contents-same S H (Fault c.first (Store u.block) 0) sound.plain.inserts (fault-silent-store S.size H c.first u.block 0))))
         write.kept (turn-store S d prepared c r q u sound is next.of_kind part holds.fetched) ends
@@ -144,11 +144,11 @@ pub fetch-not : (S : Setup) (d d' : Device) (prepared prepared' : ℕ → Type 0
     → Stepped S d d' prepared' c c' step.Did
 fetch-not S d d' prepared prepared' c c' r u block block' failure shaped sound stay next part free read ends = by (next-of S d prepared c r u Write shaped sound next)
   where
-  by : (q : Request) × IsNext S c.history.entries c.first r q u → Stepped S d d' prepared' c c' step.Did
-  by (q, is) =
-      let H = c.history.entries in
-      let none : NoneHeld S.size H = none-held S H c.records.items c.first c.block.items c.held sound.gate free in
-      faulted S d d' prepared prepared' c c' r r q u (Fetch u.block) 0 failure sound stay is next.is (same-record r) refl read.command
+    by : (q : Request) × IsNext S c.history.entries c.first r q u → Stepped S d d' prepared' c c' step.Did
+    by (q, is) =
+        let H = c.history.entries in
+        let none : NoneHeld S.size H = none-held S H c.records.items c.first c.block.items c.held sound.gate free in
+        faulted S d d' prepared prepared' c c' r r q u (Fetch u.block) 0 failure sound stay is next.is (same-record r) refl read.command
         (may-fetch S H c.first r q u is none next.of_kind part) refl
         (read.now ∙ (sound.meets.now ∙ sym (contents-same S H (Fault c.first (Fetch u.block) 0) sound.plain.inserts (fault-silent-fetch S.size H c.first u.block 0))))
         (kept-same d.cached d.kept d.now d'.now d'.kept shaped.uncached read.now read.kept)
@@ -169,38 +169,38 @@ pub fetch-done : (S : Setup) (d d' : Device) (prepared prepared' : ℕ → Type 
     → Stepped S d d' prepared' c c' step.Fetched
 fetch-done S d d' prepared prepared' c c' r u block block' shaped sound stay next part free read ends = by (next-of S d prepared c r u Write shaped sound next)
   where
-  by : (q : Request) × IsNext S c.history.entries c.first r q u → Stepped S d d' prepared' c c' step.Fetched
-  by (q, is) =
-      let H = c.history.entries in
-      let none : NoneHeld S.size H = none-held S H c.records.items c.first c.block.items c.held sound.gate free in
-      let few : length H + 1 < 2 ^ 63 = omega (arith, sound.few, ends.spare) in
-      let after : Tracks S (Done c.first (Fetch u.block) ∷ H) c.first r q = tracks-fetch S H c.first u.block r q u is.tracks is.unended is.has in
-      let same : contents S 1 (Done c.first (Fetch u.block) ∷ H) ≡ contents S 1 H = contents-same S H (Done c.first (Fetch u.block)) sound.plain.inserts (fetch-silent S.size H c.first u.block) in
-      let told : AreToldAt (contents S 1 (Done c.first (Fetch u.block) ∷ H)) (u.block * S.size) block' = rw (same, sym sound.meets.now, sym (size-of S d sound.meets.setup)) read.given in
-      let leaves : Leaves S d d' c c' (Done c.first (Fetch u.block)) c.first r r q = record {
-        was = next.is;
-        entries = ends.entries;
-        spare = ends.spare;
-        records = rw ends.records (sym (set-itself c.records.items c.first r next.is));
-        first = ends.first;
-        block = rw ends.block (ends.long ∙ sound.block);
-        own = done-own S H c.first (Fetch u.block);
-        may = may-done S H c.first (Fetch u.block) (may-fetch S H c.first r q u is none next.of_kind part);
-        meets = meets-command S H d d' (Done c.first (Fetch u.block)) 0 (Ok tt) sound.meets read.command (is_fetch c.first u.block) refl few
-          (read.now ∙ (sound.meets.now ∙ sym same)) (kept-same d.cached d.kept d.now d'.now d'.kept shaped.uncached read.now read.kept);
-        tracks = after;
-        gate = rw (ends.records, ends.block) (gate-fetch S H c.records.items c.first r u block' c'.held none ends.held is.token (after.status ∙ is.unended) (next-unstored S H c.first r q u is) told next.is next.unit next.of_kind part);
-        owed = done-owed S.size H c.first (Fetch u.block) q r.finished u is.tracks.named (rw is.tracks.of_kind is.tracks.moving) (is.tracks.status ∙ is.unended) (rw is.tracks.units at is.has.is)
-          (rw (is.tracks.of_kind, next.of_kind, part) (fetch-falls H c.first u.block (unfetched S H c.first r q u is none) (next-unstored S H c.first r q u is)));
-        becomes = record { units = refl; kind = refl; unended = λ _. is.unended };
-      } in
-      record {
-        sound = sound-after S d d' prepared prepared' c c' (Done c.first (Fetch u.block)) c.first r r q sound stay leaves;
-        steps = record {
-          turn = record { token = c.first; command = Fetch u.block };
-          outcome = Made;
-          moves = moves-by S d d' prepared c c' (Done c.first (Fetch u.block)) r r q (record { token = c.first; command = Fetch u.block }) Made sound leaves
-            (turn-fetch S d prepared c r q u sound is next.of_kind part none) refl (ap (λ records. buffers_of records.items) ends.records) read.command.later (λ done failed. absurd (made-failed done failed));
-          answer = refl;
-        };
-      }
+    by : (q : Request) × IsNext S c.history.entries c.first r q u → Stepped S d d' prepared' c c' step.Fetched
+    by (q, is) =
+        let H = c.history.entries in
+        let none : NoneHeld S.size H = none-held S H c.records.items c.first c.block.items c.held sound.gate free in
+        let few : length H + 1 < 2 ^ 63 = omega (arith, sound.few, ends.spare) in
+        let after : Tracks S (Done c.first (Fetch u.block) ∷ H) c.first r q = tracks-fetch S H c.first u.block r q u is.tracks is.unended is.has in
+        let same : contents S 1 (Done c.first (Fetch u.block) ∷ H) ≡ contents S 1 H = contents-same S H (Done c.first (Fetch u.block)) sound.plain.inserts (fetch-silent S.size H c.first u.block) in
+        let told : AreToldAt (contents S 1 (Done c.first (Fetch u.block) ∷ H)) (u.block * S.size) block' = rw (same, sym sound.meets.now, sym (size-of S d sound.meets.setup)) read.given in
+        let leaves : Leaves S d d' c c' (Done c.first (Fetch u.block)) c.first r r q = record {
+          was = next.is;
+          entries = ends.entries;
+          spare = ends.spare;
+          records = rw ends.records (sym (set-itself c.records.items c.first r next.is));
+          first = ends.first;
+          block = rw ends.block (ends.long ∙ sound.block);
+          own = done-own S H c.first (Fetch u.block);
+          may = may-done S H c.first (Fetch u.block) (may-fetch S H c.first r q u is none next.of_kind part);
+          meets = meets-command S H d d' (Done c.first (Fetch u.block)) 0 (Ok tt) sound.meets read.command (is_fetch c.first u.block) refl few
+              (read.now ∙ (sound.meets.now ∙ sym same)) (kept-same d.cached d.kept d.now d'.now d'.kept shaped.uncached read.now read.kept);
+          tracks = after;
+          gate = rw (ends.records, ends.block) (gate-fetch S H c.records.items c.first r u block' c'.held none ends.held is.token (after.status ∙ is.unended) (next-unstored S H c.first r q u is) told next.is next.unit next.of_kind part);
+          owed = done-owed S.size H c.first (Fetch u.block) q r.finished u is.tracks.named (rw is.tracks.of_kind is.tracks.moving) (is.tracks.status ∙ is.unended) (rw is.tracks.units at is.has.is)
+              (rw (is.tracks.of_kind, next.of_kind, part) (fetch-falls H c.first u.block (unfetched S H c.first r q u is none) (next-unstored S H c.first r q u is)));
+          becomes = record { units = refl; kind = refl; unended = λ _. is.unended };
+        } in
+        record {
+          sound = sound-after S d d' prepared prepared' c c' (Done c.first (Fetch u.block)) c.first r r q sound stay leaves;
+          steps = record {
+            turn = record { token = c.first; command = Fetch u.block };
+            outcome = Made;
+            moves = moves-by S d d' prepared c c' (Done c.first (Fetch u.block)) r r q (record { token = c.first; command = Fetch u.block }) Made sound leaves
+                (turn-fetch S d prepared c r q u sound is next.of_kind part none) refl (ap (λ records. buffers_of records.items) ends.records) read.command.later (λ done failed. absurd (made-failed done failed));
+            answer = refl;
+          };
+        }

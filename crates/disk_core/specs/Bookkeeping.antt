@@ -10,9 +10,9 @@ use Rattle.disk_core.specs.declared.record.Core.{Core}
 -- one more unit is finished; the last one ends the request with success
 abbrev pub finished_record : Record → Record
 finished_record r = record r {
-    finished = r.finished + 1;
-    status = if nat_eq (r.finished + 1) (length r.units.items) then Some Success else r.status;
-  }
+  finished = r.finished + 1;
+  status = if nat_eq (r.finished + 1) (length r.units.items) then Some Success else r.status;
+}
 
 -- a failed command ends the request
 abbrev pub failed_record : Record → Record

@@ -36,7 +36,7 @@ pub record Tracks (S : Setup) (H : List Entry) (t : ℕ) (r : Record) (q : Reque
   pub collected : was_collected H t ≡ r.collected
   pub unfinished : r.status ≡ None → r.finished < length r.units.items
   pub moved : r.status ≡ None → (x : ℕ) → from_of S.size q ≤ x → x < until_of S.size q →
-    is_moved S.size H t x ≡ nat_lt x (low_or (slice_get r.units.items r.finished) (until_of S.size q))
+      is_moved S.size H t x ≡ nat_lt x (low_or (slice_get r.units.items r.finished) (until_of S.size q))
   pub uncollected : r.status ≡ None → r.collected ≡ false
   pub long : r.collected ≡ false → length r.buffer.items ≡ q.asked.length
   pub bytes : r.collected ≡ false → r.kind ≡ Write → r.buffer.items ≡ q.bytes

@@ -18,11 +18,11 @@ pub record State : Type 0 where
 -- a disk with this one medium, not protected
 unfoldable pub setup_of : Device → Setup
 setup_of d = record {
-    size = d.size;
-    cached = d.cached;
-    protected = false;
-    media = record { blocks = d.blocks; first = d.first } ∷ [];
-  }
+  size = d.size;
+  cached = d.cached;
+  protected = false;
+  media = record { blocks = d.blocks; first = d.first } ∷ [];
+}
 
 -- a read's buffer has each byte that the read got
 abbrev pub AreGiven : Setup → List Entry → ℕ → Request → List ℕ → Type 0

@@ -72,7 +72,13 @@ impl<M: Medium> Disk<M> {
 
     /// Accepts a request, or refuses it with the status that the rules give. The buffer has at most 16 MiB, and comes
     /// back with a refusal. Memory that the request can ever need is taken now; for want of it nothing is recorded.
-    pub fn submit(&mut self, tag: u32, view: &View, media_id: u32, ask: Ask) -> Result<Token, Refused>
+    pub fn submit(
+        &mut self,
+        tag: u32,
+        view: &View,
+        media_id: u32,
+        ask: Ask,
+    ) -> Result<Token, Refused>
         requires { length (buffer_of ask) ≤ 2 ^ 24 }
         ensures { Submits self.old tag view.now media_id ask result self.new }
     {
@@ -86,7 +92,16 @@ impl<M: Medium> Disk<M> {
             at,
             length: buffer.len() as u64,
         };
-        submit_asked(self.alloc, &mut self.medium, &mut self.core, tag, view, media_id, asked, buffer)
+        submit_asked(
+            self.alloc,
+            &mut self.medium,
+            &mut self.core,
+            tag,
+            view,
+            media_id,
+            asked,
+            buffer,
+        )
     }
 
     /// Makes the command that comes next: of the least outstanding token its unfinished unit of least byte.

@@ -7,8 +7,8 @@ ghost use Rattle.disk_core.specs.Sound.{IsSound};
 ghost use Rattle.disk_core.specs.Stepping.{NextUnit, Stepped};
 
 use crate::answers::Step;
-use crate::units::{put_unit, read_unit, store_unit};
 use crate::record::Core;
+use crate::units::{put_unit, read_unit, store_unit};
 use disk_split::Span;
 use efi_status::Status;
 use history::{Command, Entry};

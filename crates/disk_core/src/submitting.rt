@@ -24,7 +24,10 @@ use std::alloc::{AllocError, Global};
 fn is_outside(total: u64, view: &View, at: u64, length: u64) -> bool
     ensures { result ≡ is_beyond total view.now at length }
 {
-    view.length > total || view.start > total - view.length || at > view.length || length > view.length - at
+    view.length > total
+        || view.start > total - view.length
+        || at > view.length
+        || length > view.length - at
 }
 
 // The status with which a request for bytes is refused by a disk whose medium 1 is in.
@@ -45,13 +48,7 @@ fn commands_for_unit(kind: Kind, unit: &Span) -> u64
     ensures { result ≡ unit_cost kind unit.now.whole }
 {
     match kind {
-        Kind::Write => {
-            if unit.whole {
-                1
-            } else {
-                2
-            }
-        }
+        Kind::Write => { if unit.whole { 1 } else { 2 } }
         Kind::Read | Kind::Flush => 1,
     }
 }
@@ -116,7 +113,8 @@ pub fn take_room<M: Medium>(
     core.records.reserve(1)?;
     let cost = commands_for(kind, &units);
     let spare = core.history.spare();
-    core.history.reserve(spare.saturating_add(cost).saturating_add(3))?;
+    core.history
+        .reserve(spare.saturating_add(cost).saturating_add(3))?;
     if kind == Kind::Write {
         prepare_units(alloc, medium, &units)?;
     }

@@ -26,7 +26,15 @@ pub fn read_unit<M: Medium>(
         return read_run(medium, unit.block, &mut kept.buffer, place, count);
     }
     let skip = (unit.low - unit.block * block.len() as u64) as usize;
-    read_part(medium, unit.block, block, skip, &mut kept.buffer, place, count)
+    read_part(
+        medium,
+        unit.block,
+        block,
+        skip,
+        &mut kept.buffer,
+        place,
+        count,
+    )
 }
 
 // Writes the unit's bytes into the copy of its block, and the block.
@@ -50,11 +58,7 @@ pub fn store_unit<M: Medium>(
 }
 
 // Writes the unit's whole blocks.
-pub fn put_unit<M: Medium>(
-    medium: &mut M,
-    kept: &Record,
-    unit: Span,
-) -> Result<(), BlockFailed>
+pub fn put_unit<M: Medium>(medium: &mut M, kept: &Record, unit: Span) -> Result<(), BlockFailed>
     requires lies { UnitLies (M.device medium.old) kept.now (M.device medium.old).size unit }
     requires whole { unit.whole ≡ true }
     requires ready { (b : ℕ) → unit.block ≤ b → b < unit.block + unit.count → M.prepared medium.old b }

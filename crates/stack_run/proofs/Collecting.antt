@@ -1,5 +1,5 @@
 -- Collecting tokens in order of number: what it adds, and what it leaves.
-use Rattle.std.proofs.Common.{◌≡◌, ◌≢◌, ℕ, zero, suc, ◌+◌, ◌<◌, ◌≤◌, Bool, true, false, not, nat_eq, if◌then◌else◌, List, [], ◌∷◌, Option, None, Some, is_none, refl, sym, ◌∙◌, ap, arith}
+use Rattle.std.proofs.Common.{◌≡◌, ℕ, zero, suc, ◌+◌, ◌<◌, ◌≤◌, Bool, true, false, not, nat_eq, if◌then◌else◌, List, ◌∷◌, Option, None, Some, is_none, refl, ◌∙◌, ap, arith}
 use Rattle.history.specs.declared.entry.Entry.{Entry}
 use Rattle.history.specs.declared.entry.Entry.TheVariants.{Collect}
 use Rattle.history.specs.Tokens.{Request, accepted, request, was_collected}
@@ -24,14 +24,14 @@ unfolding collects
 collects-keep P more test H a zero holds = holds
 collects-keep P more test H a (suc n) holds = collects-keep P more test (with_collect test H a) (a + 1) n (by (request H a) (was_collected H a))
   where
-  by : (r : Option Request) (was : Bool) → P (collect_one test H a r was)
-  by None was = holds
-  by (Some r) true = holds
-  by (Some r) false = tested (test r.tag)
-    where
-    tested : (b : Bool) → P (if b then Collect r.tag a ∷ H else H)
-    tested true = more H r.tag a holds
-    tested false = holds
+    by : (r : Option Request) (was : Bool) → P (collect_one test H a r was)
+    by None was = holds
+    by (Some r) true = holds
+    by (Some r) false = tested (test r.tag)
+      where
+        tested : (b : Bool) → P (if b then Collect r.tag a ∷ H else H)
+        tested true = more H r.tag a holds
+        tested false = holds
 
 pub collected-drained : (size : ℕ) (H : List Entry) → first_open size H ≡ None → first_open size (own_collected H) ≡ None
 unfolding own_collected
@@ -66,9 +66,9 @@ collects-none test H a zero was = refl
 collects-none test H a (suc n) was =
     rw (was a (omega arith) (omega arith), by (request H a)) (collects-none test H (a + 1) n (λ t lo hi. was t (omega arith) (omega arith)))
   where
-  by : (r : Option Request) → collect_one test H a r true ≡ H
-  by None = refl
-  by (Some r) = refl
+    by : (r : Option Request) → collect_one test H a r true ≡ H
+    by None = refl
+    by (Some r) = refl
 
 -- a token with tag 1 that was not collected
 pub with-collect : (test : ℕ → Bool) (H : List Entry) (t : ℕ) (q : Request) → test 1 ≡ true → request H t ≡ Some q → q.tag ≡ 1 → was_collected H t ≡ false → with_collect test H t ≡ Collect 1 t ∷ H

@@ -1,18 +1,18 @@
 -- A disk that was served: what its image and its report are.
-use Rattle.std.proofs.Common.{◌≡◌, ℕ, ◌*◌, List, [], ◌∷◌, ◌++◌, Bool, true, false, Option, None, Some, Result, Ok, refl, sym, ◌∙◌, ap, option_map, if◌then◌else◌}
+use Rattle.std.proofs.Common.{◌≡◌, ℕ, List, false, Option, Some, Ok, refl, ◌∙◌, option_map}
 use Rattle.medium.specs.Counts.{adds}
 use Rattle.medium.specs.Device.{Device}
 use Rattle.history.specs.declared.entry.Entry.{Entry}
-use Rattle.history.specs.Setup.{Setup, first_of}
-use Rattle.history.specs.Contents.{contents, kept_contents, flushed_contents, pieces_of, patched}
-use Rattle.history.specs.Room.{faults}
+use Rattle.history.specs.Setup.{first_of}
+use Rattle.history.specs.Contents.{contents, kept_contents, pieces_of, patched}
 use Rattle.disk_core.specs.State.{setup_of, Meets}
 use Rattle.image_store.specs.Edge.{Appends}
-use Rattle.image_store.specs.Place.{Place, Here, Missing, Taken, Untold, Image, ChangesOnly, IsTaking, GivesBlocks, put_place, whole_blocks, tail_of}
+use Rattle.image_store.specs.Place.{Place, Here, Missing, Taken, Untold, Image, ChangesOnly, IsTaking, GivesBlocks, put_place, whole_blocks}
 use Rattle.script_text.specs.declared.grammar.plans.DiskPlan.{DiskPlan}
 use Rattle.script_text.specs.declared.grammar.plans.ClientPlan.{ClientPlan}
 use Rattle.script_text.specs.declared.report.parts.TokenLine.{TokenLine}
 use Rattle.script_text.specs.Report.{givens_of, AreEnds}
+use Rattle.stack_run.specs.declared.refusal.Refusal.{Refusal}
 use Rattle.stack_run.specs.declared.serving.Run.{Run}
 use Rattle.stack_run.specs.Serving.{RanOver, Served, Leaves, disk_report}
 
@@ -29,7 +29,7 @@ unfolding kept_contents contents setup_of
 kept-uncached d H uncached = rw uncached refl
 
 -- a name's image after its medium was put back
-pub left-behind : (p0 p1 p2 : Place) (size : ℕ) (d d' : Device) (H : List Entry) → IsTaking p0 p1 size false d → Meets (setup_of d) H d' → p2 ≡ put_place p1 d'.kept (Ok tt) → Leaves (setup_of d) H size p0 p2
+pub left-behind : (p0 p1 p2 : Place) (size : ℕ) (d d' : Device) (H : List Entry) → IsTaking p0 p1 size false d → Meets (setup_of d) H d' → p2 ≡ put_place {E = Refusal} p1 d'.kept (Ok tt) → Leaves (setup_of d) H size p0 p2
 unfolding GivesBlocks
 left-behind (Here bytes) p1 p2 size d d' H taking meets put =
     let (long, taken, first, blocks) = taking.blocks in
@@ -46,20 +46,20 @@ ends-here d H ends size is all = rw (size-is d ∙ is) at all
 -- the run's promise for its disk
 pub served : (plan : DiskPlan) (client : ClientPlan) (at at1 at2 : List ℕ → Image) (wrote wrote' : Option (List ℕ)) (d d' : Device) (run : Run) (blocks : ℕ)
     → IsTaking (at plan.image).place (at1 plan.image).place plan.size false d → (at1 plan.image).worn ≡ (at plan.image).worn → ChangesOnly plan.image at at1
-    → RanOver d client.orders d' run → (at2 plan.image).place ≡ put_place (at1 plan.image).place d'.kept (Ok tt) → (at2 plan.image).worn ≡ adds (at1 plan.image).worn d'.failed → ChangesOnly plan.image at1 at2
+    → RanOver d client.orders d' run → (at2 plan.image).place ≡ put_place {E = Refusal} (at1 plan.image).place d'.kept (Ok tt) → (at2 plan.image).worn ≡ adds (at1 plan.image).worn d'.failed → ChangesOnly plan.image at1 at2
     → blocks ≡ d.blocks → Appends wrote wrote' (disk_report plan blocks run.history.entries (givens_of run.ends.items))
     → Served plan client at at2 wrote wrote'
 served plan client at at1 at2 wrote wrote' d d' run blocks taking worn1 others1 ran put worn2 others2 counted report = record {
-    setup = setup_of d;
-    history = run.history.entries;
-    given = givens_of run.ends.items;
-    blocks = blocks;
-    size = size-is d ∙ taking.size;
-    legal = ran.legal;
-    plain = ran.plain;
-    reads = ran.given;
-    report = report;
-    image = left-behind (at plan.image).place (at1 plan.image).place (at2 plan.image).place plan.size d d' run.history.entries taking ran.meets put;
-    others = λ other ne. others2 other ne ∙ others1 other ne;
-    worn = worn2 ∙ (rw (worn1, ran.meets.failed) refl);
-  }
+  setup = setup_of d;
+  history = run.history.entries;
+  given = givens_of run.ends.items;
+  blocks = blocks;
+  size = size-is d ∙ taking.size;
+  legal = ran.legal;
+  plain = ran.plain;
+  reads = ran.given;
+  report = report;
+  image = left-behind (at plan.image).place (at1 plan.image).place (at2 plan.image).place plan.size d d' run.history.entries taking ran.meets put;
+  others = λ other ne. others2 other ne ∙ others1 other ne;
+  worn = worn2 ∙ (rw (worn1, ran.meets.failed) refl);
+}

@@ -1,5 +1,5 @@
 -- What a run keeps of its tokens holds after each entry.
-use Rattle.std.proofs.Common.{◌≡◌, ◌≢◌, ℕ, zero, suc, ◌+◌, ◌-◌, ◌<◌, ◌≤◌, ◌⊎◌, inl, inr, Bool, true, false, not, ◌&&◌, ◌||◌, nat_eq, nat_lt, List, [], ◌∷◌, ◌++◌, length, slice_get, slice_index, get_or, Option, None, Some, IfSome, is_some, is_none, refl, sym, ◌∙◌, ap, subst, arith}
+use Rattle.std.proofs.Common.{◌≡◌, ℕ, zero, suc, ◌+◌, ◌-◌, ◌<◌, ◌≤◌, ◌⊎◌, inl, inr, Bool, true, false, not, ◌&&◌, ◌||◌, nat_eq, nat_lt, List, [], ◌∷◌, ◌++◌, length, slice_get, slice_index, get_or, Option, None, Some, IfSome, is_some, is_none, refl, sym, ◌∙◌, ap, subst, arith}
 use Rattle.std.proofs.lemmas.Bool.{ne_eqb, eq-eqb, lt-ltb, le-ltb, cases_eq, cases_order, both_ways}
 use Rattle.std.proofs.lemmas.List.{length-append}
 use Rattle.std.proofs.lemmas.Option.{get_or_from_slice_get, slice_get_read, slice_get_within}
@@ -13,7 +13,7 @@ use Rattle.history.specs.declared.entry.Entry.{Entry}
 use Rattle.history.specs.declared.order.Payload.{Payload}
 use Rattle.history.specs.declared.entry.Entry.TheVariants.{Accept, Refuse, Collect}
 use Rattle.history.specs.Setup.{Setup}
-use Rattle.history.specs.Tokens.{Request, accepted, request, was_collected, is_read, from_of, until_of}
+use Rattle.history.specs.Tokens.{Request, accepted, request, was_collected, is_read, from_of}
 use Rattle.history.specs.Marks.{mark_of, ending}
 use Rattle.history.specs.Contents.{bytes_read}
 use Rattle.history.specs.Rules.{refusal_of}
@@ -22,8 +22,8 @@ use Rattle.disk_core.specs.State.{State, AreGiven as AreReadInto}
 use Rattle.disk_core.specs.Calls.{Collects}
 use Rattle.disk_core.proofs.Silence.{IsSilent, or_else-none, accept-silent, refuse-silent}
 use Rattle.script_text.specs.declared.report.parts.TokenLine.{TokenLine}
-use Rattle.stack_run.specs.Plain.{whole_view, payload_bytes, answer_of, answered, with_collect, collects, own_collected, all_collected}
-use Rattle.script_text.specs.Report.{is_success, is_tagged_read, gives_bytes, AreBytesRead, IsGiven}
+use Rattle.stack_run.specs.Plain.{whole_view, payload_bytes, answered, collects, own_collected, all_collected}
+use Rattle.script_text.specs.Report.{is_success, gives_bytes, AreBytesRead}
 use Rattle.stack_run.specs.Keeping.{Stays, IsEnd, Keeps, given_of, CollectsNext, CollectsFirst, CollectsAll, Answers}
 use Rattle.stack_run.proofs.Collecting.{open-collect, collects-last, collects-none, with-collect}
 
@@ -38,31 +38,32 @@ get-push (z ∷ xs) x y (suc t) is = elim (get-push xs x y t is) [ inl before �
 end-stays : (S : Setup) (H H' : List Entry) (t : ℕ) (line : TokenLine) → request H' t ≡ request H t → mark_of S.size H' t ≡ Some line.status → ((x : ℕ) → bytes_read S H' t x ≡ bytes_read S H t x) → IsEnd S H t line → IsEnd S H' t line
 unfolding gives_bytes
 end-stays S H H' t line named marked given end = record {
-    marked = marked;
-    given = record {
-      where_read = rw (named, marked ∙ sym end.marked) (end.given.where_read);
-      bytes = rw named (by (request H t) line.given end.given.bytes);
-    };
-  }
+  marked = marked;
+  given = record {
+    where_read = rw (named, marked ∙ sym end.marked) (end.given.where_read);
+    bytes = rw named (by (request H t) line.given end.given.bytes);
+  };
+}
   where
-  each : (r : Request) (bytes : List ℕ) → AreBytesRead S H t r bytes → AreBytesRead S H' t r bytes
-  each r bytes are = record { all = are.all; each = λ i lt. rw (given (from_of S.size r + i)) (are.each i lt) }
-  by : (o : Option Request) (g : Option (List ℕ)) → IfSome o (λ r. IfSome g (AreBytesRead S H t r)) → IfSome o (λ r. IfSome g (AreBytesRead S H' t r))
-  by None g are = are
-  by (Some r) None are = are
-  by (Some r) (Some bytes) are = each r bytes are
+    each : (r : Request) (bytes : List ℕ) → AreBytesRead S H t r bytes → AreBytesRead S H' t r bytes
+    each r bytes are = record { all = are.all; each = λ i lt. rw (given (from_of S.size r + i)) (are.each i lt) }
+
+    by : (o : Option Request) (g : Option (List ℕ)) → IfSome o (λ r. IfSome g (AreBytesRead S H t r)) → IfSome o (λ r. IfSome g (AreBytesRead S H' t r))
+    by None g are = are
+    by (Some r) None are = are
+    by (Some r) (Some bytes) are = each r bytes are
 
 -- what is kept holds in a later history with the same tokens
 pub keeps-stays : (S : Setup) (H H' : List Entry) (kinds : List Kind) (ends : List TokenLine) → Stays S H H' → Keeps S H kinds ends → Keeps S H' kinds ends
 keeps-stays S H H' kinds ends stays keeps = record {
-    count = keeps.count ∙ sym stays.count;
-    within = keeps.within;
-    asked = λ t r named. keeps.asked t r (sym (stays.named t) ∙ named);
-    collected = λ t. stays.collected t ∙ keeps.collected t;
-    ended = λ t line is.
+  count = keeps.count ∙ sym stays.count;
+  within = keeps.within;
+  asked = λ t r named. keeps.asked t r (sym (stays.named t) ∙ named);
+  collected = λ t. stays.collected t ∙ keeps.collected t;
+  ended = λ t line is.
       let end : IsEnd S H t line = keeps.ended t line is in
       end-stays S H H' t line (stays.named t) (stays.marked t line.status end.marked) (stays.given t line.status end.marked) end;
-  }
+}
 
 given-some : (kind : Kind) (status : Status) (bytes : List ℕ) → is_some (given_of kind status bytes) ≡ ((is_read kind && true) && is_success (Some status))
 given-some Read Success bytes = refl
@@ -81,11 +82,11 @@ given-some Flush status bytes = refl
 read-bytes : (S : Setup) (H : List Entry) (t : ℕ) (q : Request) (buffer : List ℕ) → AreReadInto S H t q buffer → length buffer ≡ q.asked.length → AreBytesRead S H t q buffer
 read-bytes S H t q buffer read long = record { all = long; each = λ i lt. by i lt (bytes_read S H t (from_of S.size q + i)) refl }
   where
-  by : (i : ℕ) → i < length buffer → (o : Option ℕ) → bytes_read S H t (from_of S.size q + i) ≡ o → IfSome o (λ b. slice_index buffer i ≡ b)
-  by i lt None is = tt
-  by i lt (Some b) is =
-      let at : from_of S.size q + i - from_of S.size q ≡ i = omega arith in
-      get_or_from_slice_get buffer i b 0 (rw at at (read (from_of S.size q + i) b (omega arith) (omega (arith, lt, long)) is))
+    by : (i : ℕ) → i < length buffer → (o : Option ℕ) → bytes_read S H t (from_of S.size q + i) ≡ o → IfSome o (λ b. slice_index buffer i ≡ b)
+    by i lt None is = tt
+    by i lt (Some b) is =
+        let at : from_of S.size q + i - from_of S.size q ≡ i = omega arith in
+        get_or_from_slice_get buffer i b 0 (rw at at (read (from_of S.size q + i) b (omega arith) (omega (arith, lt, long)) is))
 
 given-bytes : (S : Setup) (H : List Entry) (t : ℕ) (q : Request) (kind : Kind) (status : Status) (buffer : List ℕ) → (kind ≡ Read → AreBytesRead S H t q buffer) → IfSome (given_of kind status buffer) (AreBytesRead S H t q)
 given-bytes S H t q Read Success buffer are = are refl
@@ -105,12 +106,12 @@ end-new : (S : Setup) (H : List Entry) (t : ℕ) (q : Request) (status : Status)
     → (q.asked.kind ≡ Read → AreReadInto S H t q buffer) → length buffer ≡ q.asked.length → line.status ≡ status → line.given ≡ given_of q.asked.kind status buffer → IsEnd S H t line
 unfolding gives_bytes
 end-new S H t q status buffer line named tagged marked read long is gives = record {
-    marked = rw is marked;
-    given = record {
-      where_read = rw (gives, named, marked, tagged) (given-some q.asked.kind status buffer);
-      bytes = rw (named, gives) (given-bytes S H t q q.asked.kind status buffer (λ reads. read-bytes S H t q buffer (read reads) long));
-    };
-  }
+  marked = rw is marked;
+  given = record {
+    where_read = rw (gives, named, marked, tagged) (given-some q.asked.kind status buffer);
+    bytes = rw (named, gives) (given-bytes S H t q q.asked.kind status buffer (λ reads. read-bytes S H t q buffer (read reads) long));
+  };
+}
 
 -- one more token is collected
 pub keeps-collect : (S : Setup) (H : List Entry) (kinds : List Kind) (ends : List TokenLine) (q : Request) (status : Status) (buffer : List ℕ) (line : TokenLine)
@@ -119,54 +120,56 @@ pub keeps-collect : (S : Setup) (H : List Entry) (kinds : List Kind) (ends : Lis
     → Keeps S (Collect 1 (length ends) ∷ H) kinds (ends ++ line ∷ [])
 unfolding accepted request was_collected mark_of ending bytes_read
 keeps-collect S H kinds ends q status buffer line keeps some named marked read long is gives = record {
-    count = keeps.count;
-    within = omega (arith, length-append ends (line ∷ []), some);
-    asked = keeps.asked;
-    collected = λ t. rw (keeps.collected t) (later t);
-    ended = λ t l at. by t l (get-push ends line l t at);
-  }
+  count = keeps.count;
+  within = omega (arith, length-append ends (line ∷ []), some);
+  asked = keeps.asked;
+  collected = λ t. rw (keeps.collected t) (later t);
+  ended = λ t l at. by t l (get-push ends line l t at);
+}
   where
-  more : length (ends ++ line ∷ []) ≡ length ends + 1
-  more = length-append ends (line ∷ [])
-  later : (t : ℕ) → (nat_eq (length ends) t || nat_lt t (length ends)) ≡ nat_lt t (length (ends ++ line ∷ []))
-  later t = elim (cases_order (length ends) t) [
-      inl same ↦ rw (eq-eqb (length ends) t same) (sym (lt-ltb t (length (ends ++ line ∷ [])) (omega (arith, more, same))))
-    | inr (inl above) ↦ rw (ne_eqb (length ends) t (λ e. omega (arith, e, above)), le-ltb t (length ends) (omega (arith, above)), le-ltb t (length (ends ++ line ∷ [])) (omega (arith, more, above)))
-    | inr (inr below) ↦ rw (ne_eqb (length ends) t (λ e. omega (arith, e, below)), lt-ltb t (length ends) below, lt-ltb t (length (ends ++ line ∷ [])) (omega (arith, more, below)))
+    more : length (ends ++ line ∷ []) ≡ length ends + 1
+    more = length-append ends (line ∷ [])
+
+    later : (t : ℕ) → (nat_eq (length ends) t || nat_lt t (length ends)) ≡ nat_lt t (length (ends ++ line ∷ []))
+    later t = elim (cases_order (length ends) t) [
+      | inl same ↦ rw (eq-eqb (length ends) t same) (sym (lt-ltb t (length (ends ++ line ∷ [])) (omega (arith, more, same))))
+      | inr (inl above) ↦ rw (ne_eqb (length ends) t (λ e. omega (arith, e, above)), le-ltb t (length ends) (omega (arith, above)), le-ltb t (length (ends ++ line ∷ [])) (omega (arith, more, above)))
+      | inr (inr below) ↦ rw (ne_eqb (length ends) t (λ e. omega (arith, e, below)), lt-ltb t (length ends) below, lt-ltb t (length (ends ++ line ∷ [])) (omega (arith, more, below)))
     ]
-  by : (t : ℕ) (l : TokenLine) → (slice_get ends t ≡ Some l) ⊎ ((t ≡ length ends) × (line ≡ l)) → IsEnd S (Collect 1 (length ends) ∷ H) t l
-  by t l (inl before) =
-      let end : IsEnd S H t l = keeps.ended t l before in
-      end-stays S H (Collect 1 (length ends) ∷ H) t l refl (or_else-none (mark_of S.size H t) ∙ end.marked) (λ x. refl) end
-  by t l (inr (at, same)) =
-      let end : IsEnd S H (length ends) line = end-new S H (length ends) q status buffer line named (keeps.asked (length ends) q named).0 marked read long is gives in
-      rw (at, ← same) (end-stays S H (Collect 1 (length ends) ∷ H) (length ends) line refl (or_else-none (mark_of S.size H (length ends)) ∙ end.marked) (λ x. refl) end)
+
+    by : (t : ℕ) (l : TokenLine) → (slice_get ends t ≡ Some l) ⊎ ((t ≡ length ends) × (line ≡ l)) → IsEnd S (Collect 1 (length ends) ∷ H) t l
+    by t l (inl before) =
+        let end : IsEnd S H t l = keeps.ended t l before in
+        end-stays S H (Collect 1 (length ends) ∷ H) t l refl (or_else-none (mark_of S.size H t) ∙ end.marked) (λ x. refl) end
+    by t l (inr (at, same)) =
+        let end : IsEnd S H (length ends) line = end-new S H (length ends) q status buffer line named (keeps.asked (length ends) q named).0 marked read long is gives in
+        rw (at, ← same) (end-stays S H (Collect 1 (length ends) ∷ H) (length ends) line refl (or_else-none (mark_of S.size H (length ends)) ∙ end.marked) (λ x. refl) end)
 
 -- before the first collect
 pub first-none : (S : Setup) (H : List Entry) (kinds : List Kind) (ends : List TokenLine) → first_open S.size H ≡ None → Keeps S H kinds ends → CollectsFirst S H H kinds ends
 first-none S H kinds ends none keeps = record {
-    drained = none;
-    count = refl;
-    so_far = λ test passes. sym (collects-none test H 0 (length ends) (λ t lo hi. keeps.collected t ∙ lt-ltb t (length ends) (omega (arith, hi))));
-    keeps = keeps;
-  }
+  drained = none;
+  count = refl;
+  so_far = λ test passes. sym (collects-none test H 0 (length ends) (λ t lo hi. keeps.collected t ∙ lt-ltb t (length ends) (omega (arith, hi))));
+  keeps = keeps;
+}
 
 -- after one more
 pub first-next : (S : Setup) (H G H' : List Entry) (kinds kinds' : List Kind) (ends ends' : List TokenLine) → CollectsFirst S H G kinds ends → CollectsNext S G H' kinds kinds' ends ends' → CollectsFirst S H H' kinds' ends'
 unfolding accepted
 first-next S H G H' kinds kinds' ends ends' first next = record {
-    drained = rw (next.entries) (open-collect S.size G 1 (length ends) ∙ first.drained);
-    count = rw (next.entries) first.count;
-    so_far = λ test passes. next.entries ∙ by test passes next.token;
-    keeps = next.keeps;
-  }
+  drained = rw (next.entries) (open-collect S.size G 1 (length ends) ∙ first.drained);
+  count = rw (next.entries) first.count;
+  so_far = λ test passes. next.entries ∙ by test passes next.token;
+  keeps = next.keeps;
+}
   where
-  by : (test : ℕ → Bool) → test 1 ≡ true → (q : Request) × (request G (length ends) ≡ Some q) → (Collect 1 (length ends) ∷ G) ≡ collects test H 0 (length ends')
-  by test passes (q, named) =
-      let before : G ≡ collects test H 0 (length ends) = first.so_far test passes in
-      let uncollected : was_collected G (length ends) ≡ false = first.keeps.collected (length ends) ∙ le-ltb (length ends) (length ends) (omega arith) in
-      let at : 0 + length ends ≡ length ends = omega arith in
-      rw (next.count, collects-last test H 0 (length ends), ← before, at) (sym (with-collect test G (length ends) q passes named (first.keeps.asked (length ends) q named).0 uncollected))
+    by : (test : ℕ → Bool) → test 1 ≡ true → (q : Request) × (request G (length ends) ≡ Some q) → (Collect 1 (length ends) ∷ G) ≡ collects test H 0 (length ends')
+    by test passes (q, named) =
+        let before : G ≡ collects test H 0 (length ends) = first.so_far test passes in
+        let uncollected : was_collected G (length ends) ≡ false = first.keeps.collected (length ends) ∙ le-ltb (length ends) (length ends) (omega arith) in
+        let at : 0 + length ends ≡ length ends = omega arith in
+        rw (next.count, collects-last test H 0 (length ends), ← before, at) (sym (with-collect test G (length ends) q passes named (first.keeps.asked (length ends) q named).0 uncollected))
 
 -- after the last
 pub first-all : (S : Setup) (H H' : List Entry) (kinds : List Kind) (ends : List TokenLine) → CollectsFirst S H H' kinds ends → length kinds ≤ length ends → CollectsAll S H H' kinds ends
@@ -195,7 +198,7 @@ next-collected old new kinds ends n kind status buffer line q at some keeps coll
       same_kinds = refl;
       count = length-append ends (line ∷ []);
       keeps = rw (collects.adds.entries, at)
-        (keeps-collect old.setup old.entries kinds ends q status buffer line keeps some (rw at at collects.named) (rw at at collects.marked)
+          (keeps-collect old.setup old.entries kinds ends q status buffer line keeps some (rw at at collects.named) (rw at at collects.marked)
           (rw at at collects.read) collects.long ends_so (rw same at gives));
     }
 
@@ -204,11 +207,11 @@ unfolding first_from
 not-first test a zero k none lo hi = absurd (omega arith)
 not-first test a (suc n) k none lo hi = by (test a) refl (λ none' after. not-first test (a + 1) n k none' after (omega arith))
   where
-  by : (b : Bool) → test a ≡ b → (first_from test (a + 1) n ≡ None → a + 1 ≤ k → test k ≡ false) → test k ≡ false
-  by true is rest = let e : Some a ≡ None = rw is at none in cc
-  by false is rest = elim (cases_eq a k) [
-      inl same ↦ rw (← same) is
-    | inr other ↦ rest (rw is at none) (omega (arith, other))
+    by : (b : Bool) → test a ≡ b → (first_from test (a + 1) n ≡ None → a + 1 ≤ k → test k ≡ false) → test k ≡ false
+    by true is rest = let e : Some a ≡ None = rw is at none in cc
+    by false is rest = elim (cases_eq a k) [
+      | inl same ↦ rw (← same) is
+      | inr other ↦ rest (rw is at none) (omega (arith, other))
     ]
 
 -- where no token is outstanding, no token is
@@ -244,39 +247,42 @@ ends-stay S H kinds ends e keeps silent t line is =
 keeps-accept : (S : Setup) (H : List Entry) (kinds : List Kind) (ends : List TokenLine) (view : View) (asked : Asked) (bytes : List ℕ) → Keeps S H kinds ends → Keeps S (Accept 1 view asked bytes ∷ H) (kinds ++ asked.kind ∷ []) ends
 unfolding accepted request was_collected
 keeps-accept S H kinds ends view asked bytes keeps = record {
-    count = more ∙ ap (λ n. n + 1) keeps.count;
-    within = omega (arith, more, keeps.within);
-    asked = λ t r named. elim (cases_eq t (accepted H)) [
-        inl same ↦ new t r same (rw (eq-eqb t (accepted H) same) at named)
-      | inr other ↦ old t r (rw (ne_eqb t (accepted H) other) at named)
-      ];
-    collected = keeps.collected;
-    ended = ends-stay S H kinds ends (Accept 1 view asked bytes) keeps (λ t there. accept-silent S H 1 view asked bytes t (λ e. omega (arith, e, there)));
-  }
+  count = more ∙ ap (λ n. n + 1) keeps.count;
+  within = omega (arith, more, keeps.within);
+  asked = λ t r named. elim (cases_eq t (accepted H)) [
+    | inl same ↦ new t r same (rw (eq-eqb t (accepted H) same) at named)
+    | inr other ↦ old t r (rw (ne_eqb t (accepted H) other) at named)
+  ];
+  collected = keeps.collected;
+  ended = ends-stay S H kinds ends (Accept 1 view asked bytes) keeps (λ t there. accept-silent S H 1 view asked bytes t (λ e. omega (arith, e, there)));
+}
   where
-  more : length (kinds ++ asked.kind ∷ []) ≡ length kinds + 1
-  more = length-append kinds (asked.kind ∷ [])
-  Asks : ℕ → Request → Type 0
-  Asks t r = (r.tag ≡ 1) × (slice_get (kinds ++ asked.kind ∷ []) t ≡ Some r.asked.kind)
-  new : (t : ℕ) (r : Request) → t ≡ accepted H → Some (record { tag = 1; view = view; asked = asked; bytes = bytes }) ≡ Some r → Asks t r
-  new t r same named =
-      let last : t ≡ length kinds = same ∙ sym keeps.count in
-      let is : record { tag = 1; view = view; asked = asked; bytes = bytes } ≡ r = cc in
-      subst (λ (q : Request). Asks t q) is (refl, rw last (get-last kinds asked.kind))
-  old : (t : ℕ) (r : Request) → request H t ≡ Some r → Asks t r
-  old t r named =
-      let was : (r.tag ≡ 1) × (slice_get kinds t ≡ Some r.asked.kind) = keeps.asked t r named in
-      (was.0, get-before kinds asked.kind r.asked.kind t was.1)
+    more : length (kinds ++ asked.kind ∷ []) ≡ length kinds + 1
+    more = length-append kinds (asked.kind ∷ [])
+
+    Asks : ℕ → Request → Type 0
+    Asks t r = (r.tag ≡ 1) × (slice_get (kinds ++ asked.kind ∷ []) t ≡ Some r.asked.kind)
+
+    new : (t : ℕ) (r : Request) → t ≡ accepted H → Some (record { tag = 1; view = view; asked = asked; bytes = bytes }) ≡ Some r → Asks t r
+    new t r same named =
+        let last : t ≡ length kinds = same ∙ sym keeps.count in
+        let is : record { tag = 1; view = view; asked = asked; bytes = bytes } ≡ r = cc in
+        subst (λ (q : Request). Asks t q) is (refl, rw last (get-last kinds asked.kind))
+
+    old : (t : ℕ) (r : Request) → request H t ≡ Some r → Asks t r
+    old t r named =
+        let was : (r.tag ≡ 1) × (slice_get kinds t ≡ Some r.asked.kind) = keeps.asked t r named in
+        (was.0, get-before kinds asked.kind r.asked.kind t was.1)
 
 keeps-refuse : (S : Setup) (H : List Entry) (kinds : List Kind) (ends : List TokenLine) (view : View) (asked : Asked) (media_id : ℕ) (status : Status) → Keeps S H kinds ends → Keeps S (Refuse 1 view asked media_id status ∷ H) kinds ends
 unfolding accepted request was_collected
 keeps-refuse S H kinds ends view asked media_id status keeps = record {
-    count = keeps.count;
-    within = keeps.within;
-    asked = keeps.asked;
-    collected = keeps.collected;
-    ended = ends-stay S H kinds ends (Refuse 1 view asked media_id status) keeps (λ t there. refuse-silent S H 1 view asked media_id status t);
-  }
+  count = keeps.count;
+  within = keeps.within;
+  asked = keeps.asked;
+  collected = keeps.collected;
+  ended = ends-stay S H kinds ends (Refuse 1 view asked media_id status) keeps (λ t there. refuse-silent S H 1 view asked media_id status t);
+}
 
 -- the request is accepted
 pub answers-accept : (S : Setup) (H H' : List Entry) (kinds kinds' : List Kind) (ends : List TokenLine) (view : View) (asked asked' : Asked) (bytes : List ℕ) (payload : Payload) (k : ℕ)

@@ -1,34 +1,29 @@
 -- How the stands of the plain schedule lead on to one another, whatever outcomes are still to come.
-use Rattle.std.proofs.Common.{◌≡◌, ◌≢◌, ℕ, zero, suc, ◌+◌, ◌<◌, ◌≤◌, Bool, true, false, not, nat_eq, ◌&&◌, List, [], ◌∷◌, Option, None, Some, is_none, refl, sym, ◌∙◌, ap, arith}
+use Rattle.std.proofs.Common.{◌≡◌, ℕ, suc, ◌+◌, Bool, true, false, List, [], ◌∷◌, Option, None, Some, refl, ◌∙◌, ap, arith}
 use Rattle.efi_status.specs.declared.Status.{Status}
-use Rattle.history.specs.declared.entry.View.{View}
 use Rattle.history.specs.declared.entry.Asked.{Asked}
 use Rattle.history.specs.declared.entry.Entry.{Entry}
-use Rattle.history.specs.declared.entry.Entry.TheVariants.{Collect}
 use Rattle.history.specs.declared.order.Order.{Order}
 use Rattle.history.specs.declared.order.Order.TheVariants as order
 use Rattle.history.specs.declared.order.Payload.{Payload}
 use Rattle.history.specs.Setup.{Setup}
-use Rattle.history.specs.Tokens.{Request, accepted, request, was_collected}
-use Rattle.history.specs.Marks.{mark_of}
 use Rattle.history.specs.Rules.{refusal_of}
-use Rattle.history.specs.Next.{first_from, is_open, first_open, Turn, turn_of_token, next_turn, Outcome, Made, Failed, entry_of}
-use Rattle.disk_core.specs.Calls.{is_fetched}
+use Rattle.history.specs.Next.{first_open, Turn, next_turn, Outcome, Made, Failed, entry_of}
 use Rattle.stack_run.specs.Plain.{outcomes_onto, Stand, stand, whole_view, payload_bytes, answer_of, answered, own_collected, taken, stepped, commanded, a_round, is_over, plain_from}
 use Rattle.stack_run.specs.Leading.{GoesOn, Leads, StepsOn, IsStep, IsTurned, Stay}
 use Rattle.stack_run.proofs.Collecting.{collected-drained, onto-own}
 
 pub leads-same : (S : Setup) (H : List Entry) (lines : List Order) → Leads S H lines H lines
 leads-same S H lines = record {
-    k = 0;
-    on = λ n more. record { given = more; same = refl; goes = ap (λ k. plain_from k S (stand H lines more)) (omega arith) };
-  }
+  k = 0;
+  on = λ n more. record { given = more; same = refl; goes = ap (λ k. plain_from k S (stand H lines more)) (omega arith) };
+}
 
 pub leads-on : (S : Setup) (H : List Entry) (lines : List Order) (G : List Entry) (between : List Order) (H' : List Entry) (lines' : List Order)
     → Leads S H lines G between → Leads S G between H' lines' → Leads S H lines H' lines'
 leads-on S H lines G between H' lines' first then = record {
-    k = then.k + first.k;
-    on = λ n more.
+  k = then.k + first.k;
+  on = λ n more.
       let later : GoesOn S then.k G between H' lines' n more = then.on n more in
       let sooner : GoesOn S first.k H lines G between (n + then.k) later.given = first.on (n + then.k) later.given in
       record {
@@ -36,7 +31,7 @@ leads-on S H lines G between H' lines' first then = record {
         same = later.same ∙ sooner.same;
         goes = ap (λ k. plain_from k S (stand H lines sooner.given)) (omega arith) ∙ (sooner.goes ∙ later.goes);
       };
-  }
+}
 
 onto-entry : (turn : Turn) (outcome : Outcome) (H : List Entry) (more : List Outcome) → outcomes_onto (entry_of turn outcome ∷ H) more ≡ outcomes_onto H (outcome ∷ more)
 unfolding outcomes_onto
@@ -52,10 +47,10 @@ step-drained S H none lines more = record { given = more; same = refl; goes = rw
 pub step-did : (S : Setup) (H H' : List Entry) → IsTurned S.size H H' false → IsStep S H H'
 unfolding stepped
 step-did S H H' t lines more = record {
-    given = t.outcome ∷ more;
-    same = rw (t.entries) (onto-entry t.turn t.outcome H more);
-    goes = rw (t.next, t.answer, t.entries);
-  }
+  given = t.outcome ∷ more;
+  same = rw (t.entries) (onto-entry t.turn t.outcome H more);
+  goes = rw (t.next, t.answer, t.entries);
+}
 
 -- a done fetch with its store
 pub step-fetched : (S : Setup) (H G H' : List Entry) (fetched : Bool) → IsTurned S.size H G true → IsTurned S.size G H' fetched → IsStep S H H'
@@ -93,55 +88,56 @@ onto-answered : (S : Setup) (H : List Entry) (asked : Asked) (payload : Payload)
 unfolding answered outcomes_onto
 onto-answered S H asked payload media_id more = by (refusal_of S H (whole_view S media_id) asked media_id)
   where
-  by : (refusal : Option Status) → outcomes_onto (answer_of (whole_view S media_id) asked (payload_bytes payload) media_id refusal ∷ H) more ≡ outcomes_onto H more
-  by None = refl
-  by (Some status) = refl
+    by : (refusal : Option Status) → outcomes_onto (answer_of (whole_view S media_id) asked (payload_bytes payload) media_id refusal ∷ H) more ≡ outcomes_onto H more
+    by None = refl
+    by (Some status) = refl
 
 -- a request is answered, and a step follows
 pub leads-request : (S : Setup) (H : List Entry) (asked : Asked) (payload : Payload) (media_id : ℕ) (rest : List Order) (H' : List Entry)
     → IsStep S (answered S H asked payload media_id) H' → Leads S H (order.Request asked payload media_id ∷ rest) H' rest
 unfolding taken
 leads-request S H asked payload media_id rest H' step = record {
-    k = 1;
-    on = λ n more.
+  k = 1;
+  on = λ n more.
       let on : StepsOn S (answered S H asked payload media_id) H' rest more = step rest more in
       record {
         given = on.given;
         same = on.same ∙ onto-answered S H asked payload media_id on.given;
         goes = a-round S n (stand H (order.Request asked payload media_id ∷ rest) on.given) refl ∙ ap (plain_from n S) on.goes;
       };
-  }
+}
 
 -- a step while a token is outstanding
 pub leads-step : (S : Setup) (H H' : List Entry) (lines : List Order) (t : ℕ) → Stay lines → first_open S.size H ≡ Some t → IsStep S H H' → Leads S H lines H' lines
 unfolding taken
 leads-step S H H' lines t stay first step = record {
-    k = 1;
-    on = λ n more.
+  k = 1;
+  on = λ n more.
       let on : StepsOn S H H' lines more = step lines more in
       record {
         given = on.given;
         same = on.same;
         goes = a-round S n (stand H lines on.given) (open_ lines on.given) ∙ ap (plain_from n S) (ap (stepped S.size) (stays lines stay on.given) ∙ on.goes);
       };
-  }
+}
   where
-  open_ : (ls : List Order) (given : List Outcome) → is_over S.size (stand H ls given) ≡ false
-  open_ [] given = rw first
-  open_ (line ∷ rest) given = refl
-  stays : (ls : List Order) → Stay ls → (given : List Outcome) → taken S (stand H ls given) ≡ stand H ls given
-  stays [] s given = refl
-  stays (order.Wait ∷ rest) s given = rw first
-  stays (order.Request asked payload media_id ∷ rest) s given = absurd s
+    open_ : (ls : List Order) (given : List Outcome) → is_over S.size (stand H ls given) ≡ false
+    open_ [] given = rw first
+    open_ (line ∷ rest) given = refl
+
+    stays : (ls : List Order) → Stay ls → (given : List Outcome) → taken S (stand H ls given) ≡ stand H ls given
+    stays [] s given = refl
+    stays (order.Wait ∷ rest) s given = rw first
+    stays (order.Request asked payload media_id ∷ rest) s given = absurd s
 
 -- a wait while no token is outstanding
 pub leads-wait : (S : Setup) (H : List Entry) (rest : List Order) → first_open S.size H ≡ None → Leads S H (order.Wait ∷ rest) (own_collected H) rest
 unfolding taken stepped
 leads-wait S H rest none = record {
-    k = 1;
-    on = λ n more. record {
-      given = more;
-      same = onto-own H more;
-      goes = a-round S n (stand H (order.Wait ∷ rest) more) refl ∙ ap (plain_from n S) (rw (none, drained-turn S.size (own_collected H) (collected-drained S.size H none)));
-    };
-  }
+  k = 1;
+  on = λ n more. record {
+    given = more;
+    same = onto-own H more;
+    goes = a-round S n (stand H (order.Wait ∷ rest) more) refl ∙ ap (plain_from n S) (rw (none, drained-turn S.size (own_collected H) (collected-drained S.size H none)));
+  };
+}

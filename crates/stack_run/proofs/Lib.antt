@@ -4,6 +4,7 @@ pub mod Enough
 pub mod Handed
 pub mod Keeping
 pub mod Leading
+pub mod OneDisk
 pub mod Read
 pub mod Reported
 pub mod Running

@@ -1,5 +1,5 @@
 -- What of a source was read so far.
-use Rattle.std.proofs.Common.{◌≡◌, ℕ, ◌+◌, ◌<◌, ◌≤◌, List, [], ◌∷◌, ◌++◌, take, length, Option, None, Some, refl, sym, ◌∙◌, ap, append_assoc, inl, inr}
+use Rattle.std.proofs.Common.{◌≡◌, ℕ, ◌<◌, List, [], ◌++◌, take, length, Option, None, Some, refl, sym, ◌∙◌, ap, append_assoc, inl, inr}
 use Rattle.image_store.specs.Edge.{TakesFront}
 use Rattle.script_text.specs.declared.grammar.limits.TheConstants.{SCRIPT_BYTES}
 use Rattle.stack_run.specs.Reading.{Reads}

@@ -1,7 +1,7 @@
 -- A report that is written in two parts.
 use Rattle.std.proofs.Common.{◌≡◌, ℕ, List, [], ◌++◌, ◌∷◌, ◌*◌, Option, None, Some, refl, sym, ◌∙◌, ap, append_assoc}
 use Rattle.std.proofs.lemmas.List.{append-nil}
-use Rattle.image_store.specs.Edge.{Appends, AppendsFront, AppendsUpTo}
+use Rattle.image_store.specs.Edge.{Appends, AppendsFront}
 use Rattle.history.specs.declared.entry.Entry.{Entry}
 use Rattle.script_text.specs.declared.grammar.plans.DiskPlan.{DiskPlan}
 use Rattle.script_text.specs.Report.{head_text, body_text, report_text}

@@ -1,17 +1,16 @@
 -- A line is taken, and all lines are run.
-use Rattle.std.proofs.Common.{◌≡◌, ◌≢◌, ℕ, zero, suc, ◌+◌, ◌*◌, ◌<◌, ◌≤◌, Bool, true, List, [], ◌∷◌, length, map, slice_get, get_or, drop, Option, None, Some, IfSome, option_map, refl, sym, ◌∙◌, ap, arith}
+use Rattle.std.proofs.Common.{◌≡◌, ℕ, zero, suc, ◌+◌, ◌*◌, ◌<◌, ◌≤◌, Bool, true, List, [], ◌∷◌, length, map, slice_get, get_or, drop, Option, None, Some, IfSome, option_map, refl, sym, ◌∙◌, ap, arith}
 use Rattle.std.proofs.lemmas.Bool.{lt-ltb, le-ltb}
 use Rattle.std.proofs.lemmas.List.{length-map}
 use Rattle.std.proofs.Math.ListN.{drop_of_length-le}
 use Rattle.std.proofs.lemmas.Option.{slice_get_read}
-use Rattle.history.specs.declared.entry.View.{View}
 use Rattle.history.specs.declared.entry.Asked.{Asked}
 use Rattle.history.specs.declared.entry.Kind.{Kind}
 use Rattle.history.specs.declared.entry.Entry.{Entry}
 use Rattle.history.specs.declared.order.Order.{Order}
 use Rattle.history.specs.declared.order.Order.TheVariants as order
 use Rattle.history.specs.declared.order.Payload.{Payload}
-use Rattle.history.specs.Setup.{Setup, blocks_of}
+use Rattle.history.specs.Setup.{Setup}
 use Rattle.history.specs.Tokens.{accepted, request, was_collected}
 use Rattle.history.specs.Marks.{mark_of}
 use Rattle.history.specs.Next.{first_open}
@@ -22,7 +21,7 @@ use Rattle.disk_core.proofs.Followed.{size-of}
 use Rattle.script_text.specs.declared.report.parts.TokenLine.{TokenLine}
 use Rattle.script_text.specs.Fit.{IsOrder, AreOrders}
 use Rattle.script_text.specs.Report.{givens_of, AreEnds, IsGiven, AreGiven}
-use Rattle.stack_run.specs.Plain.{whole_view, answered, own_collected, all_collected, outcomes_of, plain_history}
+use Rattle.stack_run.specs.Plain.{whole_view, answered, outcomes_of, plain_history}
 use Rattle.stack_run.specs.Leading.{Leads, IsStep}
 use Rattle.stack_run.specs.Keeping.{Steps, Waits, IsEnd, Keeps, CollectsAll, Answers, TakesLine}
 use Rattle.stack_run.proofs.Leading.{leads-on, leads-request, leads-wait}
@@ -50,20 +49,20 @@ takes-request S H G H' asked payload k kinds ends some answers steps =
 pub takes-wait : (S : Setup) (H G H' : List Entry) (kinds : List Kind) (ends : List TokenLine)
     → Waits S H G → first_open S.size G ≡ None → CollectsAll S G H' kinds ends → TakesLine S H H' order.Wait kinds ends
 takes-wait S H G H' kinds ends waits none all = record {
-    leads = λ rest. leads-on S H (order.Wait ∷ rest) G (order.Wait ∷ rest) H' rest (waits.leads (order.Wait ∷ rest) tt) (rw (all.own) (leads-wait S G rest none));
-    keeps = all.keeps;
-  }
+  leads = λ rest. leads-on S H (order.Wait ∷ rest) G (order.Wait ∷ rest) H' rest (waits.leads (order.Wait ∷ rest) tt) (rw (all.own) (leads-wait S G rest none));
+  keeps = all.keeps;
+}
 
 -- before the first line
 pub keeps-none : (S : Setup) → Keeps S [] [] []
 unfolding accepted request was_collected
 keeps-none S = record {
-    count = refl;
-    within = omega arith;
-    asked = λ t r named. cc;
-    collected = λ t. sym (le-ltb t 0 (omega arith));
-    ended = λ t line is. cc;
-  }
+  count = refl;
+  within = omega arith;
+  asked = λ t r named. cc;
+  collected = λ t. sym (le-ltb t 0 (omega arith));
+  ended = λ t line is. cc;
+}
 
 order-at : (orders : List Order) (i : ℕ) (line : Order) → AreOrders orders → slice_get orders i ≡ Some line → IsOrder line
 unfolding AreOrders
@@ -100,17 +99,17 @@ get-map f (x ∷ xs) (suc t) = get-map f xs t
 pub all-ended : (S : Setup) (G H : List Entry) (kinds : List Kind) (lines : List TokenLine) → CollectsAll S G H kinds lines → AreEnds S.size H lines
 all-ended S G H kinds lines all = record { count = all.count; each = λ t. by t (slice_get lines t) refl }
   where
-  by : (t : ℕ) (o : Option TokenLine) → slice_get lines t ≡ o → IfSome o (λ line. mark_of S.size H t ≡ Some line.status)
-  by t None is = tt
-  by t (Some line) is = let end : IsEnd S H t line = all.keeps.ended t line is in end.marked
+    by : (t : ℕ) (o : Option TokenLine) → slice_get lines t ≡ o → IfSome o (λ line. mark_of S.size H t ≡ Some line.status)
+    by t None is = tt
+    by t (Some line) is = let end : IsEnd S H t line = all.keeps.ended t line is in end.marked
 
 -- and what it gave back
 pub all-given : (S : Setup) (G H : List Entry) (kinds : List Kind) (lines : List TokenLine) → CollectsAll S G H kinds lines → AreGiven S H (givens_of lines)
 all-given S G H kinds lines all = record { count = length-map lines (λ (line : TokenLine). line.given) ∙ all.count; each = λ t. rw (get-map (λ (line : TokenLine). line.given) lines t) (by t (slice_get lines t) refl) }
   where
-  by : (t : ℕ) (o : Option TokenLine) → slice_get lines t ≡ o → IfSome (option_map (λ (line : TokenLine). line.given) o) (IsGiven S H t)
-  by t None is = tt
-  by t (Some line) is = let end : IsEnd S H t line = all.keeps.ended t line is in end.given
+    by : (t : ℕ) (o : Option TokenLine) → slice_get lines t ≡ o → IfSome (option_map (λ (line : TokenLine). line.given) o) (IsGiven S H t)
+    by t None is = tt
+    by t (Some line) is = let end : IsEnd S H t line = all.keeps.ended t line is in end.given
 
 -- all lines were taken, and then all tokens collected: the history is the plain one of its outcomes
 pub plain-run : (S : Setup) (orders : List Order) (H G H' : List Entry) (kinds : List Kind) (lines : List TokenLine) → 0 < S.size → Leads S [] orders H [] → Waits S H G → first_open S.size G ≡ None → CollectsAll S G H' kinds lines → H' ≡ plain_history S orders (outcomes_of H')

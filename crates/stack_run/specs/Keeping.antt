@@ -1,5 +1,5 @@
 -- What a run keeps of the tokens of its client, and what later entries leave of it (own profile).
-use Rattle.std.specs.Prelude.{◌≡◌, ℕ, ◌+◌, ◌<◌, ◌≤◌, Bool, true, false, nat_lt, List, ◌∷◌, length, slice_get, Option, None, Some}
+use Rattle.std.specs.Prelude.{◌≡◌, ℕ, ◌+◌, ◌≤◌, Bool, true, false, nat_lt, List, ◌∷◌, length, slice_get, Option, None, Some}
 use Rattle.efi_status.specs.declared.Status.{Status}
 use Rattle.efi_status.specs.declared.Status.TheVariants.{Success}
 use Rattle.history.specs.declared.entry.Kind.{Kind}

@@ -1,5 +1,5 @@
 -- The program's words, its statuses, and the lines of its refusals (own profile).
-use Rattle.std.specs.Prelude.{◌≡◌, ℕ, ◌⊎◌, Bool, true, false, List, [], ◌∷◌, ◌++◌, codes, Option, None, Some, Result, Ok, Err, bytes_eq}
+use Rattle.std.specs.Prelude.{◌≡◌, ℕ, ◌⊎◌, Bool, false, List, [], ◌∷◌, ◌++◌, codes, Option, Ok, Err, bytes_eq}
 use Rattle.script_text.specs.declared.grammar.plans.DiskPlan.{DiskPlan}
 use Rattle.script_text.specs.declared.grammar.plans.ClientPlan.{ClientPlan}
 use Rattle.script_text.specs.declared.grammar.refusal.Reason.{Reason}

@@ -14,7 +14,9 @@ use disk_core::{Disk, MediumBack};
 use history::{History, Order};
 use image_store::{Images, PutFault, Sink, TakeFault};
 use medium::Medium;
-use script_text::{ClientPlan, DiskPlan, Items, KeptMedium, Name, ReportFault, TokenLine, report_body, report_head};
+use script_text::{
+    ClientPlan, DiskPlan, Items, KeptMedium, Name, ReportFault, TokenLine, report_body, report_head,
+};
 use std::alloc::{AllocError, Global};
 
 // What a disk did, and how its tokens ended.
@@ -70,7 +72,12 @@ fn take_image<I: Images>(alloc: Global, plan: &DiskPlan, images: &mut I) -> Resu
 }
 
 // Puts the medium of a disk back under its image's name.
-fn put_image<I: Images>(alloc: Global, plan: &DiskPlan, images: &mut I, medium: I::M) -> Result<(), Refusal>
+fn put_image<I: Images>(
+    alloc: Global,
+    plan: &DiskPlan,
+    images: &mut I,
+    medium: I::M,
+) -> Result<(), Refusal>
     requires taken { IsTaken (I.at images.old plan.now.image).place }
     ensures place { (I.at images.new plan.now.image).place ≡ put_place (I.at images.old plan.now.image).place (I.M.device medium).kept result }
     ensures few { OnErr result ((result ≡ Err Refusal.Image) ⊎ (result ≡ Err Refusal.Memory)) }
@@ -96,7 +103,13 @@ fn kept_media(alloc: Global, plan: &DiskPlan, bytes: u64) -> Result<Vec<KeptMedi
 }
 
 // Writes the report of a disk whose medium has so many blocks.
-fn write_report<O: Sink>(alloc: Global, plan: &DiskPlan, blocks: u64, run: &Run, out: &mut O) -> Result<(), Refusal>
+fn write_report<O: Sink>(
+    alloc: Global,
+    plan: &DiskPlan,
+    blocks: u64,
+    run: &Run,
+    out: &mut O,
+) -> Result<(), Refusal>
     requires ends { AreEnds plan.now.size run.now.history.entries run.now.ends.items }
     requires fits { blocks * plan.now.size < 2 ^ 64 }
     ensures text { PutsText (O.wrote out.old) (O.wrote out.new) result (disk_report plan.now blocks run.now.history.entries (givens_of run.now.ends.items)) }
@@ -135,6 +148,7 @@ pub fn serve<I: Images, O: Sink>(
     ensures sink { IsErrOf result Refusal.Sink → Rose (O.faults out.old) (O.faults out.new) }
     ensures few { OnErr result ((result ≡ Err Refusal.Image) ⊎ ((result ≡ Err Refusal.Sink) ⊎ (result ≡ Err Refusal.Memory))) }
     ensures others { ChangesOnly plan.now.image (I.at images.old) (I.at images.new) }
+    ensures later { O.faults out.old ≤ O.faults out.new }
 {
     let medium = match take_image(alloc, plan, images) {
         Ok(medium) => medium,
@@ -146,8 +160,12 @@ pub fn serve<I: Images, O: Sink>(
         Ok(()) => {}
         Err(refusal) => return Err(refusal),
     }
-    match ran {
-        Some(run) => write_report(alloc, plan, blocks, &run, out),
-        None => Err(Refusal::Memory),
+    let run = match ran {
+        Some(run) => run,
+        None => return Err(Refusal::Memory),
+    };
+    match write_report(alloc, plan, blocks, &run, out) {
+        Ok(()) => Ok(()),
+        Err(refusal) => Err(refusal),
     }
 }

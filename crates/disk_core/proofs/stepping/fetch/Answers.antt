@@ -32,16 +32,16 @@ returns-in-Ok g c =
     let (r, next) = c.requires.next in
     record {
       stepped = fetch-done _ _ _ _ _ c.args.core.now _ r c.args.unit c.deref_mut.result.now c.read_blocks.new.out (g.met.M.Medium.shaped c.args.medium.now) c.requires.sound c.in-Ok.ensures.stay next
-        c.requires.part c.requires.free c.in-Ok.ensures.read
-        (record {
-          entries = c.push.ensures.entries;
-          spare = c.push.ensures.spare;
-          records = refl;
-          first = refl;
-          block = with_items_is c.args.core.now.block c.read_blocks.new.out (search (rules, common_steps));
-          long = search (rules, common_steps);
-          held = refl;
-        });
+          c.requires.part c.requires.free c.in-Ok.ensures.read
+          (record {
+            entries = c.push.ensures.entries;
+            spare = c.push.ensures.spare;
+            records = refl;
+            first = refl;
+            block = with_items_is c.args.core.now.block c.read_blocks.new.out (search (rules, common_steps));
+            long = search (rules, common_steps);
+            held = refl;
+          });
     }
 
 pub returns-in-Err : goal.returns-in-Err
@@ -49,13 +49,13 @@ returns-in-Err g c =
     let (r, next) = c.requires.next in
     record {
       stepped = fetch-not _ _ _ _ _ c.args.core.now c.fail.new.core r c.args.unit c.deref_mut.result.now c.read_blocks.new.out c.in-Err.field-0 (g.met.M.Medium.shaped c.args.medium.now) c.requires.sound c.in-Err.ensures.stay next
-        c.requires.part c.requires.free c.in-Err.ensures.read
-        (record {
-          entries = c.fail.ensures.entries;
-          spare = c.fail.ensures.spare;
-          records = c.fail.ensures.records r next.is;
-          first = c.fail.ensures.first;
-          block = rw c.fail.ensures.block (search (rules, common_steps));
-          held = c.fail.ensures.held;
-        });
+          c.requires.part c.requires.free c.in-Err.ensures.read
+          (record {
+            entries = c.fail.ensures.entries;
+            spare = c.fail.ensures.spare;
+            records = c.fail.ensures.records r next.is;
+            first = c.fail.ensures.first;
+            block = rw c.fail.ensures.block (search (rules, common_steps));
+            held = c.fail.ensures.held;
+          });
     }

@@ -54,15 +54,15 @@ returns-in-Ok g c =
     let set_here = get-set-same c.args.core.now.records.items c.args.core.now.first r kept next.is in
     record {
       stepped = got _ _ _ _ _ c.args.core.now c.finish.new.core r kept c.args.unit (g.met.M.Medium.shaped c.args.medium.now) c.requires.sound c.in-Ok.ensures.stay next
-        (rw one at c.in-Ok.ensures.same) (rw one at c.in-Ok.ensures.fills)
-        (record {
-          entries = c.finish.ensures.entries;
-          spare = c.finish.ensures.spare;
-          records = c.finish.ensures.records kept set_here ∙ set-set c.args.core.now.records.items c.args.core.now.first kept _;
-          first = c.finish.ensures.first;
-          block = rw c.finish.ensures.block (search (rules, common_steps));
-          held = c.finish.ensures.held;
-        });
+          (rw one at c.in-Ok.ensures.same) (rw one at c.in-Ok.ensures.fills)
+          (record {
+            entries = c.finish.ensures.entries;
+            spare = c.finish.ensures.spare;
+            records = c.finish.ensures.records kept set_here ∙ set-set c.args.core.now.records.items c.args.core.now.first kept _;
+            first = c.finish.ensures.first;
+            block = rw c.finish.ensures.block (search (rules, common_steps));
+            held = c.finish.ensures.held;
+          });
     }
 
 pub returns-in-Err : goal.returns-in-Err
@@ -73,13 +73,13 @@ returns-in-Err g c =
     let set_here = get-set-same c.args.core.now.records.items c.args.core.now.first r kept next.is in
     record {
       stepped = got-not _ _ _ _ _ c.args.core.now c.fail.new.core r kept c.args.unit c.in-Err.field-0 (g.met.M.Medium.shaped c.args.medium.now) c.requires.sound c.in-Err.ensures.stay next
-        (rw one at c.in-Err.ensures.same) (rw one at c.in-Err.ensures.fills)
-        (record {
-          entries = c.fail.ensures.entries;
-          spare = c.fail.ensures.spare;
-          records = c.fail.ensures.records kept set_here ∙ set-set c.args.core.now.records.items c.args.core.now.first kept _;
-          first = c.fail.ensures.first;
-          block = rw c.fail.ensures.block (search (rules, common_steps));
-          held = c.fail.ensures.held;
-        });
+          (rw one at c.in-Err.ensures.same) (rw one at c.in-Err.ensures.fills)
+          (record {
+            entries = c.fail.ensures.entries;
+            spare = c.fail.ensures.spare;
+            records = c.fail.ensures.records kept set_here ∙ set-set c.args.core.now.records.items c.args.core.now.first kept _;
+            first = c.fail.ensures.first;
+            block = rw c.fail.ensures.block (search (rules, common_steps));
+            held = c.fail.ensures.held;
+          });
     }

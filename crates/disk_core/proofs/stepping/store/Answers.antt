@@ -50,15 +50,15 @@ returns-in-Ok g c =
     let one : c.index-kept.result.now ≡ r = read-is c.args.core.now.records.items c.args.core.now.first r c.index-kept.result.now next.is c.index-kept.ensures in
     record {
       stepped = store-done _ _ _ _ _ c.args.core.now c.finish.new.core r c.args.unit (g.met.M.Medium.shaped c.args.medium.now) c.requires.sound c.in-Ok.ensures.stay next
-        c.requires.part c.requires.held (rw one at c.in-Ok.ensures.written)
-        (record {
-          entries = c.finish.ensures.entries;
-          spare = c.finish.ensures.spare;
-          records = c.finish.ensures.records r next.is;
-          first = c.finish.ensures.first;
-          block = rw c.finish.ensures.block (search (rules, common_steps));
-          held = c.finish.ensures.held;
-        });
+          c.requires.part c.requires.held (rw one at c.in-Ok.ensures.written)
+          (record {
+            entries = c.finish.ensures.entries;
+            spare = c.finish.ensures.spare;
+            records = c.finish.ensures.records r next.is;
+            first = c.finish.ensures.first;
+            block = rw c.finish.ensures.block (search (rules, common_steps));
+            held = c.finish.ensures.held;
+          });
     }
 
 pub returns-in-Err : goal.returns-in-Err
@@ -67,13 +67,13 @@ returns-in-Err g c =
     let one : c.index-kept.result.now ≡ r = read-is c.args.core.now.records.items c.args.core.now.first r c.index-kept.result.now next.is c.index-kept.ensures in
     record {
       stepped = store-not _ _ _ _ _ c.args.core.now c.fail.new.core r c.args.unit c.in-Err.field-0 (g.met.M.Medium.shaped c.args.medium.now) c.requires.sound c.in-Err.ensures.stay next
-        c.requires.part c.requires.held (rw one at c.in-Err.ensures.written)
-        (record {
-          entries = c.fail.ensures.entries;
-          spare = c.fail.ensures.spare;
-          records = c.fail.ensures.records r next.is;
-          first = c.fail.ensures.first;
-          block = rw c.fail.ensures.block (search (rules, common_steps));
-          held = c.fail.ensures.held;
-        });
+          c.requires.part c.requires.held (rw one at c.in-Err.ensures.written)
+          (record {
+            entries = c.fail.ensures.entries;
+            spare = c.fail.ensures.spare;
+            records = c.fail.ensures.records r next.is;
+            first = c.fail.ensures.first;
+            block = rw c.fail.ensures.block (search (rules, common_steps));
+            held = c.fail.ensures.held;
+          });
     }

@@ -1,4 +1,4 @@
-use Rattle.std.proofs.Common.{◌≡◌, ap, refl, length, arith}
+use Rattle.std.proofs.Common.{arith}
 use Rattle.stack_run.proofs.Keeping.{next-collected, none-outstanding, next-known}
 use Rattle.stack_run.proofs.kept_tokens.collect_next.Goals as goal
 
@@ -15,5 +15,5 @@ unreachable-requires-in-Err-Unknown g c =
 pub returns-clause-next : goal.returns-clause-next
 returns-clause-next g c =
     rw c.in_ok-push-in-Ok.ensures.items
-      (next-collected c.args.disk.now c.collect.new.self _ _ c.len-number.result c.index.result.now c.in-Ok.done.status c.in-Ok.done.buffer.items c.line_of.result c.in-Ok.ensures.0
-        (omega arith) c.requires.some c.requires.keeps c.in-Ok.ensures.1 c.index.ensures c.line_of.ensures.status c.line_of.ensures.given)
+    (next-collected c.args.disk.now c.collect.new.self _ _ c.len-number.result c.index.result.now c.in-Ok.done.status c.in-Ok.done.buffer.items c.line_of.result c.in-Ok.ensures.0
+    (omega arith) c.requires.some c.requires.keeps c.in-Ok.ensures.1 c.index.ensures c.line_of.ensures.status c.line_of.ensures.given)

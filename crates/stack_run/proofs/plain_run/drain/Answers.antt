@@ -1,5 +1,4 @@
-use Rattle.std.proofs.Common.{◌≡◌, refl, ◌∙◌, rules}
-use Rattle.stack_run.specs.Keeping.{Steps}
+use Rattle.std.proofs.Common.{refl, ◌∙◌}
 use Rattle.stack_run.proofs.Stepping.{waits-none, waits-step}
 use Rattle.stack_run.proofs.plain_run.drain.Goals as goal
 
@@ -8,6 +7,6 @@ loop-init g c = record { setup = refl; waits = waits-none _ _ }
 
 pub loop-preserved : goal.loop-preserved
 loop-preserved g c = record {
-    setup = c.step_once.ensures.setup ∙ c.loop.invariant.setup;
-    waits = waits-step _ _ _ _ c.loop.invariant.waits (rw c.loop.invariant.setup at c.loop-test.ensures.steps);
-  }
+  setup = c.step_once.ensures.setup ∙ c.loop.invariant.setup;
+  waits = waits-step _ _ _ _ c.loop.invariant.waits (rw c.loop.invariant.setup at c.loop-test.ensures.steps);
+}

@@ -5,9 +5,9 @@ use Rattle.stack_run.proofs.plain_run.drain.Given as goal
 
 abbrev pub invariant-loop : goal.invariant-loop
 invariant-loop g l = record {
-    setup : l.disk.setup ≡ l.initial.disk.setup;
-    waits : Waits l.initial.disk.setup l.initial.disk.entries l.disk.entries;
-  }
+  setup : l.disk.setup ≡ l.initial.disk.setup;
+  waits : Waits l.initial.disk.setup l.initial.disk.entries l.disk.entries;
+}
 
 abbrev pub decreases-loop : goal.decreases-loop
 decreases-loop g l = owed_entries l.disk.setup l.disk.entries

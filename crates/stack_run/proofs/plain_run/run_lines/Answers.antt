@@ -1,4 +1,4 @@
-use Rattle.std.proofs.Common.{◌≡◌, ◌∙◌, refl, arith}
+use Rattle.std.proofs.Common.{◌∙◌, refl}
 use Rattle.stack_run.proofs.Leading.{leads-same}
 use Rattle.stack_run.proofs.Keeping.{keeps-stays}
 use Rattle.stack_run.proofs.Running.{keeps-none, line-fits, leads-next, leads-last, plain-run, all-collected, all-ended, all-given}
@@ -6,10 +6,10 @@ use Rattle.stack_run.proofs.plain_run.run_lines.Goals as goal
 
 pub loop-line-init : goal.loop-line-init
 loop-line-init g c = record {
-    setup = refl;
-    leads = rw c.requires.fresh (leads-same _ _ _);
-    keeps = rw (c.requires.fresh, c.new.ensures.items, c.new-2.ensures.items) (keeps-none _);
-  }
+  setup = refl;
+  leads = rw c.requires.fresh (leads-same _ _ _);
+  keeps = rw (c.requires.fresh, c.new.ensures.items, c.new-2.ensures.items) (keeps-none _);
+}
 
 pub take_line-requires-clause-fits : goal.take_line-requires-clause-fits
 take_line-requires-clause-fits g c = line-fits c.args.orders.now c.loop-line.line-index _ _ c.requires.orders c.loop-line-test.true refl c.line-item.is

@@ -1,4 +1,4 @@
-use Rattle.std.proofs.Common.{◌≡◌, ◌+◌, ◌-◌, ◌≤◌, vec_len}
+use Rattle.std.proofs.Common.{◌+◌, ◌-◌, ◌≤◌, vec_len}
 use Rattle.script_text.specs.declared.grammar.limits.TheConstants.{SCRIPT_BYTES}
 use Rattle.stack_run.proofs.Read.{SoFar}
 use Rattle.stack_run.proofs.reading.read_source.Given as goal

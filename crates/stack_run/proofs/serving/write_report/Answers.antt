@@ -1,4 +1,3 @@
-use Rattle.std.proofs.Common.{rules, ◌≡◌, ◌∙◌, ◌*◌, [], ◌∷◌}
 use Rattle.stack_run.proofs.Reported.{nothing-written, both-written, head-front, body-front, report-parts}
 use Rattle.stack_run.proofs.serving.write_report.Goals as goal
 
@@ -14,14 +13,14 @@ returns-in-Err-Memory-clause-text g c = rw (report-parts c.args.plan.now c.args.
 pub returns-in-Ok-report_body-clause-text : goal.returns-in-Ok-report_body-clause-text
 returns-in-Ok-report_body-clause-text g c =
     rw (report-parts c.args.plan.now c.args.blocks _ _)
-      (both-written _ _ _ _ _ c.in-Ok-report_head.ensures.text (rw (c.deref.ensures.value, c.deref-2.ensures.value, c.in-Ok.ensures, c.from.ensures) at c.in-Ok-report_body.ensures.text))
+    (both-written _ _ _ _ _ c.in-Ok-report_head.ensures.text (rw (c.deref.ensures.value, c.deref-2.ensures.value, c.in-Ok.ensures, c.from.ensures) at c.in-Ok-report_body.ensures.text))
 
 pub returns-in-Err-Failed-report_body-clause-text : goal.returns-in-Err-Failed-report_body-clause-text
 returns-in-Err-Failed-report_body-clause-text g c =
     rw (report-parts c.args.plan.now c.args.blocks _ _)
-      (body-front _ _ _ _ _ c.in-Ok-report_head.ensures.text (rw (c.deref.ensures.value, c.deref-2.ensures.value, c.in-Ok.ensures, c.from.ensures) at c.in-Err-Failed-report_body.ensures.text))
+    (body-front _ _ _ _ _ c.in-Ok-report_head.ensures.text (rw (c.deref.ensures.value, c.deref-2.ensures.value, c.in-Ok.ensures, c.from.ensures) at c.in-Err-Failed-report_body.ensures.text))
 
 pub returns-clause-text : goal.returns-clause-text
 returns-clause-text g c =
     rw (report-parts c.args.plan.now c.args.blocks _ _)
-      (body-front _ _ _ _ _ c.in-Ok-report_head.ensures.text (rw (c.deref.ensures.value, c.deref-2.ensures.value, c.in-Ok.ensures, c.from.ensures) at c.in-Err-Memory-report_body.ensures.text))
+    (body-front _ _ _ _ _ c.in-Ok-report_head.ensures.text (rw (c.deref.ensures.value, c.deref-2.ensures.value, c.in-Ok.ensures, c.from.ensures) at c.in-Err-Memory-report_body.ensures.text))
