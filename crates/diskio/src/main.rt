@@ -3,8 +3,8 @@
 
 use image_store::{FileImages, InSource, OutSink};
 use stack_run::run_plain;
-use std::alloc::Global;
-use std::env;
+use std::alloc::{Alloc, Global};
+use std::env::{self, Env};
 use std::io;
 use std::process::ExitCode;
 
