@@ -1,5 +1,5 @@
 -- The program's words, its statuses, and the lines of its refusals (own profile).
-use Rattle.std.specs.Prelude.{◌≡◌, ℕ, ◌⊎◌, Bool, false, List, [], ◌∷◌, ◌++◌, codes, Option, Ok, Err, bytes_eq}
+use Rattle.std.specs.Prelude.{◌≡◌, ℕ, ◌⊎◌, Bool, false, List, [], ◌∷◌, codes, Option, Ok, Err, bytes_eq}
 use Rattle.script_text.specs.declared.grammar.plans.DiskPlan.{DiskPlan}
 use Rattle.script_text.specs.declared.grammar.plans.ClientPlan.{ClientPlan}
 use Rattle.script_text.specs.declared.grammar.refusal.Reason.{Reason}
@@ -24,15 +24,6 @@ status_of ImageOf = 3
 status_of Source = 4
 status_of Sink = 5
 status_of Memory = 6
-
--- the line of a refusal; a run whose sink failed has none
-abbrev pub refusal_text : Refusal → List ℕ → List ℕ
-refusal_text Words name = codes "words" ++ (10 ∷ [])
-refusal_text Script name = codes "script" ++ (10 ∷ [])
-refusal_text ImageOf name = codes "image " ++ (name ++ (10 ∷ []))
-refusal_text Source name = codes "source" ++ (10 ∷ [])
-refusal_text Sink name = []
-refusal_text Memory name = codes "memory" ++ (10 ∷ [])
 
 -- the one disk of a script was served with its one client
 pub record ServedOne (plans : List DiskPlan) (at at' : List ℕ → Image) (wrote wrote' : Option (List ℕ)) : Type 0 where
@@ -67,3 +58,11 @@ pub record IsRefusedScript (left left' : Option (List ℕ)) : Type 0 where
   pub reason : Reason
   pub reads : Reads left left' bytes
   pub says : script_of bytes ≡ Err (line, reason)
+
+-- the source was read and is a script, and the image of its disk is the cause
+pub record HasImageFault (left left' : Option (List ℕ)) (at at' : List ℕ → Image) : Type 0 where
+  pub bytes : List ℕ
+  pub plans : List DiskPlan
+  pub reads : Reads left left' bytes
+  pub says : script_of bytes ≡ Ok plans
+  pub fault : IsImageFault plans at at'

@@ -3,7 +3,7 @@ ghost use Rattle.medium.specs.Counts.{Rose};
 ghost use Rattle.image_store.specs.Edge.{PutsText, HasCauseOf};
 ghost use Rattle.image_store.specs.Place.{IsFree, MayBeShort, ChangesOnly};
 ghost use Rattle.script_text.specs.Fit.{AreDisks, IsSingle};
-ghost use Rattle.stack_run.specs.Program.{is_plain, status_of, ServedOne, IsImageFault, IsServingStatus, Ran, IsRefusedScript};
+ghost use Rattle.stack_run.specs.Program.{is_plain, status_of, ServedOne, IsImageFault, IsServingStatus, Ran, HasImageFault, IsRefusedScript};
 
 use crate::reading::{ReadFault, read_source};
 use crate::refusal::Refusal;
@@ -99,6 +99,7 @@ pub fn run_plain<I: Images, R: Source, O: Sink>(
     ensures words { result ≡ 1 → is_plain (map string_bytes words.now) ≡ false }
     ensures words_exactly { is_plain (map string_bytes words.now) ≡ false → (result ≡ 1) ⊎ (result ≡ 6) }
     ensures script { result ≡ 2 → IsRefusedScript (R.left script.old) (R.left script.new) }
+    ensures image { result ≡ 3 → HasImageFault (R.left script.old) (R.left script.new) (I.at images.old) (I.at images.new) }
     ensures source { result ≡ 4 → Rose (R.faults script.old) (R.faults script.new) }
     ensures sink { result ≡ 5 → Rose (O.faults out.old) (O.faults out.new) }
     ensures few { result ≤ 6 }
