@@ -1,6 +1,7 @@
 pub mod Collecting
 pub mod Ending
 pub mod Enough
+pub mod FreeAgain
 pub mod Handed
 pub mod Keeping
 pub mod Leading

@@ -10,3 +10,6 @@ mod serving;
 
 pub use plain_run::run_lines;
 pub use program::run_plain;
+
+#[cfg(test)]
+mod tests;

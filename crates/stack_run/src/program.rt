@@ -75,6 +75,7 @@ fn run_script<I: Images, O: Sink>(alloc: Global, script: &Script, images: &mut I
     ensures image { result ≡ 3 → IsImageFault script.now.disks (I.at images.old) (I.at images.new) }
     ensures sink { result ≡ 5 → Rose (O.faults out.old) (O.faults out.new) }
     ensures few { IsServingStatus result }
+    ensures again { (name : List ℕ) → IsFree (I.at images.new name).place }
     ensures later { O.faults out.old ≤ O.faults out.new }
 {
     let plan = &script.disks.as_slice()[0];
@@ -103,6 +104,7 @@ pub fn run_plain<I: Images, R: Source, O: Sink>(
     ensures source { result ≡ 4 → Rose (R.faults script.old) (R.faults script.new) }
     ensures sink { result ≡ 5 → Rose (O.faults out.old) (O.faults out.new) }
     ensures few { result ≤ 6 }
+    ensures again { (name : List ℕ) → IsFree (I.at images.new name).place }
 {
     if !is_plain_run(words) {
         return refuse(Refusal::Words, "", out);

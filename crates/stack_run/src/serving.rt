@@ -82,6 +82,7 @@ fn put_image<I: Images>(
     ensures place { (I.at images.new plan.now.image).place ≡ put_place (I.at images.old plan.now.image).place (I.M.device medium).kept result }
     ensures few { OnErr result ((result ≡ Err Refusal.Image) ⊎ (result ≡ Err Refusal.Memory)) }
     ensures cause { HasCauseOf Refusal.Image (I.at images.old plan.now.image).faults (I.at images.new plan.now.image).faults result }
+    ensures free { IsFree (I.at images.new plan.now.image).place }
     ensures worn { (I.at images.new plan.now.image).worn ≡ adds (I.at images.old plan.now.image).worn (I.M.device medium).failed }
     ensures others { ChangesOnly plan.now.image (I.at images.old) (I.at images.new) }
 {
@@ -149,6 +150,7 @@ pub fn serve<I: Images, O: Sink>(
     ensures few { OnErr result ((result ≡ Err Refusal.Image) ⊎ ((result ≡ Err Refusal.Sink) ⊎ (result ≡ Err Refusal.Memory))) }
     ensures others { ChangesOnly plan.now.image (I.at images.old) (I.at images.new) }
     ensures later { O.faults out.old ≤ O.faults out.new }
+    ensures again { IsFree (I.at images.new plan.now.image).place }
 {
     let medium = match take_image(alloc, plan, images) {
         Ok(medium) => medium,
