@@ -2,6 +2,7 @@ pub mod Collecting
 pub mod Ending
 pub mod Enough
 pub mod FreeAgain
+pub mod Faultless
 pub mod Handed
 pub mod Keeping
 pub mod Leading

@@ -1,5 +1,6 @@
 ghost use Rattle.std.specs.Prelude.{◌≡◌, ℕ, ◌*◌, ◌<◌, ◌≤◌, ◌^◌, [], length, true, None, IfOk, OnOk};
 ghost use Rattle.history.specs.Tokens.{accepted, was_collected};
+ghost use Rattle.history.specs.Room.{faults};
 ghost use Rattle.history.specs.Next.{first_open};
 ghost use Rattle.disk_core.specs.Calls.{asked_of, bytes_of, buffer_of};
 ghost use Rattle.script_text.specs.Fit.{IsRequest, IsOrder, AreOrders};
@@ -143,6 +144,7 @@ pub fn run_lines<M: Medium>(
     requires orders { AreOrders orders.now }
     ensures setup { disk.new.setup ≡ disk.old.setup }
     ensures plain { OnOk result (disk.new.entries ≡ plain_history disk.old.setup orders.now (outcomes_of disk.new.entries)) }
+    ensures faultless { OnOk result (faults disk.new.entries ≡ 0 → disk.new.entries ≡ plain_history disk.old.setup orders.now []) }
     ensures collected { OnOk result ((t : ℕ) → t < accepted disk.new.entries → was_collected disk.new.entries t ≡ true) }
     ensures ends { IfOk result (λ ends. AreEnds disk.old.setup.size disk.new.entries ends.items) }
     ensures given { IfOk result (λ ends. AreGiven disk.old.setup disk.new.entries (givens_of ends.items)) }

@@ -1,4 +1,5 @@
 use Rattle.std.proofs.Common.{◌∙◌, refl}
+use Rattle.stack_run.proofs.Faultless.{faultless}
 use Rattle.stack_run.proofs.Leading.{leads-same}
 use Rattle.stack_run.proofs.Keeping.{keeps-stays}
 use Rattle.stack_run.proofs.Running.{keeps-none, line-fits, leads-next, leads-last, plain-run, all-collected, all-ended, all-given}
@@ -34,6 +35,9 @@ returns-clause-plain g c =
     let drained = rw c.loop-line.invariant.setup at c.drain.ensures.drained in
     let all = rw (c.drain.ensures.setup, c.loop-line.invariant.setup) at c.in_ok-collect_rest.ensures.all in
     plain-run _ _ _ _ _ _ _ c.whole_medium-view.ensures.size (leads-last _ c.args.orders.now _ c.loop-line.line-index c.loop-line-test.false c.loop-line.invariant.leads) waits drained all
+
+pub returns-clause-faultless : goal.returns-clause-faultless
+returns-clause-faultless g c = faultless _ _ _ (returns-clause-plain g c)
 
 pub returns-clause-collected : goal.returns-clause-collected
 returns-clause-collected g c = all-collected _ _ _ _ _ c.in_ok-collect_rest.ensures.all

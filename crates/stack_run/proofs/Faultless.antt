@@ -1,0 +1,116 @@
+-- Without a fault the plain history is that of the lines and the setup alone.
+use Rattle.std.proofs.Common.{◌≡◌, ℕ, zero, suc, Bool, true, false, List, [], ◌∷◌, Option, None, Some, refl, sym, ◌∙◌, ap, subst, arith, if◌then◌else◌}
+use Rattle.history.specs.declared.entry.Entry.{Entry}
+use Rattle.history.specs.declared.entry.Entry.TheVariants.{Accept, Refuse, Done, Fault, Collect, Cancel, Reset, Eject, Insert, Protect}
+use Rattle.history.specs.declared.order.Order.{Order}
+use Rattle.history.specs.declared.order.Order.TheVariants as order
+use Rattle.history.specs.Setup.{Setup}
+use Rattle.history.specs.Next.{first_open, Turn, next_turn, Outcome, Made, Failed, entry_of}
+use Rattle.history.specs.Room.{faults}
+use Rattle.disk_core.specs.Calls.{is_fetched}
+use Rattle.stack_run.specs.Plain.{outcomes_onto, outcomes_of, Stand, stand, all_collected, waited, taken_from, taken, next_outcome, later_outcomes, turned, turned_if, commanded, followed, stepped_if, stepped, a_round, is_over, plain_from, rounds, plain_history}
+
+AreMade : List Outcome → Type 0
+AreMade [] = Unit {0}
+AreMade (Made ∷ more) = AreMade more
+AreMade (Failed done ∷ more) = ⊥
+
+-- the stand with no outcomes
+abbrev bare : Stand → Stand
+bare s = stand s.history s.lines []
+
+-- what a part of a round makes of a stand without faults is what it makes of the stand without outcomes
+record IsAlike (s t : Stand) : Type 0 where
+  same : t ≡ bare s
+  made : AreMade s.outcomes
+
+made-next : (outcomes : List Outcome) → AreMade outcomes → next_outcome outcomes ≡ Made
+unfolding AreMade
+made-next [] made = refl
+made-next (Made ∷ more) made = refl
+made-next (Failed done ∷ more) made = absurd made
+
+made-later : (outcomes : List Outcome) → AreMade outcomes → AreMade (later_outcomes outcomes)
+unfolding AreMade
+made-later [] made = tt
+made-later (Made ∷ more) made = made
+made-later (Failed done ∷ more) made = absurd made
+
+taken-alike : (S : Setup) (s : Stand) → AreMade s.outcomes → IsAlike (taken S s) (taken S (bare s))
+unfolding taken
+taken-alike S s made = by s.lines
+  where
+    waits : (rest : List Order) (o : Option ℕ) → IsAlike (waited o s.history rest s.outcomes) (waited o s.history rest [])
+    waits rest None = record { same = refl; made = made }
+    waits rest (Some t) = record { same = refl; made = made }
+
+    by : (lines : List Order) → IsAlike (taken_from S s.history lines s.outcomes) (taken_from S s.history lines [])
+    by [] = record { same = refl; made = made }
+    by (order.Request asked payload k ∷ rest) = record { same = refl; made = made }
+    by (order.Wait ∷ rest) = waits rest (first_open S.size s.history)
+
+turned-alike : (s : Stand) (turn : Turn) → AreMade s.outcomes → IsAlike (turned s turn) (turned (bare s) turn)
+turned-alike s turn made = record {
+  same = ap (λ (o : Outcome). stand (entry_of turn o ∷ s.history) s.lines []) (sym (made-next s.outcomes made));
+  made = made-later s.outcomes made;
+}
+
+commanded-alike : (size : ℕ) (s : Stand) → AreMade s.outcomes → IsAlike (commanded size s) (commanded size (bare s))
+unfolding commanded
+commanded-alike size s made = by (next_turn size s.history)
+  where
+    by : (o : Option Turn) → IsAlike (turned_if s o) (turned_if (bare s) o)
+    by None = record { same = refl; made = made }
+    by (Some turn) = turned-alike s turn made
+
+stepped-alike : (size : ℕ) (s : Stand) → AreMade s.outcomes → IsAlike (stepped size s) (stepped size (bare s))
+unfolding stepped
+stepped-alike size s made = by (next_turn size s.history)
+  where
+    after : (turn : Turn) (f : Bool) → IsAlike (followed size f (turned s turn)) (followed size f (turned (bare s) turn))
+    after turn false = turned-alike s turn made
+    after turn true =
+        let first : IsAlike (turned s turn) (turned (bare s) turn) = turned-alike s turn made in
+        let second : IsAlike (commanded size (turned s turn)) (commanded size (bare (turned s turn))) = commanded-alike size (turned s turn) first.made in
+        record { same = ap (commanded size) first.same ∙ second.same; made = second.made }
+
+    by : (o : Option Turn) → IsAlike (stepped_if size s o) (stepped_if size (bare s) o)
+    by None = record { same = refl; made = made }
+    by (Some turn) =
+        let alike : (o : Outcome) → Type 0 = λ o. IsAlike (followed size (is_fetched turn.command (next_outcome s.outcomes)) (turned s turn)) (followed size (is_fetched turn.command o) (turned (bare s) turn)) in
+        subst alike (made-next s.outcomes made) (after turn (is_fetched turn.command (next_outcome s.outcomes)))
+
+round-alike : (S : Setup) (s : Stand) → AreMade s.outcomes → IsAlike (a_round S s) (a_round S (bare s))
+round-alike S s made =
+    let first : IsAlike (taken S s) (taken S (bare s)) = taken-alike S s made in
+    let second : IsAlike (stepped S.size (taken S s)) (stepped S.size (bare (taken S s))) = stepped-alike S.size (taken S s) first.made in
+    record { same = ap (stepped S.size) first.same ∙ second.same; made = second.made }
+
+from-alike : (S : Setup) (n : ℕ) (s : Stand) → AreMade s.outcomes → plain_from n S s ≡ plain_from n S (bare s)
+unfolding plain_from
+from-alike S zero s made = refl
+from-alike S (suc n) s made = by (is_over S.size s) (round-alike S s made) (λ t. from-alike S n t)
+  where
+    by : (b : Bool) → IsAlike (a_round S s) (a_round S (bare s)) → ((t : Stand) → AreMade t.outcomes → plain_from n S t ≡ plain_from n S (bare t))
+        → (if b then all_collected s.history else plain_from n S (a_round S s)) ≡ (if b then all_collected s.history else plain_from n S (a_round S (bare s)))
+    by true alike rest = refl
+    by false alike rest = rest (a_round S s) alike.made ∙ sym (ap (plain_from n S) alike.same)
+
+made-onto : (H : List Entry) (more : List Outcome) → faults H ≡ 0 → AreMade more → AreMade (outcomes_onto H more)
+unfolding outcomes_onto faults AreMade
+made-onto [] more few made = made
+made-onto (Done t c ∷ H) more few made = made-onto H (Made ∷ more) few made
+made-onto (Fault t c done ∷ H) more few made = absurd (omega arith)
+made-onto (Accept p q r s ∷ H) more few made = made-onto H more few made
+made-onto (Refuse p q r s v ∷ H) more few made = made-onto H more few made
+made-onto (Collect p q ∷ H) more few made = made-onto H more few made
+made-onto (Cancel p q ∷ H) more few made = made-onto H more few made
+made-onto (Reset p ∷ H) more few made = made-onto H more few made
+made-onto (Eject p ∷ H) more few made = made-onto H more few made
+made-onto (Insert p q ∷ H) more few made = made-onto H more few made
+made-onto (Protect p q ∷ H) more few made = made-onto H more few made
+
+-- with no fault the plain history is a function of the lines and the setup alone
+pub faultless : (S : Setup) (orders : List Order) (H : List Entry) → H ≡ plain_history S orders (outcomes_of H) → faults H ≡ 0 → H ≡ plain_history S orders []
+unfolding plain_history outcomes_of AreMade
+faultless S orders H plain few = plain ∙ from-alike S (rounds orders) (stand [] orders (outcomes_of H)) (made-onto H [] few tt)
