@@ -54,6 +54,101 @@ const ROWS: [Row; 6] = [
     },
 ];
 
+// What is asked of a run that is refused, which of its first calls fail, and what it answers and writes.
+struct Refused {
+    words: &'static [&'static str],
+    script: &'static str,
+    source_fails: bool,
+    sink_fails: bool,
+    status: u8,
+    written: &'static str,
+}
+
+const READS: &str = "disk a.img 512 1\nclient\nread 0 1\n";
+
+const REFUSALS: [Refused; 8] = [
+    Refused {
+        words: &[],
+        script: READS,
+        source_fails: false,
+        sink_fails: false,
+        status: 1,
+        written: "words\n",
+    },
+    Refused {
+        words: &["plain", "plain"],
+        script: READS,
+        source_fails: false,
+        sink_fails: false,
+        status: 1,
+        written: "words\n",
+    },
+    Refused {
+        words: &["probe"],
+        script: READS,
+        source_fails: false,
+        sink_fails: false,
+        status: 1,
+        written: "words\n",
+    },
+    Refused {
+        words: &["-h"],
+        script: READS,
+        source_fails: false,
+        sink_fails: false,
+        status: 1,
+        written: "words\n",
+    },
+    Refused {
+        words: &["plain"],
+        script: "",
+        source_fails: false,
+        sink_fails: false,
+        status: 2,
+        written: "script\n",
+    },
+    Refused {
+        words: &["plain"],
+        script: "disk b.img 512 1\nclient\nread 0 1\n",
+        source_fails: false,
+        sink_fails: false,
+        status: 3,
+        written: "image b.img\n",
+    },
+    Refused {
+        words: &["plain"],
+        script: READS,
+        source_fails: true,
+        sink_fails: false,
+        status: 4,
+        written: "source\n",
+    },
+    Refused {
+        words: &["plain"],
+        script: READS,
+        source_fails: false,
+        sink_fails: true,
+        status: 5,
+        written: "",
+    },
+];
+
+fn words_of(alloc: Global, words: &[&str]) -> Result<Vec<String>, AllocError> {
+    let mut all = Vec::new(alloc);
+    for word in words {
+        all.push(String::from_str(alloc, word)?)?;
+    }
+    Ok(all)
+}
+
+// The list of the calls that fail: the first, or none.
+fn first_call(alloc: Global, fails: bool) -> Result<Vec<u64>, AllocError> {
+    match fails {
+        true => Ok(vec![in alloc; 0]?),
+        false => Ok(Vec::new(alloc)),
+    }
+}
+
 // One image of zeros.
 fn images_of(alloc: Global) -> Result<MemImages, AllocError>
     ensures free { IfOk result (λ images. (name : List ℕ) → IsFree (images_at images name).place) }
@@ -86,6 +181,22 @@ fn runs_rows(rt: HostRuntime) -> Result<(), Fail> {
         assert_eq!(rt; sink.bytes(), report.as_bytes());
         let image = images.bytes_of("a.img").unwrap_or(&[]);
         assert_eq!(rt; image.get(row.at..row.at + 4), Some(row.bytes.as_slice()));
+    }
+    Ok(())
+}
+
+#[test]
+fn refuses_rows(rt: HostRuntime) -> Result<(), Fail> {
+    let alloc = rt.alloc();
+    for row in &REFUSALS {
+        let script = Vec::from_slice(alloc, row.script.as_bytes())?;
+        let mut source = MemSource::make(script, first_call(alloc, row.source_fails)?);
+        let mut images = images_of(alloc)?;
+        let mut sink = MemSink::make(alloc, first_call(alloc, row.sink_fails)?);
+        let words = words_of(alloc, row.words)?;
+        let status = run_plain(alloc, words.as_slice(), &mut source, &mut images, &mut sink);
+        assert_eq!(rt; status, row.status);
+        assert_eq!(rt; sink.bytes(), row.written.as_bytes());
     }
     Ok(())
 }
