@@ -32,7 +32,8 @@ kept-first d = rw (contents-first d) (by d.cached)
     by true = refl
     by false = refl
 
-fresh-meets : (d : Device) → IsFresh d → Meets (setup_of d) [] d
+-- a disk on which nothing has happened follows its empty history
+pub fresh-meets : (d : Device) → IsFresh d → Meets (setup_of d) [] d
 unfolding commands faults
 fresh-meets d fresh = record {
   setup = refl;
@@ -51,7 +52,7 @@ fresh-owed : (d : Device) → owed_entries (setup_of d) [] ≤ 1
 unfolding owed_entries tokens_owed accepted ejects inserts setup_of
 fresh-owed d = omega arith
 
-legal-none : (S : Setup) → IsLegal S []
+pub legal-none : (S : Setup) → IsLegal S []
 unfolding IsLegal
 legal-none S = tt
 

@@ -1,65 +1,147 @@
--- A disk that was served: what its image and its report are.
-use Rattle.std.proofs.Common.{◌≡◌, ℕ, List, false, Option, Some, Ok, refl, ◌∙◌, option_map}
-use Rattle.medium.specs.Counts.{adds}
-use Rattle.medium.specs.Device.{Device}
+-- An image that was taken and put back: what it was, and what the run over it left.
+use Rattle.std.proofs.Common.{◌≡◌, ℕ, ◌/◌, ◌⊎◌, inl, inr, false, List, [], length, Option, None, Some, Result, Ok, Err, IsErrOf, refl, sym, ◌∙◌, ap, option_map}
+use Rattle.medium.specs.Counts.{adds, Rose}
+use Rattle.medium.specs.Device.{Device, IsFresh}
 use Rattle.history.specs.declared.entry.Entry.{Entry}
-use Rattle.history.specs.Setup.{first_of}
+use Rattle.history.specs.Setup.{blocks_of}
 use Rattle.history.specs.Contents.{contents, kept_contents, pieces_of, patched}
+use Rattle.history.specs.Rules.{IsLegal}
 use Rattle.disk_core.specs.State.{setup_of, Meets}
-use Rattle.image_store.specs.Edge.{Appends}
-use Rattle.image_store.specs.Place.{Place, Here, Missing, Taken, Untold, Image, ChangesOnly, IsTaking, GivesBlocks, put_place, whole_blocks}
+use Rattle.disk_core.proofs.Fresh.{fresh-meets, legal-none}
+use Rattle.image_store.specs.Place.{Place, Here, Missing, Taken, Untold, Image, IsTaking, GivesBlocks, put_place, whole_blocks}
 use Rattle.script_text.specs.declared.grammar.plans.DiskPlan.{DiskPlan}
 use Rattle.script_text.specs.declared.grammar.plans.ClientPlan.{ClientPlan}
 use Rattle.script_text.specs.declared.report.parts.TokenLine.{TokenLine}
 use Rattle.script_text.specs.Report.{givens_of, AreEnds}
-use Rattle.stack_run.specs.declared.refusal.Refusal.{Refusal}
+use Rattle.stack_run.specs.declared.refusal.NotRun.{NotRun}
 use Rattle.stack_run.specs.declared.serving.Run.{Run}
-use Rattle.stack_run.specs.Serving.{RanOver, Served, Leaves, disk_report}
+use Rattle.stack_run.specs.Serving.{RanOver, RanSome, RanOn, RanPlain, RanDisk, RanInPart, NotPutBack, Opens, Leaves, IsLost, one_medium}
 
-size-is : (d : Device) → (setup_of d).size ≡ d.size
+setup-is : (d : Device) (size : ℕ) → d.size ≡ size → d.cached ≡ false → setup_of d ≡ one_medium size d.blocks d.first
+unfolding setup_of
+setup-is d size sized uncached = rw (sized, uncached) refl
+
+pub size-is : (d : Device) → (setup_of d).size ≡ d.size
 unfolding setup_of
 size-is d = refl
 
-first-is : (d : Device) → first_of (setup_of d) 1 ≡ d.first
+blocks-are : (d : Device) → blocks_of (setup_of d) 1 ≡ d.blocks
 unfolding setup_of
-first-is d = refl
+blocks-are d = refl
+
+-- where nothing has happened
+pub none-ran : (d : Device) → IsFresh d → RanSome (setup_of d) d
+none-ran d fresh = record { history = []; legal = legal-none (setup_of d); meets = fresh-meets d fresh }
 
 kept-uncached : (d : Device) (H : List Entry) → d.cached ≡ false → kept_contents (setup_of d) 1 H ≡ option_map (patched (pieces_of d.size 1 H)) d.first
 unfolding kept_contents contents setup_of
 kept-uncached d H uncached = rw uncached refl
 
--- a name's image after its medium was put back
-pub left-behind : (p0 p1 p2 : Place) (size : ℕ) (d d' : Device) (H : List Entry) → IsTaking p0 p1 size false d → Meets (setup_of d) H d' → p2 ≡ put_place {E = Refusal} p1 d'.kept (Ok tt) → Leaves (setup_of d) H size p0 p2
+-- the disk has the image's whole blocks
+opens : (p0 p1 : Place) (size : ℕ) (d : Device) → IsTaking p0 p1 size false d → Opens size p0 (setup_of d)
 unfolding GivesBlocks
-left-behind (Here bytes) p1 p2 size d d' H taking meets put =
+opens (Here bytes) p1 size d taking =
     let (long, taken, first, blocks) = taking.blocks in
-    let told : first_of (setup_of d) 1 ≡ Some (whole_blocks size bytes) = first-is d ∙ first in
-    let kept : kept_contents (setup_of d) 1 H ≡ Some (patched (pieces_of d.size 1 H) (whole_blocks size bytes)) = kept-uncached d H taking.cached ∙ (rw first refl) in
-    (told, (patched (pieces_of d.size 1 H) (whole_blocks size bytes), kept, put ∙ (rw (taken, meets.kept, kept) refl)))
-left-behind Missing p1 p2 size d d' H taking meets put = taking.blocks
-left-behind (Taken tail) p1 p2 size d d' H taking meets put = taking.blocks
-left-behind Untold p1 p2 size d d' H taking meets put = put ∙ (rw taking.blocks refl)
+    (long, setup-is d size taking.size taking.cached ∙ (ap (λ n. one_medium size n d.first) blocks ∙ ap (one_medium size (length bytes / size)) first))
+opens Missing p1 size d taking = taking.blocks
+opens (Taken tail) p1 size d taking = taking.blocks
+opens Untold p1 size d taking = (d.blocks, d.first, setup-is d size taking.size taking.cached)
 
-pub ends-here : (d : Device) (H : List Entry) (ends : List TokenLine) (size : ℕ) → d.size ≡ size → AreEnds (setup_of d).size H ends → AreEnds size H ends
+-- a name's image after its medium was put back
+leaves : (p0 p1 p2 : Place) (size : ℕ) (d d' : Device) (H : List Entry) → IsTaking p0 p1 size false d → Meets (setup_of d) H d' → p2 ≡ put_place {E = NotRun} p1 d'.kept (Ok tt) → Leaves (setup_of d) H p0 p2
+unfolding GivesBlocks
+leaves (Here bytes) p1 p2 size d d' H taking meets put =
+    let (long, taken, first, blocks) = taking.blocks in
+    let kept : kept_contents (setup_of d) 1 H ≡ Some (patched (pieces_of d.size 1 H) (whole_blocks size bytes)) = kept-uncached d H taking.cached ∙ (rw first refl) in
+    (patched (pieces_of d.size 1 H) (whole_blocks size bytes), kept, put ∙ (rw (taken, meets.kept, kept, size-is d, taking.size) refl))
+leaves Missing p1 p2 size d d' H taking meets put = taking.blocks
+leaves (Taken tail) p1 p2 size d d' H taking meets put = taking.blocks
+leaves Untold p1 p2 size d d' H taking meets put = put ∙ (rw taking.blocks refl)
+
+-- a name's image after its medium could not be put back
+lost : (p0 p1 p2 : Place) (size : ℕ) (d : Device) (kept : Option (List ℕ)) (fault : NotRun) → IsTaking p0 p1 size false d → p2 ≡ put_place p1 kept (Err fault) → IsLost p0 p2
+unfolding GivesBlocks
+lost (Here bytes) p1 p2 size d None fault taking put = put ∙ (rw taking.blocks.1 refl)
+lost (Here bytes) p1 p2 size d (Some kept) fault taking put = put ∙ (rw taking.blocks.1 refl)
+lost Missing p1 p2 size d kept fault taking put = taking.blocks
+lost (Taken tail) p1 p2 size d kept fault taking put = taking.blocks
+lost Untold p1 p2 size d kept fault taking put = put ∙ (rw taking.blocks refl)
+
+-- a history over a medium is one over the image that it was taken from
+ran-on : (old mid new : Image) (size : ℕ) (d d' : Device) (H : List Entry)
+    → IsTaking old.place mid.place size false d → mid.worn ≡ old.worn → IsLegal (setup_of d) H → Meets (setup_of d) H d' → new.worn ≡ adds mid.worn d'.failed → RanOn size old new (setup_of d) H
+ran-on old mid new size d d' H taking worn legal meets worn2 = record {
+  opens = opens old.place mid.place size d taking;
+  legal = legal;
+  worn = worn2 ∙ (rw (worn, meets.failed) refl);
+}
+
+ran-plain : (plan : DiskPlan) (client : ClientPlan) (old mid new : Image) (d d' : Device) (run : Run)
+    → IsTaking old.place mid.place plan.size false d → mid.worn ≡ old.worn → RanOver (setup_of d) client.orders d' run → new.worn ≡ adds mid.worn d'.failed
+    → RanPlain plan client old new (setup_of d) run.history.entries (givens_of run.ends.items)
+ran-plain plan client old mid new d d' run taking worn ran worn2 = record {
+  on = ran-on old mid new plan.size d d' run.history.entries taking worn ran.legal ran.meets worn2;
+  plain = ran.plain;
+  faultless = ran.faultless;
+  reads = ran.given;
+}
+
+ends-here : (d : Device) (H : List Entry) (ends : List TokenLine) (size : ℕ) → d.size ≡ size → AreEnds (setup_of d).size H ends → AreEnds size H ends
 ends-here d H ends size is all = rw (size-is d ∙ is) at all
 
--- the run's promise for its disk
-pub served : (plan : DiskPlan) (client : ClientPlan) (at at1 at2 : List ℕ → Image) (wrote wrote' : Option (List ℕ)) (d d' : Device) (run : Run) (blocks : ℕ)
-    → IsTaking (at plan.image).place (at1 plan.image).place plan.size false d → (at1 plan.image).worn ≡ (at plan.image).worn → ChangesOnly plan.image at at1
-    → RanOver d client.orders d' run → (at2 plan.image).place ≡ put_place {E = Refusal} (at1 plan.image).place d'.kept (Ok tt) → (at2 plan.image).worn ≡ adds (at1 plan.image).worn d'.failed → ChangesOnly plan.image at1 at2
-    → blocks ≡ d.blocks → Appends wrote wrote' (disk_report plan blocks run.history.entries (givens_of run.ends.items))
-    → Served plan client at at2 wrote wrote'
-served plan client at at1 at2 wrote wrote' d d' run blocks taking worn1 others1 ran put worn2 others2 counted report = record {
+same-blocks : (d d' : Device) (H : List Entry) → Meets (setup_of d) H d' → d'.blocks ≡ blocks_of (setup_of d) 1
+same-blocks d d' H meets = sym (blocks-are d') ∙ ap (λ S. blocks_of S 1) meets.setup
+
+same-size : (d d' : Device) (H : List Entry) → Meets (setup_of d) H d' → d'.size ≡ d.size
+same-size d d' H meets = sym (size-is d') ∙ (ap (λ S. S.size) meets.setup ∙ size-is d)
+
+-- the lines ran, and the image was put back
+pub ran-disk : (plan : DiskPlan) (client : ClientPlan) (old mid new : Image) (d d' : Device) (run : Run)
+    → IsTaking old.place mid.place plan.size false d → mid.worn ≡ old.worn → RanOver (setup_of d) client.orders d' run
+    → new.place ≡ put_place {E = NotRun} mid.place d'.kept (Ok tt) → new.worn ≡ adds mid.worn d'.failed → RanDisk plan client old new run
+ran-disk plan client old mid new d d' run taking worn ran put worn2 = record {
+  setup = setup_of d;
+  ran = ran-plain plan client old mid new d d' run taking worn ran worn2;
+  image = leaves old.place mid.place new.place plan.size d d' run.history.entries taking ran.meets put;
+  blocks = ran.blocks ∙ same-blocks d d' run.history.entries ran.meets;
+  fits = rw (ran.blocks, sym (same-size d d' run.history.entries ran.meets ∙ taking.size)) ran.fits;
+  ends = ends-here d run.history.entries run.ends.items plan.size taking.size ran.ends;
+}
+
+-- the lines ran, and the image could not be put back
+pub not-put-back : (plan : DiskPlan) (client : ClientPlan) (old mid new : Image) (d d' : Device) (run : Run) (fault : NotRun)
+    → IsTaking old.place mid.place plan.size false d → mid.worn ≡ old.worn → RanOver (setup_of d) client.orders d' run
+    → new.place ≡ put_place mid.place d'.kept (Err fault) → new.worn ≡ adds mid.worn d'.failed → Rose old.faults new.faults → NotPutBack plan client old new
+not-put-back plan client old mid new d d' run fault taking worn ran put worn2 cause = record {
   setup = setup_of d;
   history = run.history.entries;
   given = givens_of run.ends.items;
-  blocks = blocks;
-  size = size-is d ∙ taking.size;
-  legal = ran.legal;
-  plain = ran.plain;
-  reads = ran.given;
-  report = report;
-  image = left-behind (at plan.image).place (at1 plan.image).place (at2 plan.image).place plan.size d d' run.history.entries taking ran.meets put;
-  others = λ other ne. others2 other ne ∙ others1 other ne;
-  worn = worn2 ∙ (rw (worn1, ran.meets.failed) refl);
+  ran = ran-plain plan client old mid new d d' run taking worn ran worn2;
+  lost = lost old.place mid.place new.place plan.size d d'.kept fault taking put;
+  cause = cause;
 }
+
+leaves-or-lost : (p0 p1 p2 : Place) (size : ℕ) (d d' : Device) (H : List Entry) (put : Result (Unit {0}) NotRun)
+    → IsTaking p0 p1 size false d → Meets (setup_of d) H d' → p2 ≡ put_place p1 d'.kept put → Leaves (setup_of d) H p0 p2 ⊎ IsLost p0 p2
+leaves-or-lost p0 p1 p2 size d d' H (Ok tt) taking meets is = inl (leaves p0 p1 p2 size d d' H taking meets is)
+leaves-or-lost p0 p1 p2 size d d' H (Err fault) taking meets is = inr (lost p0 p1 p2 size d d'.kept fault taking is)
+
+-- some lines ran, and the image was put back or could not be
+pub ran-in-part : (old mid new : Image) (size : ℕ) (d d' : Device) (put : Result (Unit {0}) NotRun)
+    → IsTaking old.place mid.place size false d → mid.worn ≡ old.worn → RanSome (setup_of d) d'
+    → new.place ≡ put_place mid.place d'.kept put → new.worn ≡ adds mid.worn d'.failed → RanInPart size old new
+ran-in-part old mid new size d d' put taking worn ran is worn2 = record {
+  setup = setup_of d;
+  history = ran.history;
+  on = ran-on old mid new size d d' ran.history taking worn ran.legal ran.meets worn2;
+  left = leaves-or-lost old.place mid.place new.place size d d' ran.history put taking ran.meets is;
+}
+
+fault_or : NotRun → Result Run NotRun → NotRun
+fault_or other (Ok run) = other
+fault_or other (Err fault) = fault
+
+-- the same fault, behind a call without a value
+pub same-fault : (fault fault' : NotRun) → IsErrOf {T = Run} (Err fault) fault' → IsErrOf {T = Unit {0}} (Err fault) fault'
+unfolding fault_or
+same-fault fault fault' is = ap Err (ap (fault_or fault) is)

@@ -1,8 +1,16 @@
 -- What of a source was read so far.
-use Rattle.std.proofs.Common.{◌≡◌, ℕ, ◌<◌, List, [], ◌++◌, take, length, Option, None, Some, refl, sym, ◌∙◌, ap, append_assoc, inl, inr}
+use Rattle.std.proofs.Common.{◌≡◌, ℕ, ◌<◌, ◌⊎◌, List, [], ◌++◌, take, length, Option, None, Some, Result, Ok, Err, is_ok, refl, sym, ◌∙◌, ap, append_assoc, inl, inr, arith, length-append}
+use Rattle.std.proofs.lemmas.List.{append-nil}
+use Rattle.std.proofs.lemmas.Bool.{lt-ltb, false≢true}
 use Rattle.image_store.specs.Edge.{TakesFront}
 use Rattle.script_text.specs.declared.grammar.limits.TheConstants.{SCRIPT_BYTES}
-use Rattle.stack_run.specs.Reading.{Reads}
+use Rattle.script_text.specs.declared.grammar.plans.DiskPlan.{DiskPlan}
+use Rattle.script_text.specs.declared.grammar.refusal.Reason.{Reason}
+use Rattle.script_text.specs.declared.grammar.refusal.Reason.TheVariants.{Size}
+use Rattle.script_text.specs.Script.{script_of}
+use Rattle.image_store.specs.Place.{Image}
+use Rattle.stack_run.specs.Reading.{Reads, Says, IsReadOut, IsScript}
+use Rattle.stack_run.specs.Program.{IsToldRefused, IsToldLacking, LacksImage}
 
 -- the bytes so far, and what is left behind them, are what was left
 abbrev pub SoFar : Option (List ℕ) → Option (List ℕ) → List ℕ → Type 0
@@ -35,3 +43,51 @@ so-far-ended (Some left) now new bytes out (rest, is, whole) front some =
 pub so-far-long : (left now : Option (List ℕ)) (bytes : List ℕ) → SoFar left now bytes → SCRIPT_BYTES < length bytes → Reads left now bytes
 so-far-long None now bytes is long = is
 so-far-long (Some left) now bytes (rest, is, whole) long = (rest, is, whole, inr long)
+
+-- as many bytes as a script may not have are refused, whatever they are
+too-long : (bytes : List ℕ) → SCRIPT_BYTES < length bytes → script_of bytes ≡ Err (0, Size)
+unfolding script_of
+too-long bytes long = rw (lt-ltb SCRIPT_BYTES (length bytes) long) refl
+
+says-same : (left bytes rest : List ℕ) (said : Result (List DiskPlan) (ℕ × Reason)) → left ≡ bytes ++ rest → (rest ≡ []) ⊎ (SCRIPT_BYTES < length bytes) → script_of bytes ≡ said → script_of left ≡ said
+says-same left bytes rest said whole (inl none) says = ap script_of (whole ∙ (rw none (append-nil bytes))) ∙ says
+says-same left bytes rest said whole (inr long) says =
+    let longer : SCRIPT_BYTES < length left = rw (whole, length-append bytes rest) (omega (arith, long)) in
+    too-long left longer ∙ (sym (too-long bytes long) ∙ says)
+
+-- what was read says what all bytes say that were left
+pub says-whole : (left now : Option (List ℕ)) (bytes : List ℕ) (said : Result (List DiskPlan) (ℕ × Reason)) → Reads left now bytes → script_of bytes ≡ said → Says left said
+says-whole (Some left) now bytes said (rest, is, whole, ended) says = says-same left bytes rest said whole ended says
+says-whole None now bytes said reads says = (bytes, says)
+
+read-out-by : (now : Option (List ℕ)) (bytes rest : List ℕ) (plans : List DiskPlan) → now ≡ Some rest → (rest ≡ []) ⊎ (SCRIPT_BYTES < length bytes) → script_of bytes ≡ Ok plans → now ≡ Some []
+read-out-by now bytes rest plans is (inl none) says = is ∙ ap Some none
+read-out-by now bytes rest plans is (inr long) says =
+    absurd (false≢true (ap is_ok (sym (too-long bytes long) ∙ says)))
+
+read-out : (left now : Option (List ℕ)) (bytes : List ℕ) (plans : List DiskPlan) → Reads left now bytes → script_of bytes ≡ Ok plans → IsReadOut left now
+read-out (Some left) now bytes plans (rest, is, whole, ended) says = read-out-by now bytes rest plans is ended says
+read-out None now bytes plans reads says = reads
+
+-- a script was read
+pub script-read : (left now : Option (List ℕ)) (bytes : List ℕ) (plans : List DiskPlan) → Reads left now bytes → script_of bytes ≡ Ok plans → IsScript left now plans
+script-read left now bytes plans reads says = record { says = says-whole left now bytes (Ok plans) reads says; out = read-out left now bytes plans reads says }
+
+-- a script is not refused
+pub not-refused : (left : Option (List ℕ)) (plans : List DiskPlan) → Says left (Ok plans) → IsToldRefused left → ⊥
+not-refused (Some left) plans says refused = false≢true (rw says at refused)
+not-refused None plans says refused = refused
+
+-- where there is no image for a script's disk, the script was not refused, and it is the one that was read
+pub lacks-image : (left : Option (List ℕ)) (plans : List DiskPlan) (at : List ℕ → Image) → Says left (Ok plans) → IsToldLacking left at → LacksImage plans at
+lacks-image (Some left) plans at says lacks = rw says at lacks
+lacks-image None plans at says lacks = absurd lacks
+
+pub not-lacking : (left : Option (List ℕ)) (fault : ℕ × Reason) (at : List ℕ → Image) → Says left (Err fault) → IsToldLacking left at → ⊥
+not-lacking (Some left) fault at says lacks = rw says at lacks
+not-lacking None fault at says lacks = lacks
+
+-- what serving may answer, among more answers
+pub three-or-six : {n : ℕ} → (n ≡ 3) ⊎ (n ≡ 6) → (n ≡ 3) ⊎ ((n ≡ 4) ⊎ (n ≡ 6))
+three-or-six (inl is) = inl is
+three-or-six (inr is) = inr (inr is)

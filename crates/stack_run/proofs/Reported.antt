@@ -1,11 +1,11 @@
 -- A report that is written in two parts.
-use Rattle.std.proofs.Common.{◌≡◌, ℕ, List, [], ◌++◌, ◌∷◌, ◌*◌, Option, None, Some, refl, sym, ◌∙◌, ap, append_assoc}
+use Rattle.std.proofs.Common.{◌≡◌, ℕ, List, [], ◌++◌, ◌∷◌, ◌*◌, Option, None, Some, Result, Ok, Err, refl, sym, ◌∙◌, ap, append_assoc}
 use Rattle.std.proofs.lemmas.List.{append-nil}
-use Rattle.image_store.specs.Edge.{Appends, AppendsFront}
+use Rattle.image_store.specs.Edge.{Appends, AppendsFront, PutsText}
 use Rattle.history.specs.declared.entry.Entry.{Entry}
 use Rattle.script_text.specs.declared.grammar.plans.DiskPlan.{DiskPlan}
 use Rattle.script_text.specs.Report.{head_text, body_text, report_text}
-use Rattle.stack_run.specs.Serving.{disk_report}
+use Rattle.stack_run.specs.Serving.{report_of}
 
 -- nothing was written
 pub nothing-written : (told : Option (List ℕ)) (text : List ℕ) → AppendsFront told told text
@@ -14,7 +14,7 @@ nothing-written None text = (text, record { front = []; is = refl; appended = re
 nothing-written (Some bytes) text = (text, record { front = []; is = refl; appended = ap Some (sym (append-nil bytes)) })
 
 -- two parts, one after the other
-pub both-written : (old mid new : Option (List ℕ)) (head body : List ℕ) → Appends old mid head → Appends mid new body → Appends old new (head ++ body)
+both-written : (old mid new : Option (List ℕ)) (head body : List ℕ) → Appends old mid head → Appends mid new body → Appends old new (head ++ body)
 unfolding Appends
 both-written None mid new head body first second = rw first at second
 both-written (Some bytes) mid new head body first second =
@@ -26,12 +26,17 @@ pub head-front : (old new : Option (List ℕ)) (head body : List ℕ) → Append
 head-front old new head body (rest, upto) = (rest ++ body, record { front = upto.front; is = ap (λ xs. xs ++ body) upto.is ∙ append_assoc upto.front rest body; appended = upto.appended })
 
 -- the first part and a front of the second
-pub body-front : (old mid new : Option (List ℕ)) (head body : List ℕ) → Appends old mid head → AppendsFront mid new body → AppendsFront old new (head ++ body)
+body-front : (old mid new : Option (List ℕ)) (head body : List ℕ) → Appends old mid head → AppendsFront mid new body → AppendsFront old new (head ++ body)
 body-front old mid new head body first (rest, upto) =
     (rest, record { front = head ++ upto.front; is = ap (λ xs. head ++ xs) upto.is ∙ sym (append_assoc head upto.front rest); appended = both-written old mid new head upto.front first upto.appended })
 
+-- the rest behind a first part, or a front of it
+pub put-behind : {E : Type 0} (old mid new : Option (List ℕ)) (front rest : List ℕ) (result : Result (Unit {0}) E) → Appends old mid front → PutsText mid new result rest → PutsText old new result (front ++ rest)
+put-behind old mid new front rest (Ok x) first put = both-written old mid new front rest first put
+put-behind old mid new front rest (Err e) first put = body-front old mid new front rest first put
+
 -- the report of the disk is its first line and the lines behind it
 pub report-parts : (plan : DiskPlan) (blocks : ℕ) (H : List Entry) (given : List (Option (List ℕ)))
-    → disk_report plan blocks H given ≡ head_text 1 plan.image plan.size blocks ++ body_text plan.size H given (record { name = plan.image; bytes = blocks * plan.size } ∷ [])
-unfolding disk_report report_text
+    → report_of plan blocks H given ≡ head_text 1 plan.image plan.size blocks ++ body_text plan.size H given (record { name = plan.image; bytes = blocks * plan.size } ∷ [])
+unfolding report_of report_text
 report-parts plan blocks H given = refl

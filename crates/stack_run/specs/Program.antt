@@ -1,15 +1,16 @@
--- The program's words, its statuses, and the lines of its refusals (own profile).
-use Rattle.std.specs.Prelude.{◌≡◌, ℕ, ◌⊎◌, Bool, false, List, [], ◌∷◌, codes, Option, Ok, Err, bytes_eq}
+-- The program's words, its statuses, and what stands behind each of them (own profile).
+use Rattle.std.specs.Prelude.{◌≡◌, ℕ, ◌⊎◌, Bool, false, List, [], ◌∷◌, ◌++◌, codes, Option, None, Some, Result, Ok, Err, IsErr, bytes_eq}
+use Rattle.medium.specs.Counts.{Rose}
+use Rattle.image_store.specs.Edge.{Appends, AppendsFront}
+use Rattle.image_store.specs.Place.{Image, ChangesOnly}
 use Rattle.script_text.specs.declared.grammar.plans.DiskPlan.{DiskPlan}
 use Rattle.script_text.specs.declared.grammar.plans.ClientPlan.{ClientPlan}
 use Rattle.script_text.specs.declared.grammar.refusal.Reason.{Reason}
 use Rattle.script_text.specs.Script.{script_of}
-use Rattle.medium.specs.Counts.{Rose}
-use Rattle.image_store.specs.Place.{Image, MayBeShort}
 use Rattle.stack_run.specs.declared.refusal.Refusal.{Refusal}
-use Rattle.stack_run.specs.declared.refusal.Refusal.TheVariants.{Words, Script, Image as ImageOf, Source, Sink, Memory}
-use Rattle.stack_run.specs.Reading.{Reads}
-use Rattle.stack_run.specs.Serving.{Served}
+use Rattle.stack_run.specs.declared.refusal.Refusal.TheVariants.{Words, Script, Image as ImageOf, Source, Memory}
+use Rattle.stack_run.specs.Reading.{IsScript, AreOne}
+use Rattle.stack_run.specs.Serving.{Served, ServedInPart, ImageFails, MayLeave, LacksBlock}
 
 -- the words are the one word `plain`
 abbrev pub is_plain : List (List ℕ) → Bool
@@ -22,47 +23,83 @@ status_of Words = 1
 status_of Script = 2
 status_of ImageOf = 3
 status_of Source = 4
-status_of Sink = 5
 status_of Memory = 6
+
+-- the line of a refusal, which ends with a line feed (10)
+abbrev pub refusal_text : Refusal → List ℕ → List ℕ
+refusal_text Words name = codes "words" ++ 10 ∷ []
+refusal_text Script name = codes "script" ++ 10 ∷ []
+refusal_text ImageOf name = codes "image " ++ name ++ 10 ∷ []
+refusal_text Source name = codes "source" ++ 10 ∷ []
+refusal_text Memory name = codes "memory" ++ 10 ∷ []
+
+-- a line was written, or where the sink failed a front of it
+abbrev pub WritesLine : List ℕ → Option (List ℕ) → Option (List ℕ) → ℕ → ℕ → Type 0
+WritesLine line wrote wrote' faults faults' = Appends wrote wrote' line ⊎ (AppendsFront wrote wrote' line × Rose faults faults')
+
+-- the line of a refusal was written, and no image has changed
+pub record Refuses (text : List ℕ) (at at' : List ℕ → Image) (wrote wrote' : Option (List ℕ)) (faults faults' : ℕ) : Type 0 where
+  pub images : at' ≡ at
+  pub line : WritesLine text wrote wrote' faults faults'
+
+-- the source was read to its end and is a script, and this holds of its disks
+pub record OfScript (left left' : Option (List ℕ)) (P : List DiskPlan → Type 0) : Type 0 where
+  pub plans : List DiskPlan
+  pub script : IsScript left left' plans
+  pub holds : P plans
 
 -- the one disk of a script was served with its one client
 pub record ServedOne (plans : List DiskPlan) (at at' : List ℕ → Image) (wrote wrote' : Option (List ℕ)) : Type 0 where
   pub plan : DiskPlan
   pub client : ClientPlan
-  pub is : plans ≡ plan ∷ []
-  pub one : plan.clients ≡ client ∷ []
+  pub one : AreOne plans plan client
   pub served : Served plan client at at' wrote wrote'
 
--- the faults of the disk's image rose, or it may be shorter than a block
-pub record IsImageFault (plans : List DiskPlan) (at at' : List ℕ → Image) : Type 0 where
+-- its image could not be taken or put back, and the line says so
+pub record ImageFailed (plans : List DiskPlan) (at at' : List ℕ → Image) (wrote wrote' : Option (List ℕ)) (faults faults' : ℕ) : Type 0 where
   pub plan : DiskPlan
-  pub is : plans ≡ plan ∷ []
-  pub fault : Rose (at plan.image).faults (at' plan.image).faults ⊎ MayBeShort (at plan.image).place plan.size
+  pub client : ClientPlan
+  pub one : AreOne plans plan client
+  pub fails : ImageFails plan client (at plan.image) (at' plan.image)
+  pub others : ChangesOnly plan.image at at'
+  pub line : WritesLine (refusal_text ImageOf plan.image) wrote wrote' faults faults'
+
+-- it was served, and the sink failed in its report
+pub record SinkFailed (plans : List DiskPlan) (at at' : List ℕ → Image) (wrote wrote' : Option (List ℕ)) (faults faults' : ℕ) : Type 0 where
+  pub plan : DiskPlan
+  pub client : ClientPlan
+  pub one : AreOne plans plan client
+  pub served : ServedInPart plan client at at' wrote wrote'
+  pub cause : Rose faults faults'
+
+-- memory ran out, and its image is left so
+pub record MemoryRanOut (plans : List DiskPlan) (at at' : List ℕ → Image) : Type 0 where
+  pub plan : DiskPlan
+  pub client : ClientPlan
+  pub one : AreOne plans plan client
+  pub leaves : MayLeave plan.size (at plan.image) (at' plan.image)
+  pub others : ChangesOnly plan.image at at'
+
+-- there is no image of one block for its one disk
+abbrev pub LacksImage : List DiskPlan → (List ℕ → Image) → Type 0
+LacksImage [] at = ⊥
+LacksImage (plan ∷ []) at = LacksBlock plan.size (at plan.image).place
+LacksImage (plan ∷ other ∷ more) at = ⊥
+
+abbrev pub SaidLacksImage : Result (List DiskPlan) (ℕ × Reason) → (List ℕ → Image) → Type 0
+SaidLacksImage (Ok plans) at = LacksImage plans at
+SaidLacksImage (Err fault) at = ⊥
+
+-- the source tells its bytes, and they are refused as a script
+abbrev pub IsToldRefused : Option (List ℕ) → Type 0
+IsToldRefused (Some left) = IsErr (script_of left)
+IsToldRefused None = ⊥
+
+-- the source tells its bytes, and they are a script for whose disk there is no image of one block
+abbrev pub IsToldLacking : Option (List ℕ) → (List ℕ → Image) → Type 0
+IsToldLacking (Some left) at = SaidLacksImage (script_of left) at
+IsToldLacking None at = ⊥
 
 -- what serving a disk may answer
 abbrev pub IsServingStatus : ℕ → Type 0
 IsServingStatus n = (n ≡ 0) ⊎ ((n ≡ 3) ⊎ ((n ≡ 5) ⊎ (n ≡ 6)))
-
--- the source was read, and is a script whose disk was served
-pub record Ran (left left' : Option (List ℕ)) (at at' : List ℕ → Image) (wrote wrote' : Option (List ℕ)) : Type 0 where
-  pub bytes : List ℕ
-  pub plans : List DiskPlan
-  pub reads : Reads left left' bytes
-  pub says : script_of bytes ≡ Ok plans
-  pub served : ServedOne plans at at' wrote wrote'
-
--- the source was read and is refused as a script
-pub record IsRefusedScript (left left' : Option (List ℕ)) : Type 0 where
-  pub bytes : List ℕ
-  pub line : ℕ
-  pub reason : Reason
-  pub reads : Reads left left' bytes
-  pub says : script_of bytes ≡ Err (line, reason)
-
--- the source was read and is a script, and the image of its disk is the cause
-pub record HasImageFault (left left' : Option (List ℕ)) (at at' : List ℕ → Image) : Type 0 where
-  pub bytes : List ℕ
-  pub plans : List DiskPlan
-  pub reads : Reads left left' bytes
-  pub says : script_of bytes ≡ Ok plans
-  pub fault : IsImageFault plans at at'

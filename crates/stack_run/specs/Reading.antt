@@ -1,8 +1,38 @@
--- What of a source is read (own profile).
-use Rattle.std.specs.Prelude.{◌≡◌, ℕ, ◌<◌, ◌⊎◌, List, [], ◌++◌, length, Option, None, Some}
+-- What of a source is read, and what it says (own profile).
+use Rattle.std.specs.Prelude.{◌≡◌, ℕ, ◌<◌, ◌⊎◌, List, [], ◌∷◌, ◌++◌, length, Option, None, Some, Result, Ok, Err}
 use Rattle.script_text.specs.declared.grammar.limits.TheConstants.{SCRIPT_BYTES}
+use Rattle.script_text.specs.declared.grammar.plans.DiskPlan.{DiskPlan}
+use Rattle.script_text.specs.declared.grammar.plans.ClientPlan.{ClientPlan}
+use Rattle.script_text.specs.declared.grammar.refusal.Reason.{Reason}
+use Rattle.script_text.specs.Script.{script_of}
 
 -- all bytes that were left were read, or more of them than a script may have
 abbrev pub Reads : Option (List ℕ) → Option (List ℕ) → List ℕ → Type 0
 Reads (Some left) now bytes = (rest : List ℕ) × (now ≡ Some rest) × (left ≡ bytes ++ rest) × ((rest ≡ []) ⊎ (SCRIPT_BYTES < length bytes))
 Reads None now bytes = now ≡ None
+
+-- what all bytes say that were left; where these are not told, what some bytes say
+abbrev pub Says : Option (List ℕ) → Result (List DiskPlan) (ℕ × Reason) → Type 0
+Says (Some left) said = script_of left ≡ said
+Says None said = (bytes : List ℕ) × (script_of bytes ≡ said)
+
+-- the source was read to its end
+abbrev pub IsReadOut : Option (List ℕ) → Option (List ℕ) → Type 0
+IsReadOut (Some left) now = now ≡ Some []
+IsReadOut None now = now ≡ None
+
+-- the source was read to its end, and is a script of these disks
+pub record IsScript (left left' : Option (List ℕ)) (plans : List DiskPlan) : Type 0 where
+  pub says : Says left (Ok plans)
+  pub out : IsReadOut left left'
+
+-- the source is refused as a script
+pub record IsRefused (left : Option (List ℕ)) : Type 0 where
+  pub line : ℕ
+  pub reason : Reason
+  pub says : Says left (Err (line, reason))
+
+-- one disk with one client
+pub record AreOne (plans : List DiskPlan) (plan : DiskPlan) (client : ClientPlan) : Type 0 where
+  pub disk : plans ≡ plan ∷ []
+  pub client_of : plan.clients ≡ client ∷ []

@@ -1,52 +1,149 @@
--- What one disk of a script did (own profile).
-use Rattle.std.specs.Prelude.{◌≡◌, ℕ, ◌*◌, List, [], ◌∷◌, ◌++◌, Option, Some}
-use Rattle.medium.specs.Counts.{adds}
+-- What one disk of a script did, and what it left (own profile).
+use Rattle.std.specs.Prelude.{◌≡◌, ℕ, ◌*◌, ◌/◌, ◌^◌, ◌<◌, ◌≤◌, ◌⊎◌, false, List, [], ◌∷◌, ◌++◌, length, Option, Some}
+use Rattle.medium.specs.Counts.{adds, Rose}
 use Rattle.medium.specs.Device.{Device}
 use Rattle.history.specs.declared.entry.Entry.{Entry}
 use Rattle.history.specs.declared.order.Order.{Order}
-use Rattle.history.specs.Setup.{Setup, first_of}
+use Rattle.history.specs.Setup.{Setup, blocks_of}
 use Rattle.history.specs.Contents.{kept_contents}
 use Rattle.history.specs.Rules.{IsLegal}
 use Rattle.history.specs.Room.{faults}
-use Rattle.disk_core.specs.State.{setup_of, Meets}
-use Rattle.image_store.specs.Edge.{Appends}
-use Rattle.image_store.specs.Place.{Place, Here, Missing, Taken, Untold, Image, ChangesOnly, whole_blocks, tail_of}
+use Rattle.disk_core.specs.State.{Meets}
+use Rattle.image_store.specs.Edge.{Appends, AppendsFront}
+use Rattle.image_store.specs.Place.{Place, Here, Missing, Taken, Untold, Image, IsShort, MayBeShort, ChangesOnly, whole_blocks, tail_of}
 use Rattle.script_text.specs.declared.grammar.plans.DiskPlan.{DiskPlan}
 use Rattle.script_text.specs.declared.grammar.plans.ClientPlan.{ClientPlan}
 use Rattle.script_text.specs.Report.{givens_of, AreEnds, AreGiven, report_text}
 use Rattle.stack_run.specs.declared.serving.Run.{Run}
 use Rattle.stack_run.specs.Plain.{outcomes_of, plain_history}
 
--- the lines ran over a fresh medium by the plain schedule: the history is legal, and the medium follows it
-pub record RanOver (medium : Device) (orders : List Order) (medium' : Device) (run : Run) : Type 0 where
-  pub legal : IsLegal (setup_of medium) run.history.entries
-  pub plain : run.history.entries ≡ plain_history (setup_of medium) orders (outcomes_of run.history.entries)
-  pub meets : Meets (setup_of medium) run.history.entries medium'
-  pub ends : AreEnds (setup_of medium).size run.history.entries run.ends.items
-  pub given : AreGiven (setup_of medium) run.history.entries (givens_of run.ends.items)
+-- the lines ran over a disk by the plain schedule: the history is legal, and the medium follows it
+pub record RanOver (S : Setup) (orders : List Order) (medium : Device) (run : Run) : Type 0 where
+  pub blocks : run.blocks ≡ medium.blocks
+  pub fits : medium.blocks * medium.size < 2 ^ 64
+  pub legal : IsLegal S run.history.entries
+  pub plain : run.history.entries ≡ plain_history S orders (outcomes_of run.history.entries)
+  pub faultless : faults run.history.entries ≡ 0 → run.history.entries ≡ plain_history S orders []
+  pub meets : Meets S run.history.entries medium
+  pub ends : AreEnds S.size run.history.entries run.ends.items
+  pub given : AreGiven S run.history.entries (givens_of run.ends.items)
+
+-- the medium follows some legal history
+pub record RanSome (S : Setup) (medium : Device) : Type 0 where
+  pub history : List Entry
+  pub legal : IsLegal S history
+  pub meets : Meets S history medium
+
+-- a disk with one medium, with no cache, and not protected
+abbrev pub one_medium : ℕ → ℕ → Option (List ℕ) → Setup
+one_medium size blocks first = record { size = size; cached = false; protected = false; media = record { blocks = blocks; first = first } ∷ [] }
+
+-- the setup has the image's whole blocks; those of an image that does not tell are some
+abbrev pub Opens : ℕ → Place → Setup → Type 0
+Opens size (Here bytes) S = (size ≤ length bytes) × (S ≡ one_medium size (length bytes / size) (Some (whole_blocks size bytes)))
+Opens size Missing S = ⊥
+Opens size (Taken tail) S = ⊥
+Opens size Untold S = (blocks : ℕ) × (first : Option (List ℕ)) × (S ≡ one_medium size blocks first)
 
 -- an image that told its bytes is its medium's kept contents and then its tail
-abbrev pub Leaves : Setup → List Entry → ℕ → Place → Place → Type 0
-Leaves S H size (Here bytes) new = (first_of S 1 ≡ Some (whole_blocks size bytes)) × ((kept : List ℕ) × (kept_contents S 1 H ≡ Some kept) × (new ≡ Here (kept ++ tail_of size bytes)))
-Leaves S H size Missing new = ⊥
-Leaves S H size (Taken tail) new = ⊥
-Leaves S H size Untold new = new ≡ Untold
+abbrev pub Leaves : Setup → List Entry → Place → Place → Type 0
+Leaves S H (Here bytes) new = (kept : List ℕ) × (kept_contents S 1 H ≡ Some kept) × (new ≡ Here (kept ++ tail_of S.size bytes))
+Leaves S H Missing new = ⊥
+Leaves S H (Taken tail) new = ⊥
+Leaves S H Untold new = new ≡ Untold
 
--- the report of a script's one disk with its one medium
-unfoldable pub disk_report : DiskPlan → ℕ → List Entry → List (Option (List ℕ)) → List ℕ
-disk_report plan blocks H given = report_text 1 plan.image plan.size blocks H given (record { name = plan.image; bytes = blocks * plan.size } ∷ [])
+-- an image that could not be put back is nowhere, where it told its bytes
+abbrev pub IsLost : Place → Place → Type 0
+IsLost (Here bytes) new = new ≡ Missing
+IsLost Missing new = ⊥
+IsLost (Taken tail) new = ⊥
+IsLost Untold new = new ≡ Untold
 
--- the report and the images are those of one legal, plain history of the client's lines
+-- a legal history over the image, whose faults are the commands that failed under its name
+pub record RanOn (size : ℕ) (old new : Image) (S : Setup) (H : List Entry) : Type 0 where
+  pub opens : Opens size old.place S
+  pub legal : IsLegal S H
+  pub worn : new.worn ≡ adds old.worn (faults H)
+
+-- it is the plain run of the client's lines with its own outcomes, of the lines alone where no command failed; and
+-- this is what its reads gave
+pub record RanPlain (plan : DiskPlan) (client : ClientPlan) (old new : Image) (S : Setup) (H : List Entry) (given : List (Option (List ℕ))) : Type 0 where
+  pub on : RanOn plan.size old new S H
+  pub plain : H ≡ plain_history S client.orders (outcomes_of H)
+  pub faultless : faults H ≡ 0 → H ≡ plain_history S client.orders []
+  pub reads : AreGiven S H given
+
+-- the report of a script's one disk with its one medium, which has so many blocks
+unfoldable pub report_of : DiskPlan → ℕ → List Entry → List (Option (List ℕ)) → List ℕ
+report_of plan blocks H given = report_text 1 plan.image plan.size blocks H given (record { name = plan.image; bytes = blocks * plan.size } ∷ [])
+
+abbrev pub run_report : DiskPlan → Run → List ℕ
+run_report plan run = report_of plan run.blocks run.history.entries (givens_of run.ends.items)
+
+abbrev pub disk_report : DiskPlan → Setup → List Entry → List (Option (List ℕ)) → List ℕ
+disk_report plan S H given = report_of plan (blocks_of S 1) H given
+
+-- the lines ran over the image to their end, and it was put back
+pub record RanDisk (plan : DiskPlan) (client : ClientPlan) (old new : Image) (run : Run) : Type 0 where
+  pub setup : Setup
+  pub ran : RanPlain plan client old new setup run.history.entries (givens_of run.ends.items)
+  pub image : Leaves setup run.history.entries old.place new.place
+  pub blocks : run.blocks ≡ blocks_of setup 1
+  pub fits : run.blocks * plan.size < 2 ^ 64
+  pub ends : AreEnds plan.size run.history.entries run.ends.items
+
+-- the report and the images are those of one history
 pub record Served (plan : DiskPlan) (client : ClientPlan) (at at' : List ℕ → Image) (wrote wrote' : Option (List ℕ)) : Type 0 where
   pub setup : Setup
   pub history : List Entry
   pub given : List (Option (List ℕ))
-  pub blocks : ℕ
-  pub size : setup.size ≡ plan.size
-  pub legal : IsLegal setup history
-  pub plain : history ≡ plain_history setup client.orders (outcomes_of history)
-  pub reads : AreGiven setup history given
-  pub report : Appends wrote wrote' (disk_report plan blocks history given)
-  pub image : Leaves setup history plan.size (at plan.image).place (at' plan.image).place
+  pub ran : RanPlain plan client (at plan.image) (at' plan.image) setup history given
+  pub image : Leaves setup history (at plan.image).place (at' plan.image).place
   pub others : ChangesOnly plan.image at at'
-  pub worn : (at' plan.image).worn ≡ adds (at plan.image).worn (faults history)
+  pub report : Appends wrote wrote' (disk_report plan setup history given)
+
+-- the images are those of one history, and a front of its report was written
+pub record ServedInPart (plan : DiskPlan) (client : ClientPlan) (at at' : List ℕ → Image) (wrote wrote' : Option (List ℕ)) : Type 0 where
+  pub setup : Setup
+  pub history : List Entry
+  pub given : List (Option (List ℕ))
+  pub ran : RanPlain plan client (at plan.image) (at' plan.image) setup history given
+  pub image : Leaves setup history (at plan.image).place (at' plan.image).place
+  pub others : ChangesOnly plan.image at at'
+  pub report : AppendsFront wrote wrote' (disk_report plan setup history given)
+
+-- the image was not taken and is where it was: it is too short, or its name's faults rose
+pub record NotTaken (size : ℕ) (old new : Image) : Type 0 where
+  pub place : new.place ≡ old.place
+  pub worn : new.worn ≡ old.worn
+  pub cause : Rose old.faults new.faults ⊎ MayBeShort old.place size
+
+-- the lines ran, and the image could not be put back: its name's faults rose
+pub record NotPutBack (plan : DiskPlan) (client : ClientPlan) (old new : Image) : Type 0 where
+  pub setup : Setup
+  pub history : List Entry
+  pub given : List (Option (List ℕ))
+  pub ran : RanPlain plan client old new setup history given
+  pub lost : IsLost old.place new.place
+  pub cause : Rose old.faults new.faults
+
+abbrev pub ImageFails : DiskPlan → ClientPlan → Image → Image → Type 0
+ImageFails plan client old new = NotTaken plan.size old new ⊎ NotPutBack plan client old new
+
+-- a legal history ran over the image, which it left, or which could not be put back
+pub record RanInPart (size : ℕ) (old new : Image) : Type 0 where
+  pub setup : Setup
+  pub history : List Entry
+  pub on : RanOn size old new setup history
+  pub left : Leaves setup history old.place new.place ⊎ IsLost old.place new.place
+
+-- what want of memory leaves: the image where it was, or as a legal history says
+abbrev pub MayLeave : ℕ → Image → Image → Type 0
+MayLeave size old new = ((new.place ≡ old.place) × (new.worn ≡ old.worn)) ⊎ RanInPart size old new
+
+-- there is no image of one block
+abbrev pub LacksBlock : ℕ → Place → Type 0
+LacksBlock size (Here bytes) = IsShort (Here bytes) size
+LacksBlock size Missing = Unit {0}
+LacksBlock size (Taken tail) = ⊥
+LacksBlock size Untold = ⊥

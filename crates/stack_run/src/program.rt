@@ -1,12 +1,13 @@
-ghost use Rattle.std.specs.Prelude.{◌≡◌, ℕ, ◌≤◌, ◌⊎◌, List, map, string_bytes, codes, true, false, OnOk, OnErr, IsErrOf, Ok, Err};
+ghost use Rattle.std.specs.Prelude.{◌≡◌, ℕ, ◌≤◌, ◌++◌, ◌⊎◌, [], List, map, string_bytes, true, false};
 ghost use Rattle.medium.specs.Counts.{Rose};
 ghost use Rattle.image_store.specs.Edge.{PutsText, HasCauseOf};
-ghost use Rattle.image_store.specs.Place.{IsFree, MayBeShort, ChangesOnly};
+ghost use Rattle.image_store.specs.Place.{IsFree};
 ghost use Rattle.script_text.specs.Fit.{AreDisks, IsSingle};
-ghost use Rattle.stack_run.specs.Program.{is_plain, status_of, ServedOne, IsImageFault, IsServingStatus, Ran, HasImageFault, IsRefusedScript};
+ghost use Rattle.stack_run.specs.Reading.{IsRefused};
+ghost use Rattle.stack_run.specs.Program.{is_plain, status_of, refusal_text, WritesLine, Refuses, OfScript, ServedOne, ImageFailed, SinkFailed, MemoryRanOut, LacksImage, IsToldRefused, IsToldLacking, IsServingStatus};
 
 use crate::reading::{ReadFault, read_source};
-use crate::refusal::Refusal;
+use crate::refusal::{Refusal, Unserved};
 use crate::serving::serve;
 use image_store::{Images, PutFault, Sink, Source};
 use script_text::{Script, ScriptRefused, read_script};
@@ -31,25 +32,42 @@ fn status(refusal: Refusal) -> u8
         Refusal::Script => 2,
         Refusal::Image => 3,
         Refusal::Source => 4,
-        Refusal::Sink => 5,
         Refusal::Memory => 6,
     }
 }
 
-// Writes the line of a refusal, with the name of its image.
+// Puts one text behind another.
+fn put_both<O: Sink>(front: &[u8], rest: &[u8], out: &mut O) -> Result<(), PutFault>
+    ensures text { PutsText (O.wrote out.old) (O.wrote out.new) result (front.now ++ rest.now) }
+    ensures cause { HasCauseOf PutFault.Failed (O.faults out.old) (O.faults out.new) result }
+{
+    match out.put(front) {
+        Ok(()) => out.put(rest),
+        Err(fault) => Err(fault),
+    }
+}
+
+// Puts the line that names an image.
+fn put_image_line<O: Sink>(name: &str, out: &mut O) -> Result<(), PutFault>
+    ensures text { PutsText (O.wrote out.old) (O.wrote out.new) result (refusal_text Refusal.Image name.now) }
+    ensures cause { HasCauseOf PutFault.Failed (O.faults out.old) (O.faults out.new) result }
+{
+    match put_both(b"image ", name.as_bytes(), out) {
+        Ok(()) => out.put(b"\n"),
+        Err(fault) => Err(fault),
+    }
+}
+
+// Puts the line of a refusal, with the name of its image.
 fn put_refusal<O: Sink>(refusal: Refusal, name: &str, out: &mut O) -> Result<(), PutFault>
+    ensures text { PutsText (O.wrote out.old) (O.wrote out.new) result (refusal_text refusal name.now) }
     ensures cause { HasCauseOf PutFault.Failed (O.faults out.old) (O.faults out.new) result }
 {
     match refusal {
         Refusal::Words => out.put(b"words\n"),
         Refusal::Script => out.put(b"script\n"),
-        Refusal::Image => {
-            out.put(b"image ")?;
-            out.put(name.as_bytes())?;
-            out.put(b"\n")
-        }
+        Refusal::Image => put_image_line(name, out),
         Refusal::Source => out.put(b"source\n"),
-        Refusal::Sink => Ok(()),
         Refusal::Memory => out.put(b"memory\n"),
     }
 }
@@ -57,7 +75,7 @@ fn put_refusal<O: Sink>(refusal: Refusal, name: &str, out: &mut O) -> Result<(),
 // Ends a run with a refusal: its line, and its status, or that of want of memory where the line could not be written for it.
 fn refuse<O: Sink>(refusal: Refusal, name: &str, out: &mut O) -> u8
     ensures status { (result ≡ status_of refusal) ⊎ (result ≡ 6) }
-    ensures later { O.faults out.old ≤ O.faults out.new }
+    ensures line { (result ≡ 6) ⊎ WritesLine (refusal_text refusal name.now) (O.wrote out.old) (O.wrote out.new) (O.faults out.old) (O.faults out.new) }
 {
     match put_refusal(refusal, name, out) {
         Err(PutFault::Memory) => 6,
@@ -72,22 +90,32 @@ fn run_script<I: Images, O: Sink>(alloc: Global, script: &Script, images: &mut I
     requires single { IsSingle script.now.disks }
     requires fit { AreDisks script.now.disks }
     ensures done { result ≡ 0 → ServedOne script.now.disks (I.at images.old) (I.at images.new) (O.wrote out.old) (O.wrote out.new) }
-    ensures image { result ≡ 3 → IsImageFault script.now.disks (I.at images.old) (I.at images.new) }
-    ensures sink { result ≡ 5 → Rose (O.faults out.old) (O.faults out.new) }
+    ensures image { result ≡ 3 → ImageFailed script.now.disks (I.at images.old) (I.at images.new) (O.wrote out.old) (O.wrote out.new) (O.faults out.old) (O.faults out.new) }
+    ensures lacks { LacksImage script.now.disks (I.at images.old) → (result ≡ 3) ⊎ (result ≡ 6) }
+    ensures sink { result ≡ 5 → SinkFailed script.now.disks (I.at images.old) (I.at images.new) (O.wrote out.old) (O.wrote out.new) (O.faults out.old) (O.faults out.new) }
+    ensures memory { result ≡ 6 → MemoryRanOut script.now.disks (I.at images.old) (I.at images.new) }
     ensures few { IsServingStatus result }
     ensures again { (name : List ℕ) → IsFree (I.at images.new name).place }
-    ensures later { O.faults out.old ≤ O.faults out.new }
 {
     let plan = &script.disks.as_slice()[0];
     let client = &plan.clients.as_slice()[0];
     match serve(alloc, plan, client, images, out) {
         Ok(()) => 0,
-        Err(refusal) => refuse(refusal, plan.image.as_str(), out),
+        Err(Unserved::Image) => refuse(Refusal::Image, plan.image.as_str(), out),
+        Err(Unserved::Sink) => 5,
+        Err(Unserved::Memory) => refuse(Refusal::Memory, "", out),
     }
 }
 
 /// Runs the words `plain`: reads a script, runs its disk by the plain schedule, puts the image back, and writes the
-/// report. It answers the program's status (own profile).
+/// report. It answers the program's status (own profile), and each status with its cause:
+///
+/// - 0: the report, the image and every other image are those of one legal history, the plain run of the script.
+/// - 1 where the words are others, 2 where the script is refused, 4 where the source failed: no image has changed.
+/// - 3 where the image is missing, shorter than a block or failed, and is then where it was; or where the lines ran and
+///   it could not be put back. Nothing but the line of this refusal is written.
+/// - 5 where the sink failed: the image is as after 0, and a front of the report was written.
+/// - 6 for want of memory: the image is where it was, or as a legal history left it, or could not be put back.
 pub fn run_plain<I: Images, R: Source, O: Sink>(
     alloc: Global,
     words: &[String],
@@ -96,13 +124,19 @@ pub fn run_plain<I: Images, R: Source, O: Sink>(
     out: &mut O,
 ) -> u8
     requires free { (name : List ℕ) → IsFree (I.at images.old name).place }
-    ensures done { result ≡ 0 → Ran (R.left script.old) (R.left script.new) (I.at images.old) (I.at images.new) (O.wrote out.old) (O.wrote out.new) }
+    ensures done { result ≡ 0 → OfScript (R.left script.old) (R.left script.new) (λ plans. ServedOne plans (I.at images.old) (I.at images.new) (O.wrote out.old) (O.wrote out.new)) }
     ensures words { result ≡ 1 → is_plain (map string_bytes words.now) ≡ false }
     ensures words_exactly { is_plain (map string_bytes words.now) ≡ false → (result ≡ 1) ⊎ (result ≡ 6) }
-    ensures script { result ≡ 2 → IsRefusedScript (R.left script.old) (R.left script.new) }
-    ensures image { result ≡ 3 → HasImageFault (R.left script.old) (R.left script.new) (I.at images.old) (I.at images.new) }
+    ensures words_line { result ≡ 1 → Refuses (refusal_text Refusal.Words []) (I.at images.old) (I.at images.new) (O.wrote out.old) (O.wrote out.new) (O.faults out.old) (O.faults out.new) }
+    ensures script { result ≡ 2 → IsRefused (R.left script.old) }
+    ensures script_exactly { is_plain (map string_bytes words.now) ≡ true → IsToldRefused (R.left script.old) → (result ≡ 2) ⊎ ((result ≡ 4) ⊎ (result ≡ 6)) }
+    ensures script_line { result ≡ 2 → Refuses (refusal_text Refusal.Script []) (I.at images.old) (I.at images.new) (O.wrote out.old) (O.wrote out.new) (O.faults out.old) (O.faults out.new) }
+    ensures image { result ≡ 3 → OfScript (R.left script.old) (R.left script.new) (λ plans. ImageFailed plans (I.at images.old) (I.at images.new) (O.wrote out.old) (O.wrote out.new) (O.faults out.old) (O.faults out.new)) }
+    ensures image_exactly { is_plain (map string_bytes words.now) ≡ true → IsToldLacking (R.left script.old) (I.at images.old) → (result ≡ 3) ⊎ ((result ≡ 4) ⊎ (result ≡ 6)) }
     ensures source { result ≡ 4 → Rose (R.faults script.old) (R.faults script.new) }
-    ensures sink { result ≡ 5 → Rose (O.faults out.old) (O.faults out.new) }
+    ensures source_line { result ≡ 4 → Refuses (refusal_text Refusal.Source []) (I.at images.old) (I.at images.new) (O.wrote out.old) (O.wrote out.new) (O.faults out.old) (O.faults out.new) }
+    ensures sink { result ≡ 5 → OfScript (R.left script.old) (R.left script.new) (λ plans. SinkFailed plans (I.at images.old) (I.at images.new) (O.wrote out.old) (O.wrote out.new) (O.faults out.old) (O.faults out.new)) }
+    ensures memory { result ≡ 6 → (I.at images.new ≡ I.at images.old) ⊎ OfScript (R.left script.old) (R.left script.new) (λ plans. MemoryRanOut plans (I.at images.old) (I.at images.new)) }
     ensures few { result ≤ 6 }
     ensures again { (name : List ℕ) → IsFree (I.at images.new name).place }
 {

@@ -1,15 +1,15 @@
-ghost use Rattle.std.specs.Prelude.{◌≡◌, ℕ, ◌*◌, ◌^◌, ◌<◌, ◌≤◌, ◌⊎◌, Err, [], ◌∷◌, true, false, length, Some, IfOk, OnOk, OnErr, IfSome, IsErrOf};
+ghost use Rattle.std.specs.Prelude.{◌≡◌, ℕ, ◌*◌, ◌^◌, ◌<◌, ◌≤◌, ◌⊎◌, [], ◌∷◌, true, false, length, Some, IfOk, OnOk, OnErr, IfSome, IsErr, IsErrOf, Err};
 ghost use Rattle.medium.specs.Counts.{adds, Rose};
 ghost use Rattle.medium.specs.Device.{IsFresh};
 ghost use Rattle.image_store.specs.Edge.{HasCauseOf, PutsText};
 ghost use Rattle.image_store.specs.Place.{IsFree, IsTaken, IsTaking, ChangesOnly, MayBeShort, put_place};
 ghost use Rattle.disk_core.specs.State.{setup_of};
 ghost use Rattle.script_text.specs.Fit.{IsDisk, AreOrders};
-ghost use Rattle.script_text.specs.Report.{AreEnds, givens_of};
-ghost use Rattle.stack_run.specs.Serving.{RanOver, Served, Leaves, disk_report};
+ghost use Rattle.script_text.specs.Report.{AreEnds};
+ghost use Rattle.stack_run.specs.Serving.{RanOver, RanSome, RanDisk, Served, ServedInPart, ImageFails, MayLeave, LacksBlock, run_report};
 
 use crate::plain_run::run_lines;
-use crate::refusal::Refusal;
+use crate::refusal::{NotRun, Unserved};
 use disk_core::{Disk, MediumBack};
 use history::{History, Order};
 use image_store::{Images, PutFault, Sink, TakeFault};
@@ -19,55 +19,70 @@ use script_text::{
 };
 use std::alloc::{AllocError, Global};
 
-// What a disk did, and how its tokens ended.
+// What a disk did: the blocks of its medium, its history, and how its tokens ended.
 #[derive(Drop)]
 pub struct Run {
+    pub blocks: u64,
     pub history: History,
     pub ends: Vec<TokenLine>,
 }
 
-// Runs the lines over a medium, and gives the medium back. None is want of memory.
+// Runs the lines over a disk, and gives its medium back. None is want of memory.
+fn run_disk<M: Medium>(alloc: Global, mut disk: Disk<M>, orders: &[Order]) -> (M, Option<Run>)
+    requires fresh { disk.entries ≡ [] }
+    requires orders { AreOrders orders.now }
+    ensures over { IfSome result.1 (λ run. RanOver disk.setup orders.now (M.device result.0) run) }
+    ensures some { RanSome disk.setup (M.device result.0) }
+{
+    let ran = run_lines(alloc, &mut disk, orders);
+    let (medium, history) = disk.into_medium();
+    let blocks = medium.blocks();
+    match ran {
+        Ok(ends) => (
+            medium,
+            Some(Run {
+                blocks,
+                history,
+                ends,
+            }),
+        ),
+        Err(_) => (medium, None),
+    }
+}
+
+// Runs the lines over a medium, and gives it back. None is want of memory.
 fn run_medium<M: Medium>(alloc: Global, medium: M, orders: &[Order]) -> (M, Option<Run>)
     requires fresh { IsFresh (M.device medium) }
     requires orders { AreOrders orders.now }
-    ensures { IfSome result.1 (λ run. RanOver (M.device medium) orders.now (M.device result.0) run) }
+    ensures over { IfSome result.1 (λ run. RanOver (setup_of (M.device medium)) orders.now (M.device result.0) run) }
+    ensures some { RanSome (setup_of (M.device medium)) (M.device result.0) }
 {
-    let mut disk = match Disk::make(alloc, medium) {
-        Ok(disk) => disk,
+    match Disk::make(alloc, medium) {
+        Ok(disk) => run_disk(alloc, disk, orders),
         Err(back) => {
             let MediumBack { medium } = back;
-            return (medium, None);
-        }
-    };
-    match run_lines(alloc, &mut disk, orders) {
-        Ok(ends) => {
-            let (medium, history) = disk.into_medium();
-            (medium, Some(Run { history, ends }))
-        }
-        Err(_) => {
-            let (medium, _history) = disk.into_medium();
             (medium, None)
         }
     }
 }
 
 // Takes the image of a disk as its medium.
-fn take_image<I: Images>(alloc: Global, plan: &DiskPlan, images: &mut I) -> Result<I::M, Refusal>
+fn take_image<I: Images>(alloc: Global, plan: &DiskPlan, images: &mut I) -> Result<I::M, NotRun>
     requires disk { IsDisk plan.now }
     requires free { IsFree (I.at images.old plan.now.image).place }
     ensures taken { IfOk result (λ medium. IsTaking (I.at images.old plan.now.image).place (I.at images.new plan.now.image).place plan.now.size false (I.M.device medium)) }
     ensures stays { OnErr result ((I.at images.new plan.now.image).place ≡ (I.at images.old plan.now.image).place) }
-    ensures image { IsErrOf result Refusal.Image → Rose (I.at images.old plan.now.image).faults (I.at images.new plan.now.image).faults ⊎ MayBeShort (I.at images.old plan.now.image).place plan.now.size }
-    ensures few { OnErr result ((result ≡ Err Refusal.Image) ⊎ (result ≡ Err Refusal.Memory)) }
+    ensures image { IsErrOf result NotRun.Image → Rose (I.at images.old plan.now.image).faults (I.at images.new plan.now.image).faults ⊎ MayBeShort (I.at images.old plan.now.image).place plan.now.size }
+    ensures lacks { LacksBlock plan.now.size (I.at images.old plan.now.image).place → IsErr result }
     ensures later { (I.at images.old plan.now.image).faults ≤ (I.at images.new plan.now.image).faults }
     ensures worn { (I.at images.new plan.now.image).worn ≡ (I.at images.old plan.now.image).worn }
     ensures others { ChangesOnly plan.now.image (I.at images.old) (I.at images.new) }
 {
     match images.take(alloc, plan.image.as_str(), plan.size, false) {
         Ok(medium) => Ok(medium),
-        Err(TakeFault::Failed) => Err(Refusal::Image),
-        Err(TakeFault::Short) => Err(Refusal::Image),
-        Err(TakeFault::Memory) => Err(Refusal::Memory),
+        Err(TakeFault::Failed) => Err(NotRun::Image),
+        Err(TakeFault::Short) => Err(NotRun::Image),
+        Err(TakeFault::Memory) => Err(NotRun::Memory),
     }
 }
 
@@ -77,19 +92,50 @@ fn put_image<I: Images>(
     plan: &DiskPlan,
     images: &mut I,
     medium: I::M,
-) -> Result<(), Refusal>
+) -> Result<(), NotRun>
     requires taken { IsTaken (I.at images.old plan.now.image).place }
     ensures place { (I.at images.new plan.now.image).place ≡ put_place (I.at images.old plan.now.image).place (I.M.device medium).kept result }
-    ensures few { OnErr result ((result ≡ Err Refusal.Image) ⊎ (result ≡ Err Refusal.Memory)) }
-    ensures cause { HasCauseOf Refusal.Image (I.at images.old plan.now.image).faults (I.at images.new plan.now.image).faults result }
+    ensures cause { HasCauseOf NotRun.Image (I.at images.old plan.now.image).faults (I.at images.new plan.now.image).faults result }
     ensures free { IsFree (I.at images.new plan.now.image).place }
     ensures worn { (I.at images.new plan.now.image).worn ≡ adds (I.at images.old plan.now.image).worn (I.M.device medium).failed }
     ensures others { ChangesOnly plan.now.image (I.at images.old) (I.at images.new) }
 {
     match images.put_back(alloc, plan.image.as_str(), medium) {
         Ok(()) => Ok(()),
-        Err(PutFault::Failed) => Err(Refusal::Image),
-        Err(PutFault::Memory) => Err(Refusal::Memory),
+        Err(PutFault::Failed) => Err(NotRun::Image),
+        Err(PutFault::Memory) => Err(NotRun::Memory),
+    }
+}
+
+// Takes the image of a disk, runs its client's lines over it by the plain schedule, and puts it back.
+fn run_image<I: Images>(
+    alloc: Global,
+    plan: &DiskPlan,
+    client: &ClientPlan,
+    images: &mut I,
+) -> Result<Run, NotRun>
+    requires disk { IsDisk plan.now }
+    requires orders { AreOrders client.now.orders }
+    requires free { IsFree (I.at images.old plan.now.image).place }
+    ensures ran { IfOk result (λ run. RanDisk plan.now client.now (I.at images.old plan.now.image) (I.at images.new plan.now.image) run) }
+    ensures image { IsErrOf result NotRun.Image → ImageFails plan.now client.now (I.at images.old plan.now.image) (I.at images.new plan.now.image) }
+    ensures memory { IsErrOf result NotRun.Memory → MayLeave plan.now.size (I.at images.old plan.now.image) (I.at images.new plan.now.image) }
+    ensures lacks { LacksBlock plan.now.size (I.at images.old plan.now.image).place → IsErr result }
+    ensures others { ChangesOnly plan.now.image (I.at images.old) (I.at images.new) }
+    ensures again { IsFree (I.at images.new plan.now.image).place }
+{
+    let medium = match take_image(alloc, plan, images) {
+        Ok(medium) => medium,
+        Err(fault) => return Err(fault),
+    };
+    let (medium, ran) = run_medium(alloc, medium, client.orders.as_slice());
+    let put = put_image(alloc, plan, images, medium);
+    match ran {
+        Some(run) => match put {
+            Ok(()) => Ok(run),
+            Err(fault) => Err(fault),
+        },
+        None => Err(NotRun::Memory),
     }
 }
 
@@ -103,34 +149,27 @@ fn kept_media(alloc: Global, plan: &DiskPlan, bytes: u64) -> Result<Vec<KeptMedi
     Ok(media)
 }
 
-// Writes the report of a disk whose medium has so many blocks.
+// Writes the report of a disk.
 fn write_report<O: Sink>(
     alloc: Global,
     plan: &DiskPlan,
-    blocks: u64,
     run: &Run,
     out: &mut O,
-) -> Result<(), Refusal>
+) -> Result<(), ReportFault>
     requires ends { AreEnds plan.now.size run.now.history.entries run.now.ends.items }
-    requires fits { blocks * plan.now.size < 2 ^ 64 }
-    ensures text { PutsText (O.wrote out.old) (O.wrote out.new) result (disk_report plan.now blocks run.now.history.entries (givens_of run.now.ends.items)) }
-    ensures few { OnErr result ((result ≡ Err Refusal.Sink) ⊎ (result ≡ Err Refusal.Memory)) }
-    ensures cause { HasCauseOf Refusal.Sink (O.faults out.old) (O.faults out.new) result }
+    requires fits { run.now.blocks * plan.now.size < 2 ^ 64 }
+    ensures text { PutsText (O.wrote out.old) (O.wrote out.new) result (run_report plan.now run.now) }
+    ensures cause { HasCauseOf ReportFault.Failed (O.faults out.old) (O.faults out.new) result }
 {
-    let media = match kept_media(alloc, plan, blocks * u64::from(plan.size)) {
+    let media = match kept_media(alloc, plan, run.blocks * u64::from(plan.size)) {
         Ok(media) => media,
-        Err(_) => return Err(Refusal::Memory),
+        Err(_) => return Err(ReportFault::Memory),
     };
-    match report_head(alloc, 1, plan, blocks, out) {
+    match report_head(alloc, 1, plan, run.blocks, out) {
         Ok(()) => {}
-        Err(ReportFault::Failed) => return Err(Refusal::Sink),
-        Err(ReportFault::Memory) => return Err(Refusal::Memory),
+        Err(fault) => return Err(fault),
     }
-    match report_body(alloc, plan, &run.history, &run.ends, &media, out) {
-        Ok(()) => Ok(()),
-        Err(ReportFault::Failed) => Err(Refusal::Sink),
-        Err(ReportFault::Memory) => Err(Refusal::Memory),
-    }
+    report_body(alloc, plan, &run.history, &run.ends, &media, out)
 }
 
 // Runs the client's lines over the disk's image by the plain schedule, puts the image back, and writes the report.
@@ -140,34 +179,28 @@ pub fn serve<I: Images, O: Sink>(
     client: &ClientPlan,
     images: &mut I,
     out: &mut O,
-) -> Result<(), Refusal>
+) -> Result<(), Unserved>
     requires disk { IsDisk plan.now }
     requires orders { AreOrders client.now.orders }
     requires free { IsFree (I.at images.old plan.now.image).place }
     ensures served { OnOk result (Served plan.now client.now (I.at images.old) (I.at images.new) (O.wrote out.old) (O.wrote out.new)) }
-    ensures image { IsErrOf result Refusal.Image → Rose (I.at images.old plan.now.image).faults (I.at images.new plan.now.image).faults ⊎ MayBeShort (I.at images.old plan.now.image).place plan.now.size }
-    ensures sink { IsErrOf result Refusal.Sink → Rose (O.faults out.old) (O.faults out.new) }
-    ensures few { OnErr result ((result ≡ Err Refusal.Image) ⊎ ((result ≡ Err Refusal.Sink) ⊎ (result ≡ Err Refusal.Memory))) }
+    ensures image { IsErrOf result Unserved.Image → ImageFails plan.now client.now (I.at images.old plan.now.image) (I.at images.new plan.now.image) }
+    ensures quiet { IsErrOf result Unserved.Image → O.wrote out.new ≡ O.wrote out.old }
+    ensures sink { IsErrOf result Unserved.Sink → ServedInPart plan.now client.now (I.at images.old) (I.at images.new) (O.wrote out.old) (O.wrote out.new) }
+    ensures cause { HasCauseOf Unserved.Sink (O.faults out.old) (O.faults out.new) result }
+    ensures memory { IsErrOf result Unserved.Memory → MayLeave plan.now.size (I.at images.old plan.now.image) (I.at images.new plan.now.image) }
+    ensures lacks { LacksBlock plan.now.size (I.at images.old plan.now.image).place → (result ≡ Err Unserved.Image) ⊎ (result ≡ Err Unserved.Memory) }
     ensures others { ChangesOnly plan.now.image (I.at images.old) (I.at images.new) }
-    ensures later { O.faults out.old ≤ O.faults out.new }
     ensures again { IsFree (I.at images.new plan.now.image).place }
 {
-    let medium = match take_image(alloc, plan, images) {
-        Ok(medium) => medium,
-        Err(refusal) => return Err(refusal),
+    let run = match run_image(alloc, plan, client, images) {
+        Ok(run) => run,
+        Err(NotRun::Image) => return Err(Unserved::Image),
+        Err(NotRun::Memory) => return Err(Unserved::Memory),
     };
-    let blocks = medium.blocks();
-    let (medium, ran) = run_medium(alloc, medium, client.orders.as_slice());
-    match put_image(alloc, plan, images, medium) {
-        Ok(()) => {}
-        Err(refusal) => return Err(refusal),
-    }
-    let run = match ran {
-        Some(run) => run,
-        None => return Err(Refusal::Memory),
-    };
-    match write_report(alloc, plan, blocks, &run, out) {
+    match write_report(alloc, plan, &run, out) {
         Ok(()) => Ok(()),
-        Err(refusal) => Err(refusal),
+        Err(ReportFault::Failed) => Err(Unserved::Sink),
+        Err(ReportFault::Memory) => Err(Unserved::Memory),
     }
 }

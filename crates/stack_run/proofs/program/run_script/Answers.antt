@@ -1,4 +1,3 @@
-use Rattle.stack_run.proofs.FreeAgain.{all-again}
 use Rattle.stack_run.proofs.OneDisk.{first-disk, one-client, first-client}
 use Rattle.stack_run.proofs.program.run_script.Goals as goal
 
@@ -12,11 +11,3 @@ serve-requires-clause-orders g c κs within =
     let disk = first-disk c.args.script.now.disks c.index-as_slice-0.result c.requires.single c.requires.fit at in
     let one = one-client c.args.script.now.disks c.index-as_slice-0.result c.requires.single at in
     first-client c.index-as_slice-0.result.clients c.index-as_slice-0-2.result one disk.clients (rw c.as_slice-2.ensures at c.index-as_slice-0-2.is)
-
-pub returns-in-Ok-clause-again : goal.returns-in-Ok-clause-again
-returns-in-Ok-clause-again g c =
-    all-again (g.I.Images.at c.args.images.now) (g.I.Images.at c.serve.new.images) c.index-as_slice-0.result.image c.requires.free c.serve.ensures.again c.serve.ensures.others
-
-pub returns-in-Err-clause-again : goal.returns-in-Err-clause-again
-returns-in-Err-clause-again g c =
-    all-again (g.I.Images.at c.args.images.now) (g.I.Images.at c.serve.new.images) c.index-as_slice-0.result.image c.requires.free c.serve.ensures.again c.serve.ensures.others
