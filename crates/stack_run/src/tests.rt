@@ -2,136 +2,74 @@ ghost use Rattle.std.specs.Prelude.{ℕ, List, IfOk};
 ghost use Rattle.image_store.specs.Place.{IsFree};
 ghost use Rattle.image_store.specs.Slots.{images_at};
 
+mod refusals;
+mod rows;
+
 use crate::run_plain;
 use image_store::{MemImages, MemSink, MemSource};
+use medium::Planned;
+use refusals::REFUSALS;
+use rows::{FAULTS, ROWS};
 use std::alloc::{AllocError, Global};
+use std::process::Abort;
 use std::test::Fail;
 
-// What is written over an image of 1,024 zero bytes, the report behind its first line, and four bytes of the image from a place on.
-struct Row {
-    lines: &'static str,
-    report: &'static str,
-    at: usize,
-    bytes: [u8; 4],
-}
-
-const ROWS: [Row; 6] = [
-    Row {
-        lines: "write 510 aabbccdd\nwait\nread 508 8\n",
-        report: "0 accept 1 0+1024@1/0 write bytes 510 4 aabbccdd\n1 fetch 0 0\n2 store 0 0\n3 fetch 0 1\n4 store 0 1\n5 collect 1 0\n6 accept 1 0+1024@1/0 read bytes 508 8\n7 get 1 0 1\n8 get 1 1 1\n9 collect 1 1\ntoken 0 EFI_SUCCESS\ntoken 1 EFI_SUCCESS 0000aabbccdd0000\n",
-        at: 510,
-        bytes: [0xaa, 0xbb, 0xcc, 0xdd],
-    },
-    Row {
-        lines: "write 1023 5a\n",
-        report: "0 accept 1 0+1024@1/0 write bytes 1023 1 5a\n1 fetch 0 1\n2 store 0 1\n3 collect 1 0\ntoken 0 EFI_SUCCESS\n",
-        at: 1020,
-        bytes: [0, 0, 0, 0x5a],
-    },
-    Row {
-        lines: "write 1023 5a5a\n",
-        report: "0 refuse 1 0+1024@1/0 write bytes 1023 2 1 EFI_INVALID_PARAMETER\n",
-        at: 1020,
-        bytes: [0; 4],
-    },
-    Row {
-        lines: "read 1024 0\n",
-        report: "0 accept 1 0+1024@1/0 read bytes 1024 0\n1 collect 1 0\ntoken 0 EFI_SUCCESS -\n",
-        at: 1020,
-        bytes: [0; 4],
-    },
-    Row {
-        lines: "read 1025 0\n",
-        report: "0 refuse 1 0+1024@1/0 read bytes 1025 0 1 EFI_INVALID_PARAMETER\n",
-        at: 0,
-        bytes: [0; 4],
-    },
-    Row {
-        lines: "read 18446744073709551615 2\n",
-        report: "0 refuse 1 0+1024@1/0 read bytes 18446744073709551615 2 1 EFI_INVALID_PARAMETER\n",
-        at: 0,
-        bytes: [0; 4],
-    },
-];
-
-// What is asked of a run that is refused, which of its first calls fail, and what it answers and writes.
-struct Refused {
+// What a run is given: its words, its script, the image `a.img` of so many zero bytes if there is one, and which calls fail.
+#[derive(Drop)]
+struct Given {
     words: &'static [&'static str],
     script: &'static str,
-    source_fails: bool,
-    sink_fails: bool,
-    status: u8,
-    written: &'static str,
+    image: Option<usize>,
+    planned: &'static [Planned],
+    images_fail: &'static [u64],
+    source_fails: &'static [u64],
+    sink_fails: &'static [u64],
+    // A star in the script or in what is written stands for this text so many times.
+    star: &'static str,
+    times: usize,
 }
 
-const READS: &str = "disk a.img 512 1\nclient\nread 0 1\n";
+// The bytes of an image that are not zero, from a place on.
+struct Patch {
+    at: usize,
+    bytes: &'static [u8],
+}
 
-const REFUSALS: [Refused; 8] = [
-    Refused {
-        words: &[],
-        script: READS,
-        source_fails: false,
-        sink_fails: false,
-        status: 1,
-        written: "words\n",
-    },
-    Refused {
-        words: &["plain", "plain"],
-        script: READS,
-        source_fails: false,
-        sink_fails: false,
-        status: 1,
-        written: "words\n",
-    },
-    Refused {
-        words: &["probe"],
-        script: READS,
-        source_fails: false,
-        sink_fails: false,
-        status: 1,
-        written: "words\n",
-    },
-    Refused {
-        words: &["-h"],
-        script: READS,
-        source_fails: false,
-        sink_fails: false,
-        status: 1,
-        written: "words\n",
-    },
-    Refused {
-        words: &["plain"],
-        script: "",
-        source_fails: false,
-        sink_fails: false,
-        status: 2,
-        written: "script\n",
-    },
-    Refused {
-        words: &["plain"],
-        script: "disk b.img 512 1\nclient\nread 0 1\n",
-        source_fails: false,
-        sink_fails: false,
-        status: 3,
-        written: "image b.img\n",
-    },
-    Refused {
-        words: &["plain"],
-        script: READS,
-        source_fails: true,
-        sink_fails: false,
-        status: 4,
-        written: "source\n",
-    },
-    Refused {
-        words: &["plain"],
-        script: READS,
-        source_fails: false,
-        sink_fails: true,
-        status: 5,
-        written: "",
-    },
-];
+// What a run is given, and what it answers, writes and leaves of the image. None is left where the image is gone.
+struct Row {
+    given: Given,
+    status: u8,
+    written: &'static str,
+    left: Option<Patch>,
+}
+
+// A write across the border of two blocks of zeros, and a read round it; nothing fails.
+const FIRST: Given = Given {
+    words: &["plain"],
+    script: "disk a.img 512 1\nclient\nwrite 510 aabbccdd\nwait\nread 508 8\n",
+    image: Some(1024),
+    planned: &[],
+    images_fail: &[],
+    source_fails: &[],
+    sink_fails: &[],
+    star: "",
+    times: 0,
+};
+
+const UNCHANGED: Option<Patch> = Some(Patch { at: 0, bytes: &[] });
+
+const ALL_WRITTEN: Option<Patch> = Some(Patch {
+    at: 510,
+    bytes: &[0xaa, 0xbb, 0xcc, 0xdd],
+});
+
+// What a run answered, wrote and left.
+#[derive(Drop)]
+struct Ran {
+    status: u8,
+    sink: MemSink,
+    images: MemImages,
+}
 
 fn words_of(alloc: Global, words: &[&str]) -> Result<Vec<String>, AllocError> {
     let mut all = Vec::new(alloc);
@@ -141,62 +79,117 @@ fn words_of(alloc: Global, words: &[&str]) -> Result<Vec<String>, AllocError> {
     Ok(all)
 }
 
-// The list of the calls that fail: the first, or none.
-fn first_call(alloc: Global, fails: bool) -> Result<Vec<u64>, AllocError> {
-    match fails {
-        true => Ok(vec![in alloc; 0]?),
-        false => Ok(Vec::new(alloc)),
-    }
+// The text with its stars written out.
+fn without_stars(alloc: Global, text: &str, given: &Given) -> Result<String, AllocError> {
+    let star = given.star.repeat(alloc, given.times)?;
+    text.replace(alloc, '*', star.as_str())
 }
 
-// One image of zeros.
-fn images_of(alloc: Global) -> Result<MemImages, AllocError>
+fn images_of(alloc: Global, given: &Given) -> Result<MemImages, AllocError>
     ensures free { IfOk result (λ images. (name : List ℕ) → IsFree (images_at images name).place) }
 {
-    let mut images = MemImages::make(alloc, Vec::new(alloc));
-    images.add("a.img", &[0; 1024], Vec::new(alloc))?;
+    let failing = Vec::from_slice(alloc, given.images_fail)?;
+    let mut images = MemImages::make(alloc, failing);
+    let Some(length) = given.image else {
+        return Ok(images);
+    };
+    let bytes = vec![in alloc; 0; length]?;
+    let planned = Vec::from_slice(alloc, given.planned)?;
+    images.add("a.img", &bytes, planned)?;
     Ok(images)
 }
 
-#[test]
-fn runs_rows(rt: HostRuntime) -> Result<(), Fail> {
-    let alloc = rt.alloc();
-    for row in &ROWS {
-        let mut script = String::from_str(alloc, "disk a.img 512 1\nclient\n")?;
-        script.push_str(row.lines)?;
-        let mut source = MemSource::make(
-            Vec::from_slice(alloc, script.as_bytes())?,
-            Vec::new(alloc),
-        );
-        let mut images = images_of(alloc)?;
-        let mut sink = MemSink::make(alloc, Vec::new(alloc));
-        let words = vec![in alloc; String::from_str(alloc, "plain")?]?;
-        assert_eq!(rt;
-            run_plain(alloc, words.as_slice(), &mut source, &mut images, &mut sink),
-            0
-        );
-        let mut report = String::from_str(alloc, "disk 1 a.img size 512 blocks 2\n")?;
-        report.push_str(row.report)?;
-        report.push_str("medium 1 a.img kept 1024\n")?;
-        assert_eq!(rt; sink.bytes(), report.as_bytes());
-        let image = images.bytes_of("a.img").unwrap_or(&[]);
-        assert_eq!(rt; image.get(row.at..row.at + 4), Some(row.bytes.as_slice()));
+// Runs what is given, where these calls of the sink fail.
+fn run(alloc: Global, given: &Given, sink_fails: &[u64]) -> Result<Ran, AllocError> {
+    let script = without_stars(alloc, given.script, given)?;
+    let script = Vec::from_slice(alloc, script.as_bytes())?;
+    let failing = Vec::from_slice(alloc, given.source_fails)?;
+    let mut source = MemSource::make(script, failing);
+    let mut images = images_of(alloc, given)?;
+    let mut sink = MemSink::make(alloc, Vec::from_slice(alloc, sink_fails)?);
+    let words = words_of(alloc, given.words)?;
+    let status = run_plain(alloc, words.as_slice(), &mut source, &mut images, &mut sink);
+    Ok(Ran {
+        status,
+        sink,
+        images,
+    })
+}
+
+// An image of so many bytes, zero but for the patch.
+fn patched(alloc: Global, length: usize, patch: &Patch) -> Result<Vec<u8>, AllocError> {
+    let mut bytes = vec![in alloc; 0; patch.at]?;
+    bytes.extend_from_slice(patch.bytes)?;
+    bytes.resize(length, 0)?;
+    Ok(bytes)
+}
+
+// Runs the row of this place in its table, and compares what it says.
+fn compare(rt: &impl Abort, alloc: Global, place: usize, row: &Row) -> Result<(), AllocError> {
+    let given = &row.given;
+    let ran = run(alloc, given, given.sink_fails)?;
+    assert_eq!(rt; ran.status, row.status, "row {place}");
+    let written = without_stars(alloc, row.written, given)?;
+    assert_eq!(rt; ran.sink.bytes(), written.as_bytes(), "row {place}");
+    match &row.left {
+        Some(patch) => {
+            let image = patched(alloc, given.image.unwrap_or(0), patch)?;
+            let left = ran.images.bytes_of("a.img").unwrap_or(&[]);
+            assert_eq!(rt; left, image.as_slice(), "row {place}");
+        }
+        None => assert!(rt; ran.images.bytes_of("a.img").is_none(), "row {place}"),
+    }
+    Ok(())
+}
+
+fn compare_all(rt: &impl Abort, alloc: Global, rows: &[Row]) -> Result<(), AllocError> {
+    for (place, row) in rows.iter().enumerate() {
+        compare(rt, alloc, place, row)?;
     }
     Ok(())
 }
 
 #[test]
+fn runs_rows(rt: HostRuntime) -> Result<(), Fail> {
+    compare_all(&rt, rt.alloc(), &ROWS)?;
+    Ok(())
+}
+
+#[test]
+fn tells_faults_of_the_medium(rt: HostRuntime) -> Result<(), Fail> {
+    compare_all(&rt, rt.alloc(), &FAULTS)?;
+    Ok(())
+}
+
+#[test]
 fn refuses_rows(rt: HostRuntime) -> Result<(), Fail> {
+    compare_all(&rt, rt.alloc(), &REFUSALS)?;
+    Ok(())
+}
+
+// Two reads of 131,072 digits each.
+const LONG: Given = Given {
+    script: "disk a.img 512 1\nclient\nread 0 65536\nread 0 65536\n",
+    image: Some(65536),
+    ..FIRST
+};
+
+// The line of the disk, a piece that ends with each of the two tokens, and the line of the medium.
+const PIECES: u64 = 4;
+
+#[test]
+fn writes_a_front_where_the_sink_fails(rt: HostRuntime) -> Result<(), Fail> {
     let alloc = rt.alloc();
-    for row in &REFUSALS {
-        let script = Vec::from_slice(alloc, row.script.as_bytes())?;
-        let mut source = MemSource::make(script, first_call(alloc, row.source_fails)?);
-        let mut images = images_of(alloc)?;
-        let mut sink = MemSink::make(alloc, first_call(alloc, row.sink_fails)?);
-        let words = words_of(alloc, row.words)?;
-        let status = run_plain(alloc, words.as_slice(), &mut source, &mut images, &mut sink);
-        assert_eq!(rt; status, row.status);
-        assert_eq!(rt; sink.bytes(), row.written.as_bytes());
+    let whole = run(alloc, &LONG, &[PIECES])?;
+    assert_eq!(rt; whole.status, 0);
+    let report = whole.sink.bytes();
+    assert!(rt; 200 << 10 < report.len());
+    for call in 0..PIECES {
+        let ran = run(alloc, &LONG, &[call])?;
+        assert_eq!(rt; ran.status, 5);
+        let front = ran.sink.bytes();
+        assert!(rt; front.len() < report.len());
+        assert_eq!(rt; report.get(..front.len()), Some(front));
     }
     Ok(())
 }

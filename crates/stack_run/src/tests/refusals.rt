@@ -1,0 +1,126 @@
+use super::{ALL_WRITTEN, FIRST, Given, Row, UNCHANGED};
+
+/// Runs that end without their report.
+pub const REFUSALS: [Row; 13] = [
+    Row {
+        given: Given {
+            words: &[],
+            ..FIRST
+        },
+        status: 1,
+        written: "words\n",
+        left: UNCHANGED,
+    },
+    Row {
+        given: Given {
+            words: &["plain", "plain"],
+            ..FIRST
+        },
+        status: 1,
+        written: "words\n",
+        left: UNCHANGED,
+    },
+    Row {
+        given: Given {
+            words: &["probe"],
+            ..FIRST
+        },
+        status: 1,
+        written: "words\n",
+        left: UNCHANGED,
+    },
+    Row {
+        given: Given {
+            words: &["-h"],
+            ..FIRST
+        },
+        status: 1,
+        written: "words\n",
+        left: UNCHANGED,
+    },
+    Row {
+        given: Given {
+            script: "",
+            ..FIRST
+        },
+        status: 2,
+        written: "script\n",
+        left: UNCHANGED,
+    },
+    Row {
+        given: Given {
+            script: "disk b.img 512 1\nclient\nwrite 510 aabbccdd\n",
+            ..FIRST
+        },
+        status: 3,
+        written: "image b.img\n",
+        left: UNCHANGED,
+    },
+    Row {
+        given: Given {
+            image: None,
+            ..FIRST
+        },
+        status: 3,
+        written: "image a.img\n",
+        left: None,
+    },
+    Row {
+        given: Given {
+            image: Some(511),
+            ..FIRST
+        },
+        status: 3,
+        written: "image a.img\n",
+        left: UNCHANGED,
+    },
+    // The image could not be taken.
+    Row {
+        given: Given {
+            images_fail: &[0],
+            ..FIRST
+        },
+        status: 3,
+        written: "image a.img\n",
+        left: UNCHANGED,
+    },
+    // It could not be put back.
+    Row {
+        given: Given {
+            images_fail: &[1],
+            ..FIRST
+        },
+        status: 3,
+        written: "image a.img\n",
+        left: None,
+    },
+    // The source failed before its first byte, and at its end.
+    Row {
+        given: Given {
+            source_fails: &[0],
+            ..FIRST
+        },
+        status: 4,
+        written: "source\n",
+        left: UNCHANGED,
+    },
+    Row {
+        given: Given {
+            source_fails: &[1],
+            ..FIRST
+        },
+        status: 4,
+        written: "source\n",
+        left: UNCHANGED,
+    },
+    // The image is put back before the report is written.
+    Row {
+        given: Given {
+            sink_fails: &[0],
+            ..FIRST
+        },
+        status: 5,
+        written: "",
+        left: ALL_WRITTEN,
+    },
+];
