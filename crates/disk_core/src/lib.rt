@@ -9,6 +9,8 @@ mod moving;
 mod record;
 mod stepping;
 mod submitting;
+#[cfg(test)]
+mod tests;
 mod units;
 
 pub use answers::{Ask, Done, MediumBack, NotThere, Refused, Step, Token, Why};
