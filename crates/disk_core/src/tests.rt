@@ -112,6 +112,26 @@ const ROWS: [Row; 3] = [
     },
 ];
 
+// The bytes that are written over the border of two blocks, and those round it that are read back.
+const WRITTEN: [u8; 4] = [0xaa, 0xbb, 0xcc, 0xdd];
+
+const ROUND: [u8; 8] = [0, 0, 0xaa, 0xbb, 0xcc, 0xdd, 0, 0];
+
+// What then has happened, where a read past the end was refused at last.
+const ALL: [Seen; 11] = [
+    Seen::Accept,
+    Seen::Done(0, Command::Fetch { block: 0 }),
+    Seen::Done(0, Command::Store { block: 0 }),
+    Seen::Done(0, Command::Fetch { block: 1 }),
+    Seen::Done(0, Command::Store { block: 1 }),
+    Seen::Collect(0),
+    Seen::Accept,
+    Seen::Done(1, Command::Get { block: 0, count: 1 }),
+    Seen::Done(1, Command::Get { block: 1, count: 1 }),
+    Seen::Collect(1),
+    Seen::Refuse(Status::InvalidParameter),
+];
+
 fn view_of(length: u64) -> View {
     View {
         start: 0,
@@ -197,7 +217,7 @@ fn answers_each_call(rt: HostRuntime) -> Result<(), Fail> {
     let alloc = rt.alloc();
     let mut disk = disk_over(alloc, zeros(alloc, 2)?)?;
     let view = view_of(1_024);
-    let buffer = vec![in alloc; 0xaa, 0xbb, 0xcc, 0xdd]?;
+    let buffer = Vec::from_slice(alloc, &WRITTEN)?;
     let write = disk.submit(1, &view, 1, Ask::Write { at: 510, buffer });
     assert_eq!(rt; write.map_err(why)?, Token { number: 0 });
     assert_eq!(rt; disk.step(), Step::Fetched);
@@ -206,10 +226,7 @@ fn answers_each_call(rt: HostRuntime) -> Result<(), Fail> {
     for step in [Step::Did, Step::Fetched, Step::Did, Step::Drained] {
         assert_eq!(rt; disk.step(), step);
     }
-    assert_eq!(rt;
-        disk.collect(1, 0)?.buffer.as_slice(),
-        [0xaa, 0xbb, 0xcc, 0xdd].as_slice()
-    );
+    assert_eq!(rt; disk.collect(1, 0)?.buffer.as_slice(), WRITTEN.as_slice());
     assert_eq!(rt; disk.collect(1, 0).err(), Some(NotThere::Unknown));
     let buffer = vec![in alloc; 7; 8]?;
     let read = disk.submit(1, &view, 1, Ask::Read { at: 508, buffer });
@@ -217,36 +234,17 @@ fn answers_each_call(rt: HostRuntime) -> Result<(), Fail> {
     for step in [Step::Did, Step::Did, Step::Drained] {
         assert_eq!(rt; disk.step(), step);
     }
-    assert_eq!(rt;
-        disk.collect(1, 1)?.buffer.as_slice(),
-        [0, 0, 0xaa, 0xbb, 0xcc, 0xdd, 0, 0].as_slice()
-    );
+    assert_eq!(rt; disk.collect(1, 1)?.buffer.as_slice(), ROUND.as_slice());
     let buffer = vec![in alloc; 7; 2]?;
     let past = disk.submit(1, &view, 1, Ask::Read { at: 1_023, buffer });
     assert_eq!(rt;
         past.map_err(why).err(),
         Some(Why::Status(Status::InvalidParameter))
     );
-    let wanted = [
-        Seen::Accept,
-        Seen::Done(0, Command::Fetch { block: 0 }),
-        Seen::Done(0, Command::Store { block: 0 }),
-        Seen::Done(0, Command::Fetch { block: 1 }),
-        Seen::Done(0, Command::Store { block: 1 }),
-        Seen::Collect(0),
-        Seen::Accept,
-        Seen::Done(1, Command::Get { block: 0, count: 1 }),
-        Seen::Done(1, Command::Get { block: 1, count: 1 }),
-        Seen::Collect(1),
-        Seen::Refuse(Status::InvalidParameter),
-    ];
-    assert!(rt; tells(disk.history(), &wanted));
+    assert!(rt; tells(disk.history(), &ALL));
     assert_eq!(rt; disk.medium().blocks(), 2);
     let (medium, history) = disk.into_medium();
-    assert!(rt; tells(&history, &wanted));
-    assert_eq!(rt;
-        medium.into_bytes()?.get(508..516),
-        Some([0, 0, 0xaa, 0xbb, 0xcc, 0xdd, 0, 0].as_slice())
-    );
+    assert!(rt; tells(&history, &ALL));
+    assert_eq!(rt; medium.into_bytes()?.get(508..516), Some(ROUND.as_slice()));
     Ok(())
 }
