@@ -1,40 +1,22 @@
 -- A disk that accepts a request.
-use Rattle.std.proofs.Common.{◌≡◌, ◌≢◌, ℕ, zero, suc, ◌+◌, ◌-◌, ◌*◌, ◌^◌, ◌<◌, ◌≤◌, ◌⊎◌, inl, inr, Bool, true, false, not, ◌&&◌, ◌||◌, List, [], ◌∷◌, ◌++◌, slice_get, length, map, Option, None, Some, refl, sym, ◌∙◌, ap, arith, nat_eq, nat_lt, if◌then◌else◌, length-append}
-use Rattle.std.proofs.lemmas.Bool.{cases_eq, cases_lt, cases_order, eq-eqb, ne_eqb, le-ltb, lt-ltb, ltb-false, eqb-true, and_parts, or_parts}
-use Rattle.efi_status.specs.declared.Status.{Status}
+use Rattle.std.proofs.Common.{◌≡◌, ℕ, zero, suc, ◌+◌, ◌-◌, ◌*◌, ◌≤◌, ◌⊎◌, inl, inr, Bool, true, false, not, ◌&&◌, ◌||◌, List, [], ◌∷◌, ◌++◌, slice_get, length, None, Some, refl, sym, ◌∙◌, ap, arith, nat_eq, nat_lt, if◌then◌else◌}
+use Rattle.std.proofs.lemmas.Bool.{cases_eq, eq-eqb, ne_eqb, ltb-false, eqb-true, and_parts, or_parts}
 use Rattle.efi_status.specs.declared.Status.TheVariants.{Success, InvalidParameter, MediaChanged, WriteProtected}
-use Rattle.disk_split.specs.declared.span.Span.{Span}
-use Rattle.disk_split.specs.Units.{Tile, units_of}
-use Rattle.disk_split.proofs.Tiling.{tile-units}
-use Rattle.medium.specs.Device.{Device, StayPrepared, AreToldAt}
+use Rattle.disk_split.specs.Units.{units_of}
 use Rattle.history.specs.declared.entry.View.{View}
 use Rattle.history.specs.declared.entry.Asked.{Asked}
-use Rattle.history.specs.declared.entry.Kind.{Kind}
-use Rattle.history.specs.declared.entry.Kind.TheVariants.{Read, Write, Flush}
 use Rattle.history.specs.declared.entry.UnitKind.TheVariants.{Bytes}
 use Rattle.history.specs.declared.entry.Entry.{Entry}
 use Rattle.history.specs.declared.entry.Entry.TheVariants.{Accept}
 use Rattle.history.specs.Setup.{Setup, blocks_of}
-use Rattle.history.specs.Eras.{ejects, inserts, is_protected, is_present, media_id_of}
-use Rattle.history.specs.Tokens.{Request, accepted, request, was_collected, is_flush, is_write, from_of, until_of}
-use Rattle.history.specs.Contents.{contents, bytes_read}
-use Rattle.history.specs.Marks.{mark_of, ending, or_else, status_if, is_moved, is_complete, all_from, was_fetched, was_stored, Holds}
-use Rattle.history.specs.Rules.{IsLegal, MayFollow, MayAccept, IsPayload, refusal_of, range_refusal, is_outside}
-use Rattle.history.specs.Room.{owed_entries, token_owed, tokens_owed, media_owed, owed_by, commands_owed, spans_owed}
+use Rattle.history.specs.Tokens.{accepted, request, is_flush, is_write, from_of}
+use Rattle.history.specs.Marks.{mark_of, ending, status_if, is_moved, is_complete, all_from}
+use Rattle.history.specs.Rules.{IsLegal, refusal_of}
 use Rattle.disk_core.specs.declared.record.Record.{Record}
-use Rattle.disk_core.specs.declared.record.Core.{Core}
-use Rattle.disk_core.specs.State.{setup_of, Meets, AreGiven}
-use Rattle.disk_core.specs.Sound.{IsSound, IsPlain, IsGate, AreReady, Tracks, low_or}
-use Rattle.disk_core.specs.Submitting.{plain_refusal, is_beyond, cost_of, payload_of, AreReadyFor, IsMoving}
+use Rattle.disk_core.specs.Sound.{IsPlain}
+use Rattle.disk_core.specs.Submitting.{plain_refusal, is_beyond, IsMoving}
 use Rattle.disk_core.proofs.Born.{IsUnborn, unborn}
-use Rattle.disk_core.proofs.Costs.{spans-few}
-use Rattle.disk_core.proofs.Gates.{open-before}
 use Rattle.disk_core.proofs.Moved.{all_from-false}
-use Rattle.disk_core.proofs.Owed.{tokens-same}
-use Rattle.disk_core.proofs.Places.{inside-some}
-use Rattle.disk_core.proofs.Quiet.{accept-quiet, meets-quiet, plain-quiet, quiet-contents}
-use Rattle.disk_core.proofs.Silence.{IsSilent, accept-silent}
-use Rattle.disk_core.proofs.Tracked.{tracks-silent}
 
 -- where medium 1 is in and not protected, a request for bytes is refused by its medium id and its range
 pub refusal-is : (S : Setup) (H : List Entry) (view : View) (media_id : ℕ) (asked : Asked) → IsPlain S H → is_flush asked.kind ≡ false → asked.unit ≡ Bytes
@@ -93,11 +75,6 @@ last-or (y ∷ records) r x (suc t) is = elim (last-or records r x t is) [
   | inl before ↦ inl before
   | inr (same, one) ↦ inr (ap suc same, one)
 ]
-
-pub before-last : (records : List Record) (r x : Record) (t : ℕ) → slice_get records t ≡ Some x → slice_get (records ++ (r ∷ [])) t ≡ Some x
-before-last [] r x t is = cc
-before-last (y ∷ records) r x zero is = is
-before-last (y ∷ records) r x (suc t) is = before-last records r x t is
 
 -- what a new record has
 pub record IsNew (S : Setup) (asked : Asked) (view : View) (buffer : List ℕ) (r : Record) : Type 0 where

@@ -1,14 +1,14 @@
 -- A disk whose first open record is sought further on.
-use Rattle.std.proofs.Common.{◌≡◌, ◌≢◌, ℕ, ◌+◌, ◌*◌, ◌<◌, ◌≤◌, ◌⊎◌, inl, inr, Bool, true, false, List, [], ◌∷◌, slice_get, length, Option, None, Some, refl, sym, ◌∙◌, ap, arith}
+use Rattle.std.proofs.Common.{◌≡◌, ◌≢◌, ℕ, ◌<◌, ◌≤◌, inl, inr, slice_get, length, None, Some, sym, ◌∙◌, arith}
 use Rattle.std.proofs.lemmas.Bool.{cases_order}
 use Rattle.medium.specs.Device.{Device}
 use Rattle.history.specs.Setup.{Setup}
-use Rattle.history.specs.Tokens.{Request, accepted}
+use Rattle.history.specs.Tokens.{Request}
 use Rattle.history.specs.Marks.{mark_of, Holds}
 use Rattle.history.specs.Next.{first_open}
 use Rattle.disk_core.specs.declared.record.Record.{Record}
 use Rattle.disk_core.specs.declared.record.Core.{Core}
-use Rattle.disk_core.specs.Sound.{IsSound, IsGate, Tracks}
+use Rattle.disk_core.specs.Sound.{IsSound, Tracks}
 use Rattle.disk_core.proofs.NextTurn.{first-open-none}
 use Rattle.disk_core.proofs.Places.{some-inside}
 use Rattle.disk_core.proofs.Turned.{none-before}
@@ -59,6 +59,7 @@ advance S d prepared c n sound from within ended = record {
   ready = sound.ready;
   few = sound.few;
   room = sound.room;
+  spent = sound.spent;
 }
 
 -- where all records have ended, no token is outstanding

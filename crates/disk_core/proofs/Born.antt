@@ -1,6 +1,6 @@
 -- What a legal history says of a token that is not yet accepted: nothing.
-use Rattle.std.proofs.Common.{◌≡◌, ◌≢◌, ℕ, ◌+◌, ◌<◌, ◌≤◌, ◌⊎◌, inl, inr, Bool, true, false, ◌&&◌, List, [], ◌∷◌, Option, None, Some, is_some, refl, sym, ◌∙◌, ap, arith, nat_lt}
-use Rattle.std.proofs.lemmas.Bool.{ne_eqb, le-ltb, cases_lt}
+use Rattle.std.proofs.Common.{◌≡◌, ℕ, ◌<◌, ◌≤◌, Bool, true, false, ◌&&◌, List, [], ◌∷◌, Option, None, is_some, refl, ◌∙◌, arith}
+use Rattle.std.proofs.lemmas.Bool.{le-ltb}
 use Rattle.efi_status.specs.declared.Status.{Status}
 use Rattle.efi_status.specs.declared.Status.TheVariants.{WriteProtected}
 use Rattle.history.specs.declared.entry.Command.{Command}
@@ -10,9 +10,10 @@ use Rattle.history.specs.declared.entry.Entry.TheVariants.{Accept, Refuse, Done,
 use Rattle.history.specs.Setup.{Setup}
 use Rattle.history.specs.Tokens.{accepted, request, was_collected}
 use Rattle.history.specs.Contents.{bytes_read}
-use Rattle.history.specs.Marks.{mark_of, ending, or_else, status_if, is_moved, was_fetched, was_stored, was_put, was_got, Holds, has_view, is_some_write}
+use Rattle.history.specs.Marks.{mark_of, ending, status_if, is_moved, was_fetched}
+use Rattle.history.specs.Room.{commands_of}
 use Rattle.history.specs.Rules.{IsLegal, MayFollow, MayCommand}
-use Rattle.disk_core.proofs.Silence.{IsSilent, or_else-none, done-silent, fault-silent, collect-silent, refuse-silent, accept-silent}
+use Rattle.disk_core.proofs.Silence.{IsSilent, done-silent, fault-silent, collect-silent, refuse-silent, accept-silent}
 
 pub record IsUnborn (S : Setup) (H : List Entry) (t : ℕ) : Type 0 where
   pub unnamed : request H t ≡ None
@@ -21,10 +22,11 @@ pub record IsUnborn (S : Setup) (H : List Entry) (t : ℕ) : Type 0 where
   pub uncollected : was_collected H t ≡ false
   pub unread : (x : ℕ) → bytes_read S H t x ≡ None
   pub unfetched : (b : ℕ) → was_fetched H t b ≡ false
+  pub uncommanded : commands_of H t ≡ 0
 
 unborn-none : (S : Setup) (t : ℕ) → IsUnborn S [] t
-unfolding request mark_of is_moved was_collected bytes_read was_fetched
-unborn-none S t = record { unnamed = refl; unmarked = refl; unmoved = λ x. refl; uncollected = refl; unread = λ x. refl; unfetched = λ b. refl }
+unfolding request mark_of is_moved was_collected bytes_read was_fetched commands_of
+unborn-none S t = record { unnamed = refl; unmarked = refl; unmoved = λ x. refl; uncollected = refl; unread = λ x. refl; unfetched = λ b. refl; uncommanded = refl }
 
 unborn-silent : (S : Setup) (H : List Entry) (e : Entry) (t : ℕ) → IsSilent S H e t → IsUnborn S H t → IsUnborn S (e ∷ H) t
 unborn-silent S H e t silent unborn = record {
@@ -34,6 +36,7 @@ unborn-silent S H e t silent unborn = record {
   uncollected = silent.collected ∙ unborn.uncollected;
   unread = λ x. silent.given x ∙ unborn.unread x;
   unfetched = λ b. silent.fetched b ∙ unborn.unfetched b;
+  uncommanded = silent.counted ∙ unborn.uncommanded;
 }
 
 -- a command is made for an accepted token
@@ -47,19 +50,20 @@ commanded S H t Sync (r, may) = may.outstanding.token
 
 -- the entries of the drive end no token that is not there
 cancelled : (S : Setup) (H : List Entry) (e : Entry) (t : ℕ) → IsUnborn S H t → accepted H ≤ t → ending S.size H e t ≡ None → request (e ∷ H) t ≡ request H t → ((x : ℕ) → is_moved S.size (e ∷ H) t x ≡ is_moved S.size H t x)
-    → was_collected (e ∷ H) t ≡ was_collected H t → ((x : ℕ) → bytes_read S (e ∷ H) t x ≡ bytes_read S H t x) → ((b : ℕ) → was_fetched (e ∷ H) t b ≡ was_fetched H t b) → IsUnborn S (e ∷ H) t
+    → was_collected (e ∷ H) t ≡ was_collected H t → ((x : ℕ) → bytes_read S (e ∷ H) t x ≡ bytes_read S H t x) → ((b : ℕ) → was_fetched (e ∷ H) t b ≡ was_fetched H t b) → commands_of (e ∷ H) t ≡ commands_of H t → IsUnborn S (e ∷ H) t
 unfolding mark_of
-cancelled S H e t unborn past ends named moved collected read fetched = record {
+cancelled S H e t unborn past ends named moved collected read fetched counted = record {
   unnamed = named ∙ unborn.unnamed;
   unmarked = rw (unborn.unmarked, ends);
   unmoved = λ x. moved x ∙ unborn.unmoved x;
   uncollected = collected ∙ unborn.uncollected;
   unread = λ x. read x ∙ unborn.unread x;
   unfetched = λ b. fetched b ∙ unborn.unfetched b;
+  uncommanded = counted ∙ unborn.uncommanded;
 }
 
 pub unborn : (S : Setup) (H : List Entry) (t : ℕ) → IsLegal S H → accepted H ≤ t → IsUnborn S H t
-unfolding IsLegal MayFollow accepted request is_moved was_collected bytes_read was_fetched ending
+unfolding IsLegal MayFollow accepted request is_moved was_collected bytes_read was_fetched commands_of ending
 unborn S [] t legal past = unborn-none S t
 unborn S (Accept tag view asked bytes ∷ H) t (legal, may) past =
     unborn-silent S H (Accept tag view asked bytes) t (accept-silent S H tag view asked bytes t (λ same. absurd (omega arith))) (unborn S H t legal (omega arith))
@@ -78,15 +82,15 @@ unborn S (Collect tag u ∷ H) t (legal, may) past =
         clash : false ≡ true → ⊥
         clash e = cc
 unborn S (Cancel tag view ∷ H) t (legal, may) past =
-    cancelled S H (Cancel tag view) t (unborn S H t legal past) past (rw (unborn S H t legal past).unnamed) refl (λ x. refl) refl (λ x. refl) (λ b. refl)
+    cancelled S H (Cancel tag view) t (unborn S H t legal past) past (rw (unborn S H t legal past).unnamed) refl (λ x. refl) refl (λ x. refl) (λ b. refl) refl
 unborn S (Reset tag ∷ H) t (legal, may) past =
-    cancelled S H (Reset tag) t (unborn S H t legal past) past (rw (le-ltb t (accepted H) past)) refl (λ x. refl) refl (λ x. refl) (λ b. refl)
+    cancelled S H (Reset tag) t (unborn S H t legal past) past (rw (le-ltb t (accepted H) past)) refl (λ x. refl) refl (λ x. refl) (λ b. refl) refl
 unborn S (Eject tag ∷ H) t (legal, may) past =
-    cancelled S H (Eject tag) t (unborn S H t legal past) past (rw (le-ltb t (accepted H) past)) refl (λ x. refl) refl (λ x. refl) (λ b. refl)
+    cancelled S H (Eject tag) t (unborn S H t legal past) past (rw (le-ltb t (accepted H) past)) refl (λ x. refl) refl (λ x. refl) (λ b. refl) refl
 unborn S (Insert tag media_id ∷ H) t (legal, may) past =
-    cancelled S H (Insert tag media_id) t (unborn S H t legal past) past refl refl (λ x. refl) refl (λ x. refl) (λ b. refl)
+    cancelled S H (Insert tag media_id) t (unborn S H t legal past) past refl refl (λ x. refl) refl (λ x. refl) (λ b. refl) refl
 unborn S (Protect tag on ∷ H) t (legal, may) past =
-    cancelled S H (Protect tag on) t (unborn S H t legal past) past (rw (unborn S H t legal past).unnamed (off on)) refl (λ x. refl) refl (λ x. refl) (λ b. refl)
+    cancelled S H (Protect tag on) t (unborn S H t legal past) past (rw (unborn S H t legal past).unnamed (off on)) refl (λ x. refl) refl (λ x. refl) (λ b. refl) refl
   where
     off : (on : Bool) → status_if (on && false) WriteProtected ≡ None
     off true = refl

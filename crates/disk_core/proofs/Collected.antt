@@ -1,5 +1,5 @@
 -- A disk that hands a request back.
-use Rattle.std.proofs.Common.{◌≡◌, ◌≢◌, ℕ, ◌+◌, ◌*◌, ◌^◌, ◌<◌, ◌≤◌, inl, inr, Bool, true, false, ◌||◌, List, [], ◌∷◌, set, slice_get, length, Option, None, Some, is_some, refl, sym, ◌∙◌, ap, arith, nat_eq}
+use Rattle.std.proofs.Common.{◌≡◌, ℕ, ◌+◌, ◌<◌, ◌≤◌, inl, inr, true, false, List, ◌∷◌, slice_get, None, Some, is_some, refl, sym, ◌∙◌, ap, arith}
 use Rattle.std.proofs.lemmas.Bool.{cases_eq, eq-eqb}
 use Rattle.efi_status.specs.declared.Status.{Status}
 use Rattle.medium.specs.Device.{Device}
@@ -8,23 +8,23 @@ use Rattle.history.specs.declared.entry.Entry.TheVariants.{Collect}
 use Rattle.history.specs.Setup.{Setup}
 use Rattle.history.specs.Eras.{ejects, inserts, is_protected}
 use Rattle.history.specs.Tokens.{Request, accepted, request, was_collected}
-use Rattle.history.specs.Contents.{contents, bytes_read}
-use Rattle.history.specs.Marks.{mark_of, ending, or_else, is_moved, was_fetched, was_stored, Holds}
-use Rattle.history.specs.Rules.{IsLegal, MayFollow}
-use Rattle.history.specs.Room.{token_owed, owed_by}
+use Rattle.history.specs.Contents.{bytes_read}
+use Rattle.history.specs.Marks.{mark_of, ending, is_moved, was_fetched, was_stored, Holds}
+use Rattle.history.specs.Rules.{MayFollow}
+use Rattle.history.specs.Room.{commands_of, token_owed}
 use Rattle.disk_core.specs.declared.record.Record.{Record}
 use Rattle.disk_core.specs.declared.record.Core.{Core}
 use Rattle.disk_core.specs.Bookkeeping.{HandsBack}
 use Rattle.disk_core.specs.Sound.{IsSound, Tracks, IsGate}
 use Rattle.disk_core.proofs.Gates.{open-before}
-use Rattle.disk_core.proofs.Places.{get-set-other, get-set-same, inside-some}
+use Rattle.disk_core.proofs.Places.{get-set-other, inside-some}
 use Rattle.disk_core.proofs.Quiet.{meets-quiet, quiet-contents, collect-quiet}
-use Rattle.disk_core.proofs.Silence.{IsSilent, collect-silent, or_else-none}
-use Rattle.disk_core.proofs.Stepped.{IsOwn, Leaves, sound-after, owed-falls}
+use Rattle.disk_core.proofs.Silence.{collect-silent, or_else-none}
+use Rattle.disk_core.proofs.Stepped.{IsOwn, sound-after, owed-falls}
 
 collect-own : (S : Setup) (H : List Entry) (tag t : ℕ) → IsOwn S H (Collect tag t) t
-unfolding accepted ejects inserts is_protected
-collect-own S H tag t = record { silent = λ u ne. collect-silent S H tag t u ne; same_accepted = refl; same_ejects = refl; same_inserts = refl; same_protection = refl }
+unfolding accepted request ejects inserts is_protected commands_of
+collect-own S H tag t = record { silent = λ u ne. collect-silent S H tag t u ne; same_accepted = refl; same_requests = λ u. refl; one = omega arith; same_ejects = refl; same_inserts = refl; same_protection = refl }
 
 may-collect : (S : Setup) (H : List Entry) (tag t : ℕ) (status : Status) → mark_of S.size H t ≡ Some status → was_collected H t ≡ false → MayFollow S H (Collect tag t)
 unfolding MayFollow
@@ -60,6 +60,10 @@ tracks-collect S H tag t r r' q c c' status tracks ended back = record {
 collected-owed : (S : Setup) (H : List Entry) (tag t : ℕ) (q : Request) (status : Status) → request H t ≡ Some q → mark_of S.size H t ≡ Some status → was_collected H t ≡ false → token_owed S.size (Collect tag t ∷ H) t + 1 ≤ token_owed S.size H t
 unfolding token_owed request mark_of ending was_collected
 collected-owed S H tag t q status named marked uncollected = rw (named, marked, uncollected, eq-eqb t t refl) (omega arith)
+
+commands-collect : (H : List Entry) (tag t : ℕ) → commands_of (Collect tag t ∷ H) t ≡ commands_of H t
+unfolding commands_of
+commands-collect H tag t = refl
 
 -- a collected token held nothing
 collect-holds : (S : Setup) (H : List Entry) (tag t u b : ℕ) (status : Status) → mark_of S.size H t ≡ Some status → Holds S.size (Collect tag t ∷ H) u b → Holds S.size H u b
@@ -114,6 +118,7 @@ collected-sound S d prepared c c' tag t r r' q status sound was tracks ended kep
       tracks = tracks-collect S H tag t r r' q c c' status tracks ended back;
       gate = collect-gate S d prepared c c' tag t r r' status sound was marked back;
       owed = collected-owed S H tag t q status tracks.named marked uncollected;
+      spent = inl (commands-collect H tag t);
       becomes = record { units = rw back.units refl; kind = back.kind; unended = λ open_. sym back.status ∙ open_ };
     })
 

@@ -1,6 +1,7 @@
 -- What the units of a request cost.
-use Rattle.std.proofs.Common.{◌≡◌, ℕ, zero, suc, ◌+◌, ◌*◌, ◌<◌, ◌≤◌, Bool, true, false, List, [], ◌∷◌, length, drop, get_or, refl, sym, ◌∙◌, ap, arith, slice_get, Some}
+use Rattle.std.proofs.Common.{◌≡◌, ℕ, zero, suc, ◌+◌, ◌/◌, ◌<◌, ◌≤◌, Bool, true, false, nat_lt, if◌then◌else◌, List, [], ◌∷◌, ◌++◌, length, drop, get_or, refl, arith}
 use Rattle.disk_split.specs.declared.span.Span.{Span}
+use Rattle.disk_split.specs.Units.{up, whole_of, part_in, runs_from, middle, whole_end, units_of}
 use Rattle.history.specs.declared.entry.Kind.{Kind}
 use Rattle.history.specs.declared.entry.Kind.TheVariants.{Read, Write, Flush}
 use Rattle.history.specs.declared.entry.Entry.{Entry}
@@ -53,3 +54,42 @@ pub spans-few : (kind : Kind) (H : List Entry) (t : ℕ) (us : List Span) → sp
 unfolding spans_owed cost_of
 spans-few kind H t [] = omega arith
 spans-few kind H t (u ∷ us) = omega (arith, span-few kind H t u.whole u.block, spans-few kind H t us)
+
+run-cost : (kind : Kind) → unit_cost kind true ≡ 1
+run-cost Read = refl
+run-cost Write = refl
+run-cost Flush = refl
+
+cost-append : (kind : Kind) (us vs : List Span) → cost_of kind (us ++ vs) ≡ cost_of kind us + cost_of kind vs
+unfolding cost_of
+cost-append kind [] vs = omega arith
+cost-append kind (u ∷ us) vs = omega (arith, cost-append kind us vs)
+
+cost-part : (kind : Kind) (size a m : ℕ) → cost_of kind (part_in size a m) ≤ 2
+unfolding cost_of
+cost-part kind size a m = by (nat_lt a m)
+  where
+    by : (some : Bool) → cost_of kind (if some then record { whole = false; block = a / size; count = 1; low = a; high = m } ∷ [] else []) ≤ 2
+    by true = omega (arith, unit-cost-few kind false)
+    by false = omega arith
+
+cost-runs : (kind : Kind) (size first whole n i : ℕ) → cost_of kind (runs_from size first whole n i) ≡ n
+unfolding cost_of runs_from
+cost-runs kind size first whole zero i = refl
+cost-runs kind size first whole (suc n) i = omega (arith, run-cost kind, cost-runs kind size first whole n (i + 1))
+
+-- a range costs one command for each of its runs and at most two for each of its two parts
+pub cost-few : (kind : Kind) (size a z : ℕ) → cost_of kind (units_of size a z) ≤ (whole_of size a z + 63) / 64 + 4
+unfolding units_of
+cost-few kind size a z =
+    let runs : List Span = runs_from size (up size a) (whole_of size a z) ((whole_of size a z + 63) / 64) 0 in
+    let first : List Span = part_in size a (middle size a z) in
+    let last : List Span = part_in size (whole_end size a z) z in
+    omega (
+      arith,
+      cost-append kind first (runs ++ last),
+      cost-append kind runs last,
+      cost-part kind size a (middle size a z),
+      cost-runs kind size (up size a) (whole_of size a z) ((whole_of size a z + 63) / 64) 0,
+      cost-part kind size (whole_end size a z) z,
+    )

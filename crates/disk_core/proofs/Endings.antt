@@ -1,10 +1,8 @@
 -- How a command ends: what its end leaves, a failed command, and a done one of a write.
-use Rattle.std.proofs.Common.{◌≡◌, ◌≢◌, ℕ, zero, suc, ◌+◌, ◌-◌, ◌*◌, ◌^◌, ◌<◌, ◌≤◌, min, max, Bool, true, false, List, [], ◌∷◌, slice_get, set, length, Option, None, Some, Result, Ok, Err, refl, sym, ◌∙◌, ap, arith, if◌then◌else◌, get_or}
-use Rattle.byte_lists.specs.Patching.{patch}
-use Rattle.byte_lists.proofs.Patched.{length-patch}
+use Rattle.std.proofs.Common.{inr, ◌≡◌, ℕ, ◌+◌, ◌^◌, ◌<◌, ◌≤◌, Bool, true, false, List, ◌∷◌, slice_get, set, length, Option, None, Some, Ok, Err, refl, sym, ◌∙◌, ap, arith, if◌then◌else◌, get_or}
 use Rattle.disk_split.specs.declared.span.Span.{Span}
 use Rattle.medium.specs.declared.block_failed.BlockFailed.{BlockFailed}
-use Rattle.medium.specs.Device.{Device, IsShaped, IsCommand, StayPrepared, AreToldAt, failures}
+use Rattle.medium.specs.Device.{Device, IsShaped, IsCommand, StayPrepared}
 use Rattle.history.specs.declared.entry.Kind.{Kind}
 use Rattle.history.specs.declared.entry.Kind.TheVariants.{Read, Write, Flush}
 use Rattle.history.specs.declared.entry.Command.{Command}
@@ -12,34 +10,31 @@ use Rattle.history.specs.declared.entry.Command.TheVariants.{Fetch, Store, Put, 
 use Rattle.history.specs.declared.entry.Entry.{Entry}
 use Rattle.history.specs.declared.entry.Entry.TheVariants.{Done, Fault}
 use Rattle.history.specs.Setup.{Setup}
-use Rattle.history.specs.Eras.{inserts}
-use Rattle.history.specs.Tokens.{Request, from_of, until_of}
+use Rattle.history.specs.Tokens.{Request}
 use Rattle.history.specs.Contents.{contents}
 use Rattle.history.specs.Contents.{lies_in}
-use Rattle.history.specs.Marks.{mark_of, Holds, moves}
+use Rattle.history.specs.Marks.{moves}
 use Rattle.history.specs.Room.{span_owed}
 use Rattle.history.specs.Rules.{MayFollow, MayCommand, StopsAt}
-use Rattle.history.specs.Next.{Turn, next_turn, Outcome, Made, Failed, entry_of}
+use Rattle.history.specs.Next.{next_turn, Made, Failed}
 use Rattle.disk_core.specs.declared.answers.Step.TheVariants as step
 use Rattle.disk_core.specs.declared.record.Record.{Record}
 use Rattle.disk_core.specs.declared.record.Core.{Core}
-use Rattle.disk_core.specs.State.{setup_of, Meets, AreGiven}
-use Rattle.disk_core.specs.Moving.{IsFilled, FillsFrom}
 use Rattle.disk_core.specs.Bookkeeping.{finished_record, failed_record}
-use Rattle.disk_core.specs.Sound.{IsSound, Tracks, IsGate}
+use Rattle.disk_core.specs.Sound.{IsSound, Tracks}
 use Rattle.disk_core.specs.Calls.{Fills, is_fetched}
 use Rattle.disk_core.specs.Stepping.{NextUnit, SameButBuffer, Stepped, buffers_of}
 use Rattle.disk_core.proofs.Facts.{next-of}
-use Rattle.disk_core.proofs.Followed.{contents-same, meets-command, is_get, is_fault, IsCommandEntry}
-use Rattle.disk_core.proofs.Gates.{NoneHeld, gate-none, none-held, none-after-get, none-after-fault}
-use Rattle.disk_core.proofs.Given.{given-get}
-use Rattle.disk_core.proofs.May.{IsNext, may-get, next-ungot}
-use Rattle.disk_core.proofs.Own.{done-owed, fault-owed, got-falls}
-use Rattle.disk_core.proofs.Places.{get-map, get-set-same}
-use Rattle.disk_core.proofs.Stepped.{Leaves, done-own, fault-own, owed-falls}
+use Rattle.disk_core.proofs.Followed.{meets-command, is_fault, IsCommandEntry}
+use Rattle.disk_core.proofs.Gates.{NoneHeld, gate-none, none-after-fault}
+use Rattle.disk_core.proofs.May.{IsNext}
+use Rattle.disk_core.proofs.Own.{done-owed, fault-owed}
+use Rattle.disk_core.proofs.Places.{get-set-same}
+use Rattle.disk_core.proofs.Spent.{next-owes}
+use Rattle.disk_core.proofs.Stepped.{done-own, fault-own, owed-falls}
 use Rattle.std.proofs.lemmas.Option.{get_or_from_slice_get, slice_get_read}
 use Rattle.disk_core.proofs.Tracked.{Finishes, tracks-unit, tracks-fault}
-use Rattle.disk_core.proofs.Turned.{did, turn-get, buffers-set, buffers-same}
+use Rattle.disk_core.proofs.Turned.{did, buffers-same}
 
 -- what the end of a command leaves of the disk, beside its medium
 pub record Ends (c c' : Core) (e : Entry) (r' : Record) : Type 0 where
@@ -77,9 +72,6 @@ tracks-same S H t r r' q same bytes tracks = record {
 
 pub read-write : Read ≡ Write → ⊥
 read-write e = cc
-
-pub some-list : (a b : List ℕ) → Some a ≡ Some b → a ≡ b
-some-list a b e = cc
 
 pub same-finishes : (r r' : Record) → SameButBuffer r r' → Finishes r (finished_record r')
 same-finishes r r' same = record {
@@ -145,6 +137,7 @@ faulted S d d' prepared prepared' c c' r r' q u command done failure sound stay 
       tracks = tracks-fault S H c.first command done r' q (tracks-same S H c.first r r' q same bytes tracks) (same.status ∙ is.unended);
       gate = gate-none S (Fault c.first command done ∷ H) c'.records.items c.first c'.block.items c'.held none ends.held;
       owed = fault-owed S.size H c.first command done q tracks.named (rw tracks.of_kind tracks.moving) (tracks.status ∙ is.unended);
+      spent = inr (next-owes S H c.first r q u is);
       becomes = record { units = rw same.units refl; kind = same.kind; unended = λ _. is.unended };
     })
     next refl
@@ -182,6 +175,7 @@ wrote S d d' prepared prepared' c c' r q u command sound stay is was writes made
       gate = gate-none S (Done c.first command ∷ H) c'.records.items c.first c'.block.items c'.held none ends.held;
       owed = done-owed S.size H c.first command q r.finished u tracks.named (rw tracks.of_kind tracks.moving) (tracks.status ∙ is.unended) (rw tracks.units at is.has.is)
           (rw (tracks.of_kind, writes) falls);
+      spent = inr (next-owes S H c.first r q u is);
       becomes = record { units = refl; kind = refl; unended = λ _. is.unended };
     })
     next refl

@@ -1,13 +1,13 @@
 -- How a token ends, or goes on, with an entry of its own.
-use Rattle.std.proofs.Common.{◌≡◌, ◌≢◌, ℕ, zero, suc, ◌+◌, ◌<◌, ◌≤◌, Bool, true, false, ◌&&◌, List, [], ◌∷◌, Option, None, Some, refl, sym, ◌∙◌, ap, arith, nat_lt}
-use Rattle.std.proofs.lemmas.Bool.{eq-eqb, lt-ltb, le-ltb}
+use Rattle.std.proofs.Common.{◌≡◌, ℕ, ◌<◌, ◌≤◌, true, false, List, ◌∷◌, None, Some, refl, ◌∙◌, ap, nat_lt}
+use Rattle.std.proofs.lemmas.Bool.{eq-eqb, lt-ltb}
 use Rattle.efi_status.specs.declared.Status.{Status}
 use Rattle.efi_status.specs.declared.Status.TheVariants.{Success, DeviceError}
 use Rattle.history.specs.declared.entry.Command.{Command}
 use Rattle.history.specs.declared.entry.Entry.{Entry}
 use Rattle.history.specs.declared.entry.Entry.TheVariants.{Done, Fault}
 use Rattle.history.specs.Tokens.{Request, request, is_flush, from_of, until_of}
-use Rattle.history.specs.Marks.{mark_of, ending, or_else, status_if, is_moved, is_complete, is_request_complete, all_from}
+use Rattle.history.specs.Marks.{mark_of, ending, status_if, is_moved, is_complete, all_from}
 use Rattle.disk_core.proofs.Moved.{all_from-true, all_from-false}
 
 -- a request that moves bytes is complete where all of them are moved

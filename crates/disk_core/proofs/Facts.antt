@@ -1,9 +1,9 @@
 -- Where the next unit lies: in its record's buffer, in its blocks, and on the medium.
-use Rattle.std.proofs.Common.{◌≡◌, ◌≢◌, ℕ, zero, suc, ◌+◌, ◌-◌, ◌*◌, ◌/◌, ◌^◌, ◌<◌, ◌≤◌, min, max, inl, inr, Bool, true, false, ◌||◌, ◌⊎◌, nat_eq, List, [], ◌∷◌, slice_get, length, Option, None, Some, refl, sym, ◌∙◌, ap, arith}
-use Rattle.std.proofs.Math.Nat.{mul-le-mul_right, lt_of_mul-lt-mul_right, le_of_mul-le-mul_right, div-mul-le_self}
+use Rattle.std.proofs.Common.{◌≡◌, ℕ, ◌+◌, ◌-◌, ◌*◌, ◌/◌, ◌<◌, ◌≤◌, inl, inr, Bool, true, false, ◌||◌, ◌⊎◌, nat_eq, length, sym, ap, arith}
+use Rattle.std.proofs.Math.Nat.{lt_of_mul-lt-mul_right, div-mul-le_self}
 use Rattle.std.proofs.lemmas.Bool.{or_cases, eqb-true}
 use Rattle.disk_split.specs.declared.span.Span.{Span}
-use Rattle.disk_split.specs.Units.{up, IsUnit, IsKind, IsPart, IsRun, units_of}
+use Rattle.disk_split.specs.Units.{IsUnit, IsKind, units_of}
 use Rattle.medium.specs.Device.{Device, IsShaped, IsTransfer, is_block_size}
 use Rattle.history.specs.declared.entry.Kind.{Kind}
 use Rattle.history.specs.Setup.{Setup, blocks_of}
@@ -17,10 +17,10 @@ use Rattle.disk_core.specs.Submitting.{LieOn}
 use Rattle.disk_split.proofs.Shared.{are-get}
 use Rattle.disk_split.proofs.Units.{units-are}
 use Rattle.disk_core.proofs.Followed.{size-of}
-use Rattle.disk_core.proofs.May.{IsNext, part-of, run-of}
+use Rattle.disk_core.proofs.May.{IsNext, part-of}
 use Rattle.disk_core.proofs.Pieces.{run-low, run-high}
 use Rattle.disk_core.proofs.Places.{inside-some}
-use Rattle.disk_core.proofs.Tracked.{HasUnit, has-unit}
+use Rattle.disk_core.proofs.Tracked.{has-unit}
 
 -- the sizes of blocks
 pub sizes-bounds : (size : ℕ) → is_block_size size ≡ true → (512 ≤ size) × (size ≤ 4096)

@@ -1,16 +1,15 @@
 -- The medium follows the history, entry by entry.
-use Rattle.std.proofs.Common.{◌≡◌, ◌≢◌, ℕ, zero, suc, ◌+◌, ◌-◌, ◌*◌, ◌^◌, ◌<◌, ◌≤◌, min, Bool, true, false, List, [], ◌∷◌, length, Option, None, Some, Result, Ok, Err, OnErr, refl, sym, ◌∙◌, ap, arith, if◌then◌else◌, option_map}
-use Rattle.byte_lists.specs.Patching.{patch}
+use Rattle.std.proofs.Common.{◌≡◌, ℕ, ◌+◌, ◌^◌, ◌<◌, ◌≤◌, Bool, true, false, List, [], ◌∷◌, length, Option, None, Some, Result, Ok, Err, OnErr, refl, sym, ◌∙◌, ap, arith, if◌then◌else◌, option_map}
 use Rattle.medium.specs.declared.block_failed.BlockFailed.{BlockFailed}
-use Rattle.medium.specs.Counts.{most, adds, Rose}
+use Rattle.medium.specs.Counts.{adds, Rose}
 use Rattle.medium.specs.Device.{Device, IsSame, IsCommand, failures, patch_told}
 use Rattle.history.specs.declared.entry.Command.{Command}
-use Rattle.history.specs.declared.entry.Command.TheVariants.{Fetch, Store, Put, Get, Sync}
+use Rattle.history.specs.declared.entry.Command.TheVariants.{Fetch, Store, Put, Get}
 use Rattle.history.specs.declared.entry.Entry.{Entry}
 use Rattle.history.specs.declared.entry.Entry.TheVariants.{Accept, Refuse, Done, Fault, Collect, Cancel, Reset, Eject, Insert, Protect}
 use Rattle.history.specs.Setup.{Setup, first_of}
-use Rattle.history.specs.Eras.{inserts, media_id_of}
-use Rattle.history.specs.Contents.{Piece, piece_of, pieces_of, patched, contents, flushed_contents, kept_contents, with_piece}
+use Rattle.history.specs.Eras.{inserts}
+use Rattle.history.specs.Contents.{Piece, piece_of, pieces_of, patched, contents, flushed_contents, kept_contents}
 use Rattle.history.specs.Room.{commands, faults}
 use Rattle.disk_core.specs.State.{setup_of, Meets}
 

@@ -1,17 +1,17 @@
 -- A new disk is sound.
-use Rattle.std.proofs.Common.{◌≡◌, ◌≢◌, ℕ, ◌+◌, ◌*◌, ◌^◌, ◌<◌, ◌≤◌, Bool, true, false, List, [], ◌∷◌, length, slice_get, Option, None, Some, refl, sym, ◌∙◌, ap, arith, option_map, if◌then◌else◌}
+use Rattle.std.proofs.Common.{◌≡◌, ℕ, ◌≤◌, Bool, true, false, List, [], slice_get, Option, None, Some, refl, sym, ◌∙◌, arith, option_map, if◌then◌else◌}
 use Rattle.medium.specs.Device.{Device, IsFresh}
-use Rattle.history.specs.Setup.{Setup, first_of}
+use Rattle.history.specs.Setup.{Setup}
 use Rattle.history.specs.Eras.{ejects, inserts, is_protected}
-use Rattle.history.specs.Tokens.{Request, accepted}
+use Rattle.history.specs.Tokens.{Request, accepted, request}
 use Rattle.history.specs.Contents.{pieces_of, patched, contents, flushed_contents, kept_contents}
-use Rattle.history.specs.Marks.{mark_of, was_fetched, Holds}
+use Rattle.history.specs.Marks.{was_fetched, Holds}
 use Rattle.history.specs.Rules.{IsLegal}
 use Rattle.history.specs.Room.{commands, faults, owed_entries, tokens_owed}
 use Rattle.disk_core.specs.declared.record.Record.{Record}
 use Rattle.disk_core.specs.declared.record.Core.{Core}
 use Rattle.disk_core.specs.State.{setup_of, Meets}
-use Rattle.disk_core.specs.Sound.{IsSound, IsPlain, Tracks}
+use Rattle.disk_core.specs.Sound.{IsSound, IsPlain}
 use Rattle.disk_core.specs.Submitting.{IsNewCore}
 use Rattle.disk_core.proofs.Gates.{gate-none}
 
@@ -56,6 +56,10 @@ pub legal-none : (S : Setup) → IsLegal S []
 unfolding IsLegal
 legal-none S = tt
 
+unnamed : (t : ℕ) (q : Request) → request [] t ≡ Some q → ⊥
+unfolding request
+unnamed t q named = cc
+
 none-held : (size t b : ℕ) → Holds size [] t b → ⊥
 unfolding was_fetched
 none-held size t b holds = clash holds.fetched
@@ -85,6 +89,7 @@ fresh-sound d prepared c fresh new = record {
   ready = λ t k b r u is. absurd (nothing t r (rw new.records at is));
   few = rw (new.entries, new.spare) (omega arith);
   room = rw (new.entries, new.spare) (fresh-owed d);
+  spent = rw new.entries (λ t q named. absurd (unnamed t q named));
 }
   where
     nothing : (t : ℕ) (r : Record) → slice_get [] t ≡ Some r → ⊥

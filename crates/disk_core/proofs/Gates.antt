@@ -1,6 +1,6 @@
 -- Which block is held after an entry.
-use Rattle.std.proofs.Common.{◌≡◌, ◌≢◌, ℕ, zero, suc, ◌+◌, ◌*◌, ◌<◌, ◌≤◌, Bool, true, false, ◌&&◌, ◌||◌, List, [], ◌∷◌, slice_get, length, Option, None, Some, refl, sym, ◌∙◌, ap, arith, nat_eq, inl, inr}
-use Rattle.std.proofs.lemmas.Bool.{cases_eq, eq-eqb, eqb-true, or_cases, or_parts, and_parts, ne_eqb, both_ways}
+use Rattle.std.proofs.Common.{◌≡◌, ℕ, ◌*◌, ◌<◌, true, false, ◌&&◌, List, ◌∷◌, slice_get, Option, None, Some, refl, sym, ◌∙◌, ap, nat_eq, inl, inr}
+use Rattle.std.proofs.lemmas.Bool.{cases_eq, eq-eqb, eqb-true, or_cases, or_parts, and_parts, both_ways}
 use Rattle.efi_status.specs.declared.Status.{Status}
 use Rattle.efi_status.specs.declared.Status.TheVariants.{DeviceError}
 use Rattle.medium.specs.Device.{AreToldAt}
@@ -13,7 +13,7 @@ use Rattle.history.specs.declared.entry.Entry.TheVariants.{Done, Fault}
 use Rattle.history.specs.Setup.{Setup}
 use Rattle.history.specs.Tokens.{accepted}
 use Rattle.history.specs.Contents.{contents}
-use Rattle.history.specs.Marks.{mark_of, was_fetched, was_stored, IsOutstanding, Holds}
+use Rattle.history.specs.Marks.{mark_of, was_fetched, was_stored, Holds}
 use Rattle.disk_core.specs.declared.record.Record.{Record}
 use Rattle.disk_core.specs.Sound.{IsGate}
 use Rattle.disk_core.proofs.Silence.{IsSilent, done-silent, fault-silent}

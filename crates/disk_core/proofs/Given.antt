@@ -1,5 +1,5 @@
 -- A read's buffer gets the bytes of each of its units.
-use Rattle.std.proofs.Common.{◌≡◌, ◌≢◌, ℕ, zero, suc, ◌+◌, ◌-◌, ◌*◌, ◌<◌, ◌≤◌, Bool, true, false, ◌&&◌, List, [], ◌∷◌, length, slice_get, take, drop, Option, None, Some, refl, sym, ◌∙◌, ap, arith, nat_eq, nat_lt, nat_le, inl, inr}
+use Rattle.std.proofs.Common.{◌≡◌, ℕ, ◌+◌, ◌-◌, ◌<◌, ◌≤◌, true, false, ◌&&◌, List, ◌∷◌, length, slice_get, Option, None, Some, refl, sym, ◌∙◌, ap, arith, nat_lt, nat_le, inl, inr}
 use Rattle.std.proofs.lemmas.Bool.{eq-eqb, lt-ltb, le-ltb, lt-leb, le-leb, cases_lt}
 use Rattle.byte_lists.specs.Patching.{patch}
 use Rattle.medium.specs.Device.{AreToldAt}

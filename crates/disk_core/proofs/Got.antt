@@ -1,42 +1,37 @@
 -- The next unit of a read is read, or its read fails.
-use Rattle.std.proofs.Common.{◌≡◌, ◌≢◌, ℕ, zero, suc, ◌+◌, ◌-◌, ◌*◌, ◌^◌, ◌<◌, ◌≤◌, min, max, Bool, true, false, List, [], ◌∷◌, slice_get, set, length, Option, None, Some, Result, Ok, Err, refl, sym, ◌∙◌, ap, arith, if◌then◌else◌}
-use Rattle.byte_lists.specs.Patching.{patch}
+use Rattle.std.proofs.Common.{inr, ◌≡◌, ℕ, ◌+◌, ◌-◌, ◌^◌, ◌<◌, ◌≤◌, List, ◌∷◌, length, None, Ok, Err, refl, sym, ◌∙◌, arith}
 use Rattle.byte_lists.proofs.Patched.{length-patch}
 use Rattle.disk_split.specs.declared.span.Span.{Span}
 use Rattle.medium.specs.declared.block_failed.BlockFailed.{BlockFailed}
-use Rattle.medium.specs.Device.{Device, IsShaped, IsCommand, StayPrepared, AreToldAt, failures}
-use Rattle.history.specs.declared.entry.Kind.TheVariants.{Read, Write}
+use Rattle.medium.specs.Device.{Device, IsShaped, StayPrepared, AreToldAt}
+use Rattle.history.specs.declared.entry.Kind.TheVariants.{Read}
 use Rattle.history.specs.declared.entry.Command.{Command}
-use Rattle.history.specs.declared.entry.Command.TheVariants.{Fetch, Store, Put, Get}
+use Rattle.history.specs.declared.entry.Command.TheVariants.{Get}
 use Rattle.history.specs.declared.entry.Entry.{Entry}
 use Rattle.history.specs.declared.entry.Entry.TheVariants.{Done, Fault}
 use Rattle.history.specs.Setup.{Setup}
-use Rattle.history.specs.Eras.{inserts}
 use Rattle.history.specs.Tokens.{Request, from_of, until_of}
 use Rattle.history.specs.Contents.{contents, piece_of}
-use Rattle.history.specs.Marks.{mark_of, Holds}
-use Rattle.history.specs.Rules.{MayFollow, MayCommand, StopsAt}
-use Rattle.history.specs.Next.{Made, Failed}
+use Rattle.history.specs.Next.{Made}
 use Rattle.disk_core.specs.declared.answers.Step.TheVariants as step
 use Rattle.disk_core.specs.declared.record.Record.{Record}
 use Rattle.disk_core.specs.declared.record.Core.{Core}
-use Rattle.disk_core.specs.State.{setup_of, Meets, AreGiven}
 use Rattle.disk_core.specs.Moving.{IsFilled, FillsFrom}
 use Rattle.disk_core.specs.Bookkeeping.{finished_record, failed_record}
 use Rattle.disk_core.specs.Sound.{IsSound, Tracks, IsGate}
-use Rattle.disk_core.specs.Calls.{Gets}
-use Rattle.disk_core.specs.Stepping.{NextUnit, SameButBuffer, Stepped, buffers_of}
+use Rattle.disk_core.specs.Stepping.{NextUnit, SameButBuffer, Stepped}
 use Rattle.disk_core.proofs.Facts.{next-of}
-use Rattle.disk_core.proofs.Followed.{contents-same, meets-command, is_get, is_fault, IsCommandEntry}
-use Rattle.disk_core.proofs.Gates.{NoneHeld, gate-none, none-held, none-after-get, none-after-fault}
+use Rattle.disk_core.proofs.Followed.{contents-same, meets-command, is_get}
+use Rattle.disk_core.proofs.Gates.{NoneHeld, gate-none, none-after-get}
 use Rattle.disk_core.proofs.Given.{given-get}
 use Rattle.disk_core.proofs.May.{IsNext, may-get, next-ungot}
-use Rattle.disk_core.proofs.Own.{done-owed, fault-owed, got-falls}
+use Rattle.disk_core.proofs.Own.{done-owed, got-falls}
 use Rattle.disk_core.proofs.Places.{get-map}
-use Rattle.disk_core.proofs.Stepped.{Leaves, done-own, fault-own}
-use Rattle.disk_core.proofs.Tracked.{Finishes, tracks-unit, tracks-fault}
-use Rattle.disk_core.proofs.Turned.{did, turn-get, buffers-set, buffers-same}
-use Rattle.disk_core.proofs.Endings.{Ends, kept-same, same-finishes, may-done, faulted, read-write, some-list, made-failed}
+use Rattle.disk_core.proofs.Spent.{next-owes}
+use Rattle.disk_core.proofs.Stepped.{done-own}
+use Rattle.disk_core.proofs.Tracked.{tracks-unit}
+use Rattle.disk_core.proofs.Turned.{did, turn-get, buffers-set}
+use Rattle.disk_core.proofs.Endings.{Ends, kept-same, same-finishes, may-done, faulted, read-write, made-failed}
 
 -- a read holds nothing
 read-free : (S : Setup) (H : List Entry) (c : Core) (r : Record) (u : Span) → IsGate S H c.records.items c.first c.block.items c.held → NextUnit c u Read r → NoneHeld S.size H
@@ -92,19 +87,20 @@ got S d d' prepared prepared' c c' r r' u shaped sound stay next same fills ends
           gate = gate-none S (Done c.first command ∷ H) c'.records.items c.first c'.block.items c'.held (none-after-get S H c.first u.block u.count free) ends.held;
           owed = done-owed S.size H c.first command q r.finished u tracks.named (rw tracks.of_kind tracks.moving) (tracks.status ∙ next.unended) (rw tracks.units at is.has.is)
               (rw (tracks.of_kind, next.of_kind) (got-falls H c.first u.block u.count u.whole (next-ungot S H c.first r q u is)));
+          spent = inr (next-owes S H c.first r q u is);
           becomes = record { units = rw same.units refl; kind = same.kind; unended = λ _. next.unended };
         })
         (turn-get S d prepared c r q u sound is next.of_kind) refl (
           q,
           record {
             named = tracks.named;
+            buffer = r.buffer.items;
+            there = get-map (λ (x : Record). x.buffer.items) c.records.items c.first r next.is;
             piece = filled.piece;
             counted = rw (sym is.has.unit.low, sym is.has.unit.high) filled.counted;
             same = rw (sound.plain.inserts, sym is.has.unit.low) told;
-            filled = λ buffer there.
-                let one : r.buffer.items ≡ buffer = some-list r.buffer.items buffer (sym (get-map (λ (x : Record). x.buffer.items) c.records.items c.first r next.is) ∙ there) in
-                buffers-set c.records.items c'.records.items c.first (finished_record r') ends.records
-                ∙ (rw (filled.filled, one, sym is.has.unit.low, tracks.from) refl);
+            fits = rw (sym is.has.unit.low, sym tracks.from) fits;
+            filled = buffers-set c.records.items c'.records.items c.first (finished_record r') ends.records ∙ (rw (filled.filled, sym is.has.unit.low, tracks.from) refl);
           },
         )
         fills.command.later (λ done failed. absurd (made-failed done failed)) refl

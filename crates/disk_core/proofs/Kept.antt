@@ -1,41 +1,38 @@
 -- A disk stays sound as a request is accepted.
-use Rattle.std.proofs.Common.{◌≡◌, ◌≢◌, ℕ, zero, suc, ◌+◌, ◌-◌, ◌*◌, ◌^◌, ◌<◌, ◌≤◌, ◌⊎◌, inl, inr, Bool, true, false, not, ◌&&◌, ◌||◌, List, [], ◌∷◌, ◌++◌, slice_get, length, map, Option, None, Some, refl, sym, ◌∙◌, ap, arith, nat_eq, nat_lt, if◌then◌else◌, length-append}
-use Rattle.std.proofs.lemmas.Bool.{cases_eq, cases_lt, cases_order, eq-eqb, ne_eqb, le-ltb, lt-ltb, ltb-false, eqb-true, and_parts, or_parts}
+use Rattle.std.proofs.Common.{◌≡◌, ◌≢◌, ℕ, suc, ◌+◌, ◌*◌, ◌^◌, ◌<◌, ◌≤◌, inl, inr, Bool, true, false, List, [], ◌∷◌, ◌++◌, slice_get, length, Option, None, Some, refl, sym, ◌∙◌, ap, arith, length-append}
+use Rattle.std.proofs.lemmas.Bool.{cases_eq, cases_lt, eq-eqb, le-ltb}
 use Rattle.efi_status.specs.declared.Status.{Status}
-use Rattle.efi_status.specs.declared.Status.TheVariants.{Success, InvalidParameter, MediaChanged, WriteProtected}
+use Rattle.efi_status.specs.declared.Status.TheVariants.{Success}
 use Rattle.disk_split.specs.declared.span.Span.{Span}
 use Rattle.disk_split.specs.Units.{Tile, units_of}
 use Rattle.disk_split.proofs.Tiling.{tile-units}
-use Rattle.medium.specs.Device.{Device, StayPrepared, AreToldAt}
+use Rattle.medium.specs.Device.{Device, StayPrepared}
 use Rattle.history.specs.declared.entry.View.{View}
 use Rattle.history.specs.declared.entry.Asked.{Asked}
 use Rattle.history.specs.declared.entry.Kind.{Kind}
 use Rattle.history.specs.declared.entry.Kind.TheVariants.{Read, Write, Flush}
-use Rattle.history.specs.declared.entry.UnitKind.TheVariants.{Bytes}
 use Rattle.history.specs.declared.entry.Entry.{Entry}
 use Rattle.history.specs.declared.entry.Entry.TheVariants.{Accept}
 use Rattle.history.specs.Setup.{Setup, blocks_of}
-use Rattle.history.specs.Eras.{ejects, inserts, is_protected, is_present, media_id_of}
-use Rattle.history.specs.Tokens.{Request, accepted, request, was_collected, is_flush, is_write, from_of, until_of}
+use Rattle.history.specs.Eras.{ejects, inserts}
+use Rattle.history.specs.Tokens.{Request, accepted, was_collected, is_flush, from_of, until_of}
 use Rattle.history.specs.Contents.{contents, bytes_read}
-use Rattle.history.specs.Marks.{mark_of, ending, or_else, status_if, is_moved, is_complete, all_from, was_fetched, was_stored, Holds}
-use Rattle.history.specs.Rules.{IsLegal, MayFollow, MayAccept, IsPayload, IsAsked, refusal_of, range_refusal, is_outside}
-use Rattle.history.specs.Room.{owed_entries, token_owed, tokens_owed, media_owed, owed_by, commands_owed, spans_owed}
+use Rattle.history.specs.Marks.{mark_of, is_moved, was_fetched, was_stored, Holds}
+use Rattle.history.specs.Rules.{IsLegal, MayFollow, IsPayload, IsAsked}
+use Rattle.history.specs.Room.{commands_of, runs_of, owed_entries, token_owed, tokens_owed, owed_by, commands_owed}
 use Rattle.disk_core.specs.declared.record.Record.{Record}
 use Rattle.disk_core.specs.declared.record.Core.{Core}
-use Rattle.disk_core.specs.State.{setup_of, Meets, AreGiven}
-use Rattle.disk_core.specs.Sound.{IsSound, IsPlain, IsGate, AreReady, Tracks, low_or}
-use Rattle.disk_core.specs.Submitting.{plain_refusal, is_beyond, cost_of, payload_of, AreReadyFor, IsMoving}
+use Rattle.disk_core.specs.Sound.{IsSound, IsPlain, SpendFew, Tracks, low_or}
+use Rattle.disk_core.specs.Submitting.{cost_of, payload_of, AreReadyFor, IsMoving}
 use Rattle.disk_core.proofs.Born.{IsUnborn, unborn}
-use Rattle.disk_core.proofs.Costs.{spans-few}
+use Rattle.disk_core.proofs.Costs.{spans-few, cost-few}
 use Rattle.disk_core.proofs.Gates.{open-before}
-use Rattle.disk_core.proofs.Moved.{all_from-false}
-use Rattle.disk_core.proofs.Owed.{tokens-same}
+use Rattle.disk_core.proofs.Owed.{silent-owed, tokens-same}
 use Rattle.disk_core.proofs.Places.{inside-some}
 use Rattle.disk_core.proofs.Quiet.{accept-quiet, meets-quiet, plain-quiet, quiet-contents}
 use Rattle.disk_core.proofs.Silence.{IsSilent, accept-silent}
 use Rattle.disk_core.proofs.Tracked.{tracks-silent}
-use Rattle.disk_core.proofs.Accepted.{IsNew, IsWithin, within-range, view-refusal, last-or, before-last, request-new, mark-new}
+use Rattle.disk_core.proofs.Accepted.{IsNew, IsWithin, within-range, view-refusal, last-or, request-new, mark-new}
 
 some-left : (us : List Span) (a z : ℕ) → Tile a z us → (a ≡ z → ⊥) → 0 < length us
 unfolding Tile
@@ -188,6 +185,24 @@ may-accept S H tag view media_id asked buffer plain is lies = record {
   well_asked = well-asked asked asked.kind is.moving;
 }
 
+-- the new token has made no command, and owes at most two for a part and one for a run
+spent-more : (S : Setup) (H : List Entry) (tag : ℕ) (view : View) (asked : Asked) (bytes : List ℕ) (r : Record) (q : Request) → IsLegal S H → SpendFew S H → Tracks S (Accept tag view asked bytes ∷ H) (accepted H) r q → SpendFew S (Accept tag view asked bytes ∷ H)
+unfolding commands_of
+spent-more S H tag view asked bytes r q legal few tracks t p named =
+    let e : Entry = Accept tag view asked bytes in
+    elim (cases_eq t (accepted H)) [
+      | inl new ↦
+          let one : q ≡ p = some-request q p (sym tracks.named ∙ (rw new at named)) in
+          let cost : cost_of r.kind r.units.items ≤ runs_of S.size p + 4 = rw (sym one, tracks.units) (cost-few r.kind S.size (from_of S.size q) (until_of S.size q)) in
+          rw new (omega (arith, (unborn S H (accepted H) legal (omega arith)).uncommanded, new-owes S (e ∷ H) (accepted H) r q tracks, cost))
+      | inr other ↦
+          let silent : IsSilent S H e t = accept-silent S H tag view asked bytes t other in
+          rw (silent-owed S H e t silent) (few t p (sym silent.named ∙ named))
+    ]
+  where
+    some-request : (a b : Request) → Some a ≡ Some b → a ≡ b
+    some-request a b e = cc
+
 -- the disk is sound with one more token
 pub keeps-sound : (S : Setup) (d : Device) (prepared prepared' : ℕ → Type 0) (c c' : Core) (tag : ℕ) (view : View) (media_id : ℕ) (asked : Asked) (buffer : List ℕ) (r : Record)
     → 0 < S.size → IsSound S d prepared c → StayPrepared prepared prepared' → IsMoving asked buffer → IsNew S asked view buffer r → IsWithin (blocks_of S 1 * S.size) view media_id asked.at asked.length
@@ -229,4 +244,5 @@ keeps-sound S d prepared prepared' c c' tag view media_id asked buffer r some so
       ]);
       few = keeps.few;
       room = rw keeps.entries (omega (arith, sound.room, keeps.room, owed-more S H tag view asked bytes (cost_of r.kind r.units.items + 2) (new-owes S (e ∷ H) (accepted H) r (record { tag = tag; view = view; asked = asked; bytes = bytes }) tracks)));
+      spent = rw keeps.entries (spent-more S H tag view asked bytes r (record { tag = tag; view = view; asked = asked; bytes = bytes }) sound.legal sound.spent tracks);
     }

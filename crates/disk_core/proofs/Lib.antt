@@ -11,6 +11,7 @@ pub mod Fresh
 pub mod Gates
 pub mod Given
 pub mod May
+pub mod GoingOn
 pub mod Got
 pub mod Kept
 pub mod Moved
@@ -23,6 +24,7 @@ pub mod Places
 pub mod Quiet
 pub mod Refusing
 pub mod Silence
+pub mod Spent
 pub mod Stepped
 pub mod Submits
 pub mod Tracked

@@ -1,5 +1,5 @@
 -- The command that is made may be made.
-use Rattle.std.proofs.Common.{◌≡◌, ◌≢◌, ℕ, zero, suc, ◌+◌, ◌*◌, ◌<◌, ◌≤◌, ◌⊎◌, inl, inr, Bool, true, false, List, [], ◌∷◌, slice_get, length, Option, None, Some, refl, sym, ◌∙◌, ap, arith, nat_lt}
+use Rattle.std.proofs.Common.{◌≡◌, ℕ, ◌<◌, ◌⊎◌, inl, inr, Bool, true, false, List, None, ◌∙◌, ap, arith, nat_lt}
 use Rattle.std.proofs.lemmas.Bool.{le-ltb}
 use Rattle.disk_split.specs.declared.span.Span.{Span}
 use Rattle.disk_split.specs.Units.{IsUnit, IsKind, IsPart, IsRun}
@@ -8,9 +8,9 @@ use Rattle.history.specs.declared.entry.Kind.TheVariants.{Read, Write}
 use Rattle.history.specs.declared.entry.Command.TheVariants.{Fetch, Store, Put, Get}
 use Rattle.history.specs.declared.entry.Entry.{Entry}
 use Rattle.history.specs.Setup.{Setup}
-use Rattle.history.specs.Tokens.{Request, accepted, request, from_of, until_of}
-use Rattle.history.specs.Marks.{mark_of, is_moved, was_stored, was_put, was_got, Holds, IsOutstanding}
-use Rattle.history.specs.Rules.{IsLegal, IsOpen, IsFree, MayCommand, MayFetch, MayPut, MayGet}
+use Rattle.history.specs.Tokens.{Request, accepted, from_of, until_of}
+use Rattle.history.specs.Marks.{is_moved, was_stored, was_put, was_got, Holds}
+use Rattle.history.specs.Rules.{IsLegal, IsOpen, MayCommand}
 use Rattle.disk_core.specs.declared.record.Record.{Record}
 use Rattle.disk_core.specs.Sound.{Tracks, low_or}
 use Rattle.disk_core.proofs.Tracked.{HasUnit}

@@ -1,18 +1,16 @@
 -- The first open record's next unit is the command that comes next.
-use Rattle.std.proofs.Common.{◌≡◌, ◌≢◌, ℕ, zero, suc, ◌+◌, ◌<◌, ◌≤◌, Bool, true, false, not, List, [], ◌∷◌, slice_get, length, Option, None, Some, refl, sym, ◌∙◌, ap, arith, nat_lt, is_none, find, ◌⊎◌, inl, inr}
+use Rattle.std.proofs.Common.{◌≡◌, ◌≢◌, ℕ, zero, suc, ◌+◌, ◌<◌, ◌≤◌, Bool, true, false, not, List, [], ◌∷◌, slice_get, Option, None, Some, refl, sym, ◌∙◌, ap, arith, nat_lt, is_none, find, inl, inr}
 use Rattle.std.proofs.lemmas.Bool.{lt-ltb, le-ltb, cases_eq}
 use Rattle.efi_status.specs.declared.Status.{Status}
 use Rattle.disk_split.specs.declared.span.Span.{Span}
-use Rattle.disk_split.specs.Units.{units_of}
 use Rattle.disk_split.proofs.Tiled.{tile-within, tile-parted}
 use Rattle.history.specs.declared.entry.Kind.{Kind}
 use Rattle.history.specs.declared.entry.Kind.TheVariants.{Read, Write, Flush}
-use Rattle.history.specs.declared.entry.Command.{Command}
 use Rattle.history.specs.declared.entry.Entry.{Entry}
 use Rattle.history.specs.Setup.{Setup}
-use Rattle.history.specs.Tokens.{Request, accepted, request, is_flush, from_of, until_of}
+use Rattle.history.specs.Tokens.{Request, accepted, is_flush, from_of, until_of}
 use Rattle.history.specs.Marks.{mark_of, is_moved}
-use Rattle.history.specs.Next.{first_from, is_open, first_open, next_span, span_command, Turn, turn_with, next_turn}
+use Rattle.history.specs.Next.{first_from, is_open, first_open, next_span, span_command, turn_with, next_turn}
 use Rattle.disk_core.specs.declared.record.Record.{Record}
 use Rattle.disk_core.specs.Sound.{Tracks, low_or}
 use Rattle.disk_core.proofs.Tracked.{HasUnit}

@@ -1,5 +1,5 @@
 -- What a token owes after an entry of its own.
-use Rattle.std.proofs.Common.{◌≡◌, ◌≢◌, ℕ, zero, suc, ◌+◌, ◌<◌, ◌≤◌, Bool, true, false, ◌&&◌, ◌||◌, List, [], ◌∷◌, slice_get, Option, None, Some, refl, sym, ◌∙◌, ap, arith, nat_eq}
+use Rattle.std.proofs.Common.{◌≡◌, ℕ, ◌+◌, ◌≤◌, Bool, true, false, List, ◌∷◌, slice_get, Option, None, Some, refl, ◌∙◌, ap, arith}
 use Rattle.std.proofs.lemmas.Bool.{eq-eqb}
 use Rattle.efi_status.specs.declared.Status.{Status}
 use Rattle.efi_status.specs.declared.Status.TheVariants.{DeviceError}
@@ -10,10 +10,10 @@ use Rattle.history.specs.declared.entry.Kind.TheVariants.{Read, Write, Flush}
 use Rattle.history.specs.declared.entry.Command.{Command}
 use Rattle.history.specs.declared.entry.Command.TheVariants.{Fetch, Store, Put, Get}
 use Rattle.history.specs.declared.entry.Entry.{Entry}
-use Rattle.history.specs.declared.entry.Entry.TheVariants.{Done, Fault, Collect}
+use Rattle.history.specs.declared.entry.Entry.TheVariants.{Done, Fault}
 use Rattle.history.specs.Tokens.{Request, request, was_collected, is_flush, from_of, until_of}
 use Rattle.history.specs.Marks.{mark_of, was_fetched, was_stored, was_put, was_got}
-use Rattle.history.specs.Room.{part_owed, span_owed, spans_owed, commands_owed, owed_by, token_owed}
+use Rattle.history.specs.Room.{span_owed, spans_owed, commands_owed, owed_by, token_owed}
 use Rattle.disk_core.proofs.Owed.{spans-fall}
 use Rattle.disk_core.proofs.Ends.{mark-fault}
 
@@ -24,7 +24,7 @@ commands-are size H t q Write moving = refl
 commands-are size H t q Flush moving = cc
 
 -- an open token owes its commands and two more
-open-owed : (size : ℕ) (H : List Entry) (t : ℕ) (q : Request) → request H t ≡ Some q → is_flush q.asked.kind ≡ false → mark_of size H t ≡ None
+pub open-owed : (size : ℕ) (H : List Entry) (t : ℕ) (q : Request) → request H t ≡ Some q → is_flush q.asked.kind ≡ false → mark_of size H t ≡ None
     → token_owed size H t ≡ spans_owed q.asked.kind H t (units_of size (from_of size q) (until_of size q)) + 2
 unfolding token_owed
 open-owed size H t q named moving unmarked = rw (named, unmarked) (ap (λ n. n + 2) (commands-are size H t q q.asked.kind moving))

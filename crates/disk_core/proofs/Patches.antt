@@ -1,5 +1,5 @@
 -- Patching a list of bytes, byte by byte.
-use Rattle.std.proofs.Common.{◌≡◌, ◌≢◌, ℕ, zero, suc, ◌+◌, ◌-◌, ◌*◌, ◌<◌, ◌≤◌, min, max, ◌⊎◌, inl, inr, Bool, true, false, List, [], ◌∷◌, ◌++◌, slice_get, length, take, drop, Option, None, Some, refl, sym, ◌∙◌, ap, arith, get_or, length-append, length-drop, length-take, append_assoc, take-append-drop}
+use Rattle.std.proofs.Common.{◌≡◌, ℕ, zero, suc, ◌+◌, ◌-◌, ◌<◌, ◌≤◌, inl, inr, List, [], ◌∷◌, ◌++◌, slice_get, length, take, drop, Some, refl, sym, ◌∙◌, ap, arith, length-take, take-append-drop}
 use Rattle.std.proofs.lemmas.Bool.{cases_lt}
 use Rattle.byte_lists.specs.Patching.{patch}
 use Rattle.byte_lists.proofs.Patched.{length-patch}

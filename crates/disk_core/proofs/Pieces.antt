@@ -1,10 +1,10 @@
 -- The piece that a write's command puts on the medium.
-use Rattle.std.proofs.Common.{◌≡◌, ◌≢◌, ℕ, zero, suc, ◌+◌, ◌-◌, ◌*◌, ◌/◌, ◌<◌, ◌≤◌, min, max, Bool, true, false, List, [], ◌∷◌, length, take, drop, Option, None, Some, refl, sym, ◌∙◌, ap, arith, nat_lt, inl, inr, add-zero}
+use Rattle.std.proofs.Common.{◌≡◌, ℕ, zero, suc, ◌+◌, ◌-◌, ◌*◌, ◌/◌, ◌<◌, ◌≤◌, min, true, List, [], ◌∷◌, take, drop, Option, None, Some, refl, sym, ◌∙◌, ap, arith, inl, inr, add-zero}
 use Rattle.std.proofs.lemmas.Bool.{lt-ltb, le-ltb, cases_eq}
 use Rattle.std.proofs.Math.Nat.{mul-le-mul_right}
 use Rattle.medium.specs.Device.{patch_told}
 use Rattle.disk_split.specs.declared.span.Span.{Span}
-use Rattle.disk_split.specs.Units.{up, IsRun, IsKind, IsUnit}
+use Rattle.disk_split.specs.Units.{up, IsKind, IsUnit}
 use Rattle.disk_split.proofs.Rounding.{up-reaches, wider}
 use Rattle.history.specs.declared.entry.Command.TheVariants.{Store, Put}
 use Rattle.history.specs.declared.entry.Entry.{Entry}

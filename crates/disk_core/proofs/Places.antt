@@ -1,5 +1,5 @@
 -- Elements of a list of which one is replaced.
-use Rattle.std.proofs.Common.{◌≡◌, ◌≢◌, ℕ, zero, suc, ◌+◌, ◌<◌, ◌≤◌, List, [], ◌∷◌, ◌++◌, map, length, slice_get, set, Option, None, Some, refl, sym, ◌∙◌, ap, arith}
+use Rattle.std.proofs.Common.{◌≡◌, ◌≢◌, ℕ, zero, suc, ◌<◌, List, [], ◌∷◌, ◌++◌, map, length, slice_get, set, Some, refl, sym, ap, arith}
 
 pub get-set-same : {A : Type 0} (xs : List A) (k : ℕ) (x y : A) → slice_get xs k ≡ Some x → slice_get (set xs k y) k ≡ Some y
 get-set-same [] k x y is = cc
@@ -42,3 +42,12 @@ pub inside-some : {A : Type 0} (xs : List A) (k : ℕ) (x : A) → slice_get xs 
 inside-some [] k x is = cc
 inside-some (z ∷ xs) zero x is = omega arith
 inside-some (z ∷ xs) (suc k) x is = omega (arith, inside-some xs k x is)
+
+pub before-last : {A : Type 0} (xs : List A) (z x : A) (k : ℕ) → slice_get xs k ≡ Some x → slice_get (xs ++ (z ∷ [])) k ≡ Some x
+before-last [] z x k is = cc
+before-last (y ∷ xs) z x zero is = is
+before-last (y ∷ xs) z x (suc k) is = before-last xs z x k is
+
+pub get-last : {A : Type 0} (xs : List A) (z : A) → slice_get (xs ++ (z ∷ [])) (length xs) ≡ Some z
+get-last [] z = refl
+get-last (y ∷ xs) z = get-last xs z

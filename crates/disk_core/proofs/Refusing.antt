@@ -1,5 +1,5 @@
 -- A disk that refuses a request.
-use Rattle.std.proofs.Common.{◌≡◌, ◌≢◌, ℕ, ◌+◌, ◌*◌, ◌^◌, ◌<◌, ◌≤◌, Bool, true, false, List, [], ◌∷◌, length, Option, None, Some, refl, sym, ◌∙◌, ap, arith}
+use Rattle.std.proofs.Common.{◌≡◌, ℕ, ◌+◌, ◌^◌, ◌<◌, ◌≤◌, false, List, ◌∷◌, length, Some, refl, sym, ◌∙◌, arith}
 use Rattle.efi_status.specs.declared.Status.{Status}
 use Rattle.medium.specs.Device.{Device}
 use Rattle.history.specs.declared.entry.View.{View}
@@ -8,18 +8,15 @@ use Rattle.history.specs.declared.entry.Kind.{Kind}
 use Rattle.history.specs.declared.entry.Kind.TheVariants.{Read, Write, Flush}
 use Rattle.history.specs.declared.entry.Entry.{Entry}
 use Rattle.history.specs.declared.entry.Entry.TheVariants.{Refuse}
-use Rattle.history.specs.Setup.{Setup, blocks_of}
-use Rattle.history.specs.Eras.{ejects, inserts}
-use Rattle.history.specs.Tokens.{Request, accepted, is_flush}
-use Rattle.history.specs.Contents.{contents}
+use Rattle.history.specs.Setup.{Setup}
+use Rattle.history.specs.Tokens.{accepted, is_flush}
 use Rattle.history.specs.Marks.{Holds}
 use Rattle.history.specs.Rules.{IsLegal, MayFollow, IsAsked, refusal_of}
-use Rattle.history.specs.Room.{owed_entries, tokens_owed}
-use Rattle.disk_core.specs.declared.record.Record.{Record}
+use Rattle.history.specs.Room.{owed_entries}
 use Rattle.disk_core.specs.declared.record.Core.{Core}
-use Rattle.disk_core.specs.Sound.{IsSound, Tracks}
+use Rattle.disk_core.specs.Sound.{IsSound}
 use Rattle.disk_core.specs.Submitting.{IsMoving}
-use Rattle.disk_core.proofs.Owed.{tokens-same}
+use Rattle.disk_core.proofs.Owed.{silent-owed, tokens-same}
 use Rattle.disk_core.proofs.Quiet.{IsQuiet, meets-quiet, plain-quiet, quiet-contents, refuse-quiet}
 use Rattle.disk_core.proofs.Silence.{IsSilent, refuse-silent}
 use Rattle.disk_core.proofs.Tracked.{tracks-silent}
@@ -96,4 +93,5 @@ refused-sound S d prepared c c' tag view asked media_id status buffer sound is r
       ready = rw leaves.records sound.ready;
       few = leaves.few;
       room = rw (leaves.entries, owed-same S H e nothing) (omega (arith, sound.room, leaves.spare));
+      spent = rw leaves.entries (λ t q named. rw ((nothing.silent t).counted, silent-owed S H e t (nothing.silent t)) (sound.spent t q (sym (nothing.silent t).named ∙ named)));
     }

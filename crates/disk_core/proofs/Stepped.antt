@@ -1,23 +1,21 @@
 -- A disk stays sound over an entry of its first open token.
-use Rattle.std.proofs.Common.{◌≡◌, ◌≢◌, ℕ, zero, suc, ◌+◌, ◌*◌, ◌^◌, ◌<◌, ◌≤◌, inl, inr, Bool, true, false, List, [], ◌∷◌, slice_get, set, length, Option, None, Some, refl, sym, ◌∙◌, ap, arith}
-use Rattle.std.proofs.lemmas.Bool.{cases_eq}
-use Rattle.disk_split.specs.declared.span.Span.{Span}
+use Rattle.std.proofs.Common.{◌≡◌, ◌≢◌, ℕ, suc, ◌+◌, ◌-◌, ◌<◌, ◌≤◌, ◌⊎◌, inl, inr, List, ◌∷◌, slice_get, set, length, None, Some, refl, sym, ◌∙◌, ap, arith}
+use Rattle.std.proofs.lemmas.Bool.{cases_eq, eq-eqb}
 use Rattle.medium.specs.Device.{Device, StayPrepared}
-use Rattle.history.specs.declared.entry.Kind.TheVariants.{Write}
 use Rattle.history.specs.declared.entry.Command.{Command}
 use Rattle.history.specs.declared.entry.Entry.{Entry}
 use Rattle.history.specs.declared.entry.Entry.TheVariants.{Done, Fault}
 use Rattle.history.specs.Setup.{Setup}
 use Rattle.history.specs.Eras.{ejects, inserts, is_protected}
-use Rattle.history.specs.Tokens.{Request, accepted}
+use Rattle.history.specs.Tokens.{Request, accepted, request}
 use Rattle.history.specs.Rules.{IsLegal, MayFollow}
-use Rattle.history.specs.Room.{owed_entries, token_owed, tokens_owed}
+use Rattle.history.specs.Room.{commands_of, runs_of, owed_entries, token_owed, tokens_owed}
 use Rattle.disk_core.specs.declared.record.Record.{Record}
 use Rattle.disk_core.specs.declared.record.Core.{Core}
 use Rattle.disk_core.specs.State.{Meets}
-use Rattle.disk_core.specs.Sound.{IsSound, IsGate, IsPlain, AreReady, AreFew, Tracks}
+use Rattle.disk_core.specs.Sound.{IsSound, IsGate, IsPlain, AreReady, SpendFew, Tracks}
 use Rattle.disk_core.proofs.Silence.{IsSilent, done-silent, fault-silent}
-use Rattle.disk_core.proofs.Owed.{tokens-fall}
+use Rattle.disk_core.proofs.Owed.{silent-owed, tokens-fall}
 use Rattle.disk_core.proofs.Tracked.{tracks-silent}
 use Rattle.disk_core.proofs.Places.{get-set-same, get-set-other, length-set-here, inside-some}
 
@@ -25,17 +23,19 @@ use Rattle.disk_core.proofs.Places.{get-set-same, get-set-other, length-set-here
 pub record IsOwn (S : Setup) (H : List Entry) (e : Entry) (t : ℕ) : Type 0 where
   pub silent : (u : ℕ) → t ≢ u → IsSilent S H e u
   pub same_accepted : accepted (e ∷ H) ≡ accepted H
+  pub same_requests : (u : ℕ) → request (e ∷ H) u ≡ request H u
+  pub one : commands_of (e ∷ H) t ≤ commands_of H t + 1
   pub same_ejects : ejects (e ∷ H) ≡ ejects H
   pub same_inserts : inserts (e ∷ H) ≡ inserts H
   pub same_protection : is_protected S (e ∷ H) ≡ is_protected S H
 
 pub done-own : (S : Setup) (H : List Entry) (t : ℕ) (c : Command) → IsOwn S H (Done t c) t
-unfolding accepted ejects inserts is_protected
-done-own S H t c = record { silent = λ u ne. done-silent S H t u c ne; same_accepted = refl; same_ejects = refl; same_inserts = refl; same_protection = refl }
+unfolding accepted request ejects inserts is_protected commands_of
+done-own S H t c = record { silent = λ u ne. done-silent S H t u c ne; same_accepted = refl; same_requests = λ u. refl; one = rw (eq-eqb t t refl) (omega arith); same_ejects = refl; same_inserts = refl; same_protection = refl }
 
 pub fault-own : (S : Setup) (H : List Entry) (t : ℕ) (c : Command) (done : ℕ) → IsOwn S H (Fault t c done) t
-unfolding accepted ejects inserts is_protected
-fault-own S H t c done = record { silent = λ u ne. fault-silent S H t u c done ne; same_accepted = refl; same_ejects = refl; same_inserts = refl; same_protection = refl }
+unfolding accepted request ejects inserts is_protected commands_of
+fault-own S H t c done = record { silent = λ u ne. fault-silent S H t u c done ne; same_accepted = refl; same_requests = λ u. refl; one = rw (eq-eqb t t refl) (omega arith); same_ejects = refl; same_inserts = refl; same_protection = refl }
 
 -- all tokens together owe less where this one does
 pub owed-falls : (S : Setup) (H : List Entry) (e : Entry) (t : ℕ) → IsOwn S H e t → t < accepted H → token_owed S.size (e ∷ H) t + 1 ≤ token_owed S.size H t → owed_entries S (e ∷ H) + 1 ≤ owed_entries S H
@@ -50,6 +50,23 @@ plain-own S H e t own plain = record {
   inserts = own.same_inserts ∙ plain.inserts;
   unprotected = own.same_protection ∙ plain.unprotected;
 }
+
+-- an entry adds no command to its token, or the token owed one
+abbrev pub IsSpent : ℕ → List Entry → Entry → ℕ → Type 0
+IsSpent size H e t = (commands_of (e ∷ H) t ≡ commands_of H t) ⊎ (3 ≤ token_owed size H t)
+
+few-after : (S : Setup) (H : List Entry) (e : Entry) (t : ℕ) → IsOwn S H e t → token_owed S.size (e ∷ H) t + 1 ≤ token_owed S.size H t → IsSpent S.size H e t → SpendFew S H → SpendFew S (e ∷ H)
+few-after S H e t own falls spent few u q named =
+    let before : request H u ≡ Some q = sym (own.same_requests u) ∙ named in
+    elim (cases_eq t u) [
+      | inl same ↦
+          let was : commands_of H t + (token_owed S.size H t - 2) ≤ runs_of S.size q + 4 = few t q (rw (sym same) at before) in
+          rw (sym same) (elim spent [
+            | inl none ↦ omega (arith, was, falls, none)
+            | inr some ↦ omega (arith, was, falls, some, own.one)
+          ])
+      | inr other ↦ rw ((own.silent u other).counted, silent-owed S H e u (own.silent u other)) (few u q before)
+    ]
 
 -- what the first open record is after the entry
 pub record Becomes (r r' : Record) : Type 0 where
@@ -71,6 +88,7 @@ pub record Leaves (S : Setup) (d d' : Device) (c c' : Core) (e : Entry) (t : ℕ
   pub tracks : Tracks S (e ∷ c.history.entries) t r' q
   pub gate : IsGate S (e ∷ c.history.entries) c'.records.items c.first c'.block.items c'.held
   pub owed : token_owed S.size (e ∷ c.history.entries) t + 1 ≤ token_owed S.size c.history.entries t
+  pub spent : IsSpent S.size c.history.entries e t
   pub becomes : Becomes r r'
 
 legal-more : (S : Setup) (H : List Entry) (e : Entry) → IsLegal S H → MayFollow S H e → IsLegal S (e ∷ H)
@@ -142,4 +160,5 @@ sound-after S d d' prepared prepared' c c' e t r r' q sound stay leaves =
       ready = rw leaves.records (ready-after S prepared prepared' c.records.items t r r' stay leaves.was leaves.becomes sound.ready);
       few = rw leaves.entries (omega (arith, sound.few, leaves.spare));
       room = rw leaves.entries (omega (arith, sound.room, leaves.spare));
+      spent = rw leaves.entries (few-after S H e t leaves.own leaves.owed leaves.spent sound.spent);
     }

@@ -1,6 +1,6 @@
 -- A request that is accepted or refused, as callers see it.
-use Rattle.std.proofs.Common.{◌≡◌, ◌≢◌, ℕ, ◌+◌, ◌*◌, ◌^◌, ◌<◌, ◌≤◌, Bool, true, false, List, [], ◌∷◌, ◌++◌, length, map, slice_get, Option, None, Some, refl, sym, ◌∙◌, ap, arith}
-use Rattle.std.proofs.lemmas.List.{map-append}
+use Rattle.std.proofs.Common.{◌≡◌, ℕ, ◌+◌, ◌*◌, ◌<◌, ◌≤◌, false, List, [], ◌∷◌, ◌++◌, length, slice_get, Option, None, Some, refl, sym, ◌∙◌, ap, arith}
+use Rattle.std.proofs.lemmas.List.{map-append, length-map}
 use Rattle.efi_status.specs.declared.Status.{Status}
 use Rattle.disk_split.specs.declared.span.Span.{Span}
 use Rattle.disk_split.specs.Units.{units_of}
@@ -8,10 +8,9 @@ use Rattle.medium.specs.Device.{Device, IsShaped, StayPrepared}
 use Rattle.history.specs.declared.entry.View.{View}
 use Rattle.history.specs.declared.entry.Asked.{Asked}
 use Rattle.history.specs.declared.entry.Kind.TheVariants.{Write}
-use Rattle.history.specs.declared.entry.Entry.{Entry}
-use Rattle.history.specs.declared.entry.Entry.TheVariants.{Accept, Refuse, Collect}
+use Rattle.history.specs.declared.entry.Entry.TheVariants.{Refuse}
 use Rattle.history.specs.Setup.{Setup, blocks_of}
-use Rattle.history.specs.Tokens.{Request, accepted}
+use Rattle.history.specs.Tokens.{Request}
 use Rattle.history.specs.Rules.{refusal_of}
 use Rattle.disk_core.specs.declared.record.Record.{Record}
 use Rattle.disk_core.specs.declared.record.Core.{Core}
@@ -24,9 +23,9 @@ use Rattle.disk_core.specs.Submitting.{plain_refusal, cost_of, payload_of, AreRe
 use Rattle.disk_core.proofs.Accepted.{IsNew, IsWithin, within, refusal-is}
 use Rattle.disk_core.proofs.Facts.{blocks-of, sizes-bounds}
 use Rattle.disk_core.proofs.Followed.{size-of}
-use Rattle.disk_core.proofs.Kept.{Keeps, keeps-sound}
-use Rattle.disk_core.proofs.Places.{get-map, map-set}
-use Rattle.disk_core.proofs.Refusing.{LeavesRefused, refused-sound}
+use Rattle.disk_core.proofs.Kept.{keeps-sound}
+use Rattle.disk_core.proofs.Places.{get-map, map-set, get-last}
+use Rattle.disk_core.proofs.Refusing.{LeavesRefused}
 
 -- how many bytes the medium has
 total : (S : Setup) (d : Device) → setup_of d ≡ S → d.blocks * d.size ≡ blocks_of S 1 * S.size
@@ -82,17 +81,22 @@ pub accept-accepts : (d : Device) (prepared prepared' : ℕ → Type 0) (c m c' 
     → IsSound (setup_of d) d prepared c → IsMoving asked buffer → plain_refusal (d.blocks * d.size) view media_id asked.at asked.length ≡ None
     → TakesRoom (setup_of d) prepared' c m c' tag view asked buffer us bytes r → IsSound (setup_of d) d prepared' c' → number ≡ length m.records.items
     → Accepts (state_of d c) tag view media_id asked (payload_of asked.kind buffer) buffer number (state_of d c')
-accept-accepts d prepared prepared' c m c' tag view media_id asked buffer us bytes r number sound is unrefused takes sound' numbered = record {
-  adds = record {
-    setup = refl;
-    entries = takes.kept.entries ∙ (rw (takes.same.entries, takes.bytes_are) refl);
-    legal = sound'.legal;
-  };
-  unrefused = refusal-here (setup_of d) d prepared c view media_id asked buffer None sound is unrefused;
-  numbered = numbered ∙ (ap length takes.same.records ∙ sound.count);
-  buffers = ap buffers_of takes.kept.records ∙ (map-append (λ (x : Record). x.buffer.items) m.records.items (r ∷ []) ∙ (rw (takes.same.records, takes.kept.bytes_are) refl));
-  faults = refl;
-}
+accept-accepts d prepared prepared' c m c' tag view media_id asked buffer us bytes r number sound is unrefused takes sound' numbered =
+    let more : buffers_of c'.records.items ≡ buffers_of c.records.items ++ (buffer ∷ []) =
+    ap buffers_of takes.kept.records ∙ (map-append (λ (x : Record). x.buffer.items) m.records.items (r ∷ []) ∙ (rw (takes.same.records, takes.kept.bytes_are) refl)) in
+    let last : number ≡ length (buffers_of c.records.items) = numbered ∙ (ap length takes.same.records ∙ sym (length-map c.records.items (λ (x : Record). x.buffer.items))) in
+    record {
+      adds = record {
+        setup = refl;
+        entries = takes.kept.entries ∙ (rw (takes.same.entries, takes.bytes_are) refl);
+        legal = sound'.legal;
+      };
+      unrefused = refusal-here (setup_of d) d prepared c view media_id asked buffer None sound is unrefused;
+      numbered = numbered ∙ (ap length takes.same.records ∙ sound.count);
+      buffers = more;
+      placed = rw (more, last) (get-last (buffers_of c.records.items) buffer);
+      faults = refl;
+    }
 
 -- a refused request
 pub refuse-refuses : (d : Device) (prepared : ℕ → Type 0) (c c' : Core) (tag : ℕ) (view : View) (media_id : ℕ) (asked : Asked) (buffer : List ℕ) (status : Status)

@@ -1,29 +1,28 @@
 -- A record follows its token, entry by entry.
-use Rattle.std.proofs.Common.{◌≡◌, ◌≢◌, ℕ, zero, suc, ◌+◌, ◌-◌, ◌*◌, ◌^◌, ◌<◌, ◌≤◌, Bool, true, false, ◌&&◌, List, [], ◌∷◌, length, slice_get, Option, None, Some, refl, sym, ◌∙◌, ap, arith, if◌then◌else◌, nat_eq, nat_lt, inl, inr}
-use Rattle.std.proofs.lemmas.Bool.{eq-eqb, ne_eqb, lt-ltb, le-ltb, cases_eq, cases_lt}
-use Rattle.std.proofs.lemmas.Option.{slice_get_within, slice_get_past}
+use Rattle.std.proofs.Common.{◌≡◌, ℕ, zero, suc, ◌+◌, ◌<◌, ◌≤◌, true, false, List, [], ◌∷◌, length, slice_get, None, Some, refl, sym, ◌∙◌, ap, arith, if◌then◌else◌, nat_eq, nat_lt, inl, inr}
+use Rattle.std.proofs.lemmas.Bool.{eq-eqb, ne_eqb, le-ltb, cases_eq}
+use Rattle.std.proofs.lemmas.Option.{slice_get_past}
 use Rattle.efi_status.specs.declared.Status.{Status}
 use Rattle.efi_status.specs.declared.Status.TheVariants.{Success, DeviceError}
 use Rattle.disk_split.specs.declared.span.Span.{Span}
-use Rattle.disk_split.specs.Units.{Tile, IsUnit, AreUnits, units_of}
+use Rattle.disk_split.specs.Units.{Tile, IsUnit, units_of}
 use Rattle.disk_split.proofs.Tiled.{tile-within, tile-next, tile-last}
 use Rattle.disk_split.proofs.Tiling.{tile-units}
 use Rattle.disk_split.proofs.Units.{units-are}
 use Rattle.disk_split.proofs.Shared.{are-get}
-use Rattle.history.specs.declared.entry.Kind.{Kind}
 use Rattle.history.specs.declared.entry.Kind.TheVariants.{Read, Write}
 use Rattle.history.specs.declared.entry.Command.{Command}
-use Rattle.history.specs.declared.entry.Command.TheVariants.{Fetch, Store, Put, Get}
+use Rattle.history.specs.declared.entry.Command.TheVariants.{Fetch}
 use Rattle.history.specs.declared.entry.Entry.{Entry}
-use Rattle.history.specs.declared.entry.Entry.TheVariants.{Done, Fault, Collect}
+use Rattle.history.specs.declared.entry.Entry.TheVariants.{Done, Fault}
 use Rattle.history.specs.Setup.{Setup}
 use Rattle.history.specs.Tokens.{Request, request, was_collected, is_flush, from_of, until_of}
-use Rattle.history.specs.Contents.{lies_in, reads, bytes_read}
+use Rattle.history.specs.Contents.{lies_in, bytes_read}
 use Rattle.history.specs.Marks.{mark_of, moves, is_moved}
 use Rattle.disk_core.specs.declared.record.Record.{Record}
 use Rattle.disk_core.specs.State.{AreGiven}
 use Rattle.disk_core.specs.Sound.{Tracks, low_or}
-use Rattle.disk_core.specs.Bookkeeping.{finished_record, failed_record}
+use Rattle.disk_core.specs.Bookkeeping.{failed_record}
 use Rattle.disk_core.proofs.Silence.{IsSilent}
 use Rattle.disk_core.proofs.Moved.{moved-unit, next-low}
 use Rattle.disk_core.proofs.Ends.{mark-complete, mark-open, mark-fault}

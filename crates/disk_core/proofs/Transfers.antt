@@ -1,12 +1,11 @@
 -- What a transfer of one block does to some of its bytes.
-use Rattle.std.proofs.Common.{◌≡◌, ◌≢◌, ℕ, zero, suc, ◌+◌, ◌-◌, ◌*◌, ◌<◌, ◌≤◌, Bool, true, false, List, [], ◌∷◌, ◌++◌, length, take, drop, Option, None, Some, Result, Ok, Err, OnOk, OnErr, refl, sym, ◌∙◌, ap, arith, slice_get, if◌then◌else◌, length-take, length-drop}
-use Rattle.std.proofs.lemmas.List.{drop-take}
+use Rattle.std.proofs.Common.{◌≡◌, ℕ, zero, suc, ◌+◌, ◌*◌, ◌<◌, ◌≤◌, List, [], length, take, drop, Option, None, Some, Result, Ok, Err, refl, sym, ◌∙◌, ap, arith, slice_get, length-take, length-drop}
 use Rattle.std.proofs.Math.Nat.{mul-le-mul_right}
 use Rattle.byte_lists.specs.Patching.{patch}
 use Rattle.medium.specs.declared.block_failed.BlockFailed.{BlockFailed}
-use Rattle.medium.specs.Device.{Device, IsShaped, IsTold, IsTransfer, IsWrite, IsCommand, AreToldAt, patch_told, written}
+use Rattle.medium.specs.Device.{Device, IsShaped, IsTold, IsTransfer, IsWrite, AreToldAt, patch_told}
 use Rattle.disk_core.specs.Moving.{WritesTo}
-use Rattle.disk_core.proofs.Patches.{same-bytes, part-byte, patch-block, patch-nothing, get-take, get-drop}
+use Rattle.disk_core.proofs.Patches.{same-bytes, part-byte, patch-block, patch-nothing}
 
 -- bytes of a told block
 pub told-part : (told : Option (List ℕ)) (at skip count : ℕ) (block : List ℕ) → AreToldAt told at block → skip + count ≤ length block → AreToldAt told (at + skip) (take count (drop skip block))

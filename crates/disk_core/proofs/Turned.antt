@@ -1,5 +1,5 @@
 -- The next unit's command is the command that comes next, and a step that made it.
-use Rattle.std.proofs.Common.{◌≡◌, ◌≢◌, ℕ, zero, suc, ◌+◌, ◌<◌, ◌≤◌, Bool, true, false, List, [], ◌∷◌, slice_get, set, map, length, Option, None, Some, refl, sym, ◌∙◌, ap, arith, if◌then◌else◌}
+use Rattle.std.proofs.Common.{◌≡◌, ◌≢◌, ℕ, ◌<◌, ◌≤◌, Bool, true, false, List, ◌∷◌, slice_get, set, None, Some, refl, sym, ◌∙◌, ap, arith}
 use Rattle.std.proofs.lemmas.Bool.{false_from_ne_true}
 use Rattle.disk_split.specs.declared.span.Span.{Span}
 use Rattle.medium.specs.Counts.{Rose}
@@ -11,14 +11,13 @@ use Rattle.history.specs.declared.entry.Command.TheVariants.{Fetch, Store, Put, 
 use Rattle.history.specs.declared.entry.Entry.{Entry}
 use Rattle.history.specs.Setup.{Setup}
 use Rattle.history.specs.Tokens.{Request, accepted}
-use Rattle.history.specs.Marks.{mark_of, was_fetched, Holds}
-use Rattle.history.specs.Next.{first_open, span_command, Turn, next_turn, Outcome, Made, Failed, entry_of}
-use Rattle.disk_core.specs.declared.answers.Step.{Step}
+use Rattle.history.specs.Marks.{mark_of, was_fetched}
+use Rattle.history.specs.Next.{span_command, Turn, next_turn, Outcome, Failed, entry_of}
 use Rattle.disk_core.specs.declared.answers.Step.TheVariants as step
 use Rattle.disk_core.specs.declared.record.Record.{Record}
 use Rattle.disk_core.specs.declared.record.Core.{Core}
 use Rattle.disk_core.specs.Sound.{IsSound, Tracks}
-use Rattle.disk_core.specs.Calls.{Fills, Moves, is_fetched, Steps}
+use Rattle.disk_core.specs.Calls.{Fills, Moves, is_fetched}
 use Rattle.disk_core.specs.Stepping.{Stepped, buffers_of}
 use Rattle.disk_core.proofs.Places.{some-inside, map-set, set-itself, get-map, inside-some}
 use Rattle.disk_core.proofs.May.{IsNext, next-unstored}

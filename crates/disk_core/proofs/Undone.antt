@@ -1,19 +1,19 @@
 -- A unit whose first byte is not moved was not stored, put or got.
-use Rattle.std.proofs.Common.{◌≡◌, ◌≢◌, ℕ, zero, suc, ◌+◌, ◌-◌, ◌*◌, ◌/◌, ◌<◌, ◌≤◌, min, max, ◌⊎◌, inl, inr, Bool, true, false, ◌&&◌, ◌||◌, List, [], ◌∷◌, slice_get, Option, None, Some, refl, sym, ◌∙◌, ap, arith, nat_eq, nat_lt, nat_le}
-use Rattle.std.proofs.lemmas.Bool.{eqb-true, or_cases, or_left, or_right, and_parts, and_from, le-leb, lt-ltb, leb-true, ltb-true, le-ltb, false_from_ne_true, both_ways, eq-eqb}
+use Rattle.std.proofs.Common.{◌≡◌, ℕ, ◌+◌, ◌*◌, ◌<◌, ◌≤◌, min, inl, inr, Bool, true, false, ◌&&◌, List, [], ◌∷◌, arith, nat_eq, nat_lt, nat_le}
+use Rattle.std.proofs.lemmas.Bool.{eqb-true, or_cases, or_left, or_right, and_parts, and_from, le-leb, lt-ltb, ltb-true, false_from_ne_true, both_ways, eq-eqb}
 use Rattle.std.proofs.Math.Nat.{mul-le-mul_right}
 use Rattle.disk_split.specs.declared.span.Span.{Span}
-use Rattle.disk_split.specs.Units.{up, IsRun, IsPart, IsKind, IsUnit}
+use Rattle.disk_split.specs.Units.{up, IsRun, IsKind, IsUnit}
 use Rattle.disk_split.proofs.Rounding.{up-reaches, wider}
 use Rattle.history.specs.declared.entry.Command.{Command}
 use Rattle.history.specs.declared.entry.Command.TheVariants.{Fetch, Store, Put, Get, Sync}
 use Rattle.history.specs.declared.entry.Entry.{Entry}
 use Rattle.history.specs.declared.entry.Entry.TheVariants.{Accept, Refuse, Done, Fault, Collect, Cancel, Reset, Eject, Insert, Protect}
 use Rattle.history.specs.Setup.{Setup}
-use Rattle.history.specs.Tokens.{Request, from_of, until_of}
+use Rattle.history.specs.Tokens.{from_of, until_of}
 use Rattle.history.specs.Contents.{lies_in}
 use Rattle.history.specs.Marks.{is_moved, moves, was_stored, was_put, was_got}
-use Rattle.history.specs.Rules.{IsLegal, MayFollow, MayCommand, MayPut, MayGet}
+use Rattle.history.specs.Rules.{IsLegal, MayFollow, MayCommand}
 
 -- a block is in any run that begins with it
 wide : (size b n x : ℕ) → 0 < n → lies_in size b 1 x ≡ true → lies_in size b n x ≡ true

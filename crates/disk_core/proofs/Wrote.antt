@@ -1,19 +1,18 @@
 -- The next unit of a write is fetched, stored or put, or its command fails.
-use Rattle.std.proofs.Common.{◌≡◌, ◌≢◌, ℕ, zero, suc, ◌+◌, ◌-◌, ◌*◌, ◌^◌, ◌<◌, ◌≤◌, min, max, Bool, true, false, List, [], ◌∷◌, slice_get, set, take, drop, length, Option, None, Some, Result, Ok, Err, refl, sym, ◌∙◌, ap, arith, if◌then◌else◌, length-take, length-drop}
+use Rattle.std.proofs.Common.{inr, ◌≡◌, ℕ, ◌+◌, ◌-◌, ◌*◌, ◌^◌, ◌<◌, true, false, List, ◌∷◌, take, drop, length, None, Some, Ok, Err, refl, sym, ◌∙◌, ap, arith, length-take}
 use Rattle.std.proofs.Math.Nat.{lt_of_mul-lt-mul_right}
 use Rattle.disk_split.specs.declared.span.Span.{Span}
 use Rattle.medium.specs.declared.block_failed.BlockFailed.{BlockFailed}
-use Rattle.medium.specs.Device.{Device, IsShaped, IsCommand, IsRead, IsWrite, StayPrepared, AreToldAt, patch_told}
-use Rattle.history.specs.declared.entry.Kind.TheVariants.{Read, Write}
-use Rattle.history.specs.declared.entry.Command.TheVariants.{Fetch, Store, Put, Get}
+use Rattle.medium.specs.Device.{Device, IsShaped, IsRead, IsWrite, StayPrepared, AreToldAt}
+use Rattle.history.specs.declared.entry.Kind.TheVariants.{Write}
+use Rattle.history.specs.declared.entry.Command.TheVariants.{Fetch, Store, Put}
 use Rattle.history.specs.declared.entry.Entry.{Entry}
 use Rattle.history.specs.declared.entry.Entry.TheVariants.{Done, Fault}
 use Rattle.history.specs.Setup.{Setup}
-use Rattle.history.specs.Eras.{inserts}
 use Rattle.history.specs.Tokens.{Request, from_of, until_of}
 use Rattle.history.specs.Contents.{contents, piece_of, bytes_between}
-use Rattle.history.specs.Marks.{Holds, mark_of}
-use Rattle.history.specs.Next.{Made, Failed}
+use Rattle.history.specs.Marks.{Holds}
+use Rattle.history.specs.Next.{Made}
 use Rattle.disk_core.specs.declared.answers.Step.TheVariants as step
 use Rattle.disk_core.specs.declared.record.Record.{Record}
 use Rattle.disk_core.specs.declared.record.Core.{Core}
@@ -28,10 +27,11 @@ use Rattle.disk_core.proofs.Gates.{NoneHeld, none-held, gate-fetch, none-after-p
 use Rattle.disk_core.proofs.May.{IsNext, may-fetch, may-store, may-put, next-unput, next-unstored, part-of}
 use Rattle.disk_core.proofs.Own.{done-owed, fetch-falls, store-falls, put-falls}
 use Rattle.disk_core.proofs.Pieces.{put-contents, store-contents, fault-contents}
-use Rattle.disk_core.proofs.Places.{set-itself, get-map, inside-some}
+use Rattle.disk_core.proofs.Places.{set-itself}
+use Rattle.disk_core.proofs.Spent.{next-owes}
 use Rattle.disk_core.proofs.Stepped.{Leaves, done-own, sound-after}
 use Rattle.disk_core.proofs.Tracked.{tracks-fetch}
-use Rattle.disk_core.proofs.Turned.{moves-by, turn-fetch, turn-store, turn-put, unfetched, buffers-same}
+use Rattle.disk_core.proofs.Turned.{moves-by, turn-fetch, turn-store, turn-put, unfetched}
 
 -- the bytes of the unit
 abbrev pub unit_bytes : Record → Span → List ℕ
@@ -192,6 +192,7 @@ fetch-done S d d' prepared prepared' c c' r u block block' shaped sound stay nex
           gate = rw (ends.records, ends.block) (gate-fetch S H c.records.items c.first r u block' c'.held none ends.held is.token (after.status ∙ is.unended) (next-unstored S H c.first r q u is) told next.is next.unit next.of_kind part);
           owed = done-owed S.size H c.first (Fetch u.block) q r.finished u is.tracks.named (rw is.tracks.of_kind is.tracks.moving) (is.tracks.status ∙ is.unended) (rw is.tracks.units at is.has.is)
               (rw (is.tracks.of_kind, next.of_kind, part) (fetch-falls H c.first u.block (unfetched S H c.first r q u is none) (next-unstored S H c.first r q u is)));
+          spent = inr (next-owes S H c.first r q u is);
           becomes = record { units = refl; kind = refl; unended = λ _. is.unended };
         } in
         record {

@@ -1,8 +1,6 @@
 -- What becomes of a record at the end of a command (own profile).
-use Rattle.std.specs.Prelude.{◌≡◌, ℕ, ◌+◌, Bool, true, nat_eq, if◌then◌else◌, List, [], ◌∷◌, set, Option, Some, length}
-use Rattle.efi_status.specs.declared.Status.{Status}
+use Rattle.std.specs.Prelude.{◌≡◌, ℕ, ◌+◌, true, nat_eq, if◌then◌else◌, [], ◌∷◌, set, Some, length}
 use Rattle.efi_status.specs.declared.Status.TheVariants.{Success, DeviceError}
-use Rattle.history.specs.declared.entry.Entry.{Entry}
 use Rattle.history.specs.declared.entry.Entry.TheVariants.{Collect}
 use Rattle.disk_core.specs.declared.record.Record.{Record}
 use Rattle.disk_core.specs.declared.record.Core.{Core}

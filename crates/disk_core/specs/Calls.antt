@@ -1,5 +1,5 @@
 -- What each call of a disk does (UEFI 2.10, 13.7 and 13.8; steps: own profile).
-use Rattle.std.specs.Prelude.{◌≡◌, ◌≢◌, ℕ, ◌+◌, ◌-◌, ◌*◌, ◌<◌, ◌≤◌, min, max, ◌⊎◌, Bool, true, false, List, [], ◌∷◌, ◌++◌, length, set, slice_get, Option, None, Some, Result, Ok, Err}
+use Rattle.std.specs.Prelude.{◌≡◌, ℕ, ◌+◌, ◌-◌, ◌*◌, ◌<◌, ◌≤◌, min, max, ◌⊎◌, Bool, true, false, List, [], ◌∷◌, ◌++◌, length, set, slice_get, None, Some, Result, Ok, Err}
 use Rattle.byte_lists.specs.Patching.{patch}
 use Rattle.medium.specs.Device.{AreToldAt}
 use Rattle.medium.specs.Counts.{Rose}
@@ -15,7 +15,7 @@ use Rattle.history.specs.declared.entry.Entry.TheVariants.{Accept, Refuse, Colle
 use Rattle.history.specs.Setup.{Setup}
 use Rattle.history.specs.Eras.{media_id_of}
 use Rattle.history.specs.Tokens.{Request, accepted, request, was_collected, from_of, until_of}
-use Rattle.history.specs.Contents.{contents, bytes_read}
+use Rattle.history.specs.Contents.{contents}
 use Rattle.history.specs.Marks.{mark_of}
 use Rattle.history.specs.Rules.{refusal_of, IsLegal}
 use Rattle.history.specs.Room.{owed_entries}
@@ -59,6 +59,7 @@ pub record Accepts (old : State) (tag : ℕ) (view : View) (media_id : ℕ) (ask
   pub unrefused : refusal_of old.setup old.entries view asked media_id ≡ None
   pub numbered : token ≡ accepted old.entries
   pub buffers : new.buffers ≡ old.buffers ++ (buffer ∷ [])
+  pub placed : slice_get new.buffers token ≡ Some buffer
   pub faults : new.faults ≡ old.faults
 
 pub record Refuses (old : State) (tag : ℕ) (view : View) (media_id : ℕ) (asked : Asked) (status : Status) (buffer handed : List ℕ) (new : State) : Type 0 where
@@ -88,10 +89,13 @@ Submits old tag view media_id ask result new = SubmitsAsked old tag view media_i
 -- a get puts what the medium holds into its token's buffer, and nothing else changes
 pub record Gets (S : Setup) (H : List Entry) (t b n : ℕ) (old new : List (List ℕ)) (q : Request) : Type 0 where
   pub named : request H t ≡ Some q
+  pub buffer : List ℕ
+  pub there : slice_get old t ≡ Some buffer
   pub piece : List ℕ
   pub counted : length piece ≡ min (until_of S.size q) ((b + n) * S.size) - max (from_of S.size q) (b * S.size)
   pub same : AreToldAt (contents S (media_id_of H) H) (max (from_of S.size q) (b * S.size)) piece
-  pub filled : (buffer : List ℕ) → slice_get old t ≡ Some buffer → new ≡ set old t (patch buffer (max (from_of S.size q) (b * S.size) - from_of S.size q) piece)
+  pub fits : max (from_of S.size q) (b * S.size) - from_of S.size q + length piece ≤ length buffer
+  pub filled : new ≡ set old t (patch buffer (max (from_of S.size q) (b * S.size) - from_of S.size q) piece)
 
 -- what a command does to the buffers
 abbrev pub Fills : Setup → List Entry → ℕ → Command → Outcome → List (List ℕ) → List (List ℕ) → Type 0

@@ -1,5 +1,6 @@
 pub mod Bookkeeping
 pub mod Calls
+pub mod GoingOn
 pub mod Moving
 pub mod Sound
 pub mod State

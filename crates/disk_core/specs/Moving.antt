@@ -1,5 +1,5 @@
 -- How bytes move between a buffer and a medium (own profile).
-use Rattle.std.specs.Prelude.{◌≡◌, ℕ, ◌+◌, ◌-◌, ◌*◌, List, length, Option, Some, None, Result, OnOk, OnErr, IfErr, if◌then◌else◌}
+use Rattle.std.specs.Prelude.{◌≡◌, ℕ, List, length, Option, Result, OnOk, OnErr, IfErr, if◌then◌else◌}
 use Rattle.byte_lists.specs.Patching.{patch}
 use Rattle.medium.specs.declared.block_failed.BlockFailed.{BlockFailed}
 use Rattle.medium.specs.Device.{Device, IsCommand, AreToldAt, patch_told}

@@ -1,20 +1,17 @@
 -- What holds of a disk whenever no call of it runs: its facts (own profile).
-use Rattle.std.specs.Prelude.{◌≡◌, ◌≢◌, ℕ, ◌+◌, ◌-◌, ◌*◌, ◌^◌, ◌<◌, ◌≤◌, Bool, true, false, nat_lt, List, [], ◌∷◌, length, slice_get, Option, None, Some, Vec, vec_len}
-use Rattle.efi_status.specs.declared.Status.{Status}
+use Rattle.std.specs.Prelude.{◌≡◌, ◌≢◌, ℕ, ◌+◌, ◌-◌, ◌*◌, ◌^◌, ◌<◌, ◌≤◌, true, false, nat_lt, List, [], length, slice_get, Option, None, Some}
 use Rattle.disk_split.specs.declared.span.Span.{Span}
 use Rattle.disk_split.specs.Units.{units_of}
 use Rattle.medium.specs.Device.{Device, AreToldAt}
-use Rattle.history.specs.declared.entry.Kind.{Kind}
 use Rattle.history.specs.declared.entry.Kind.TheVariants.{Read, Write}
 use Rattle.history.specs.declared.entry.Entry.{Entry}
-use Rattle.history.specs.Log.{Log}
 use Rattle.history.specs.Setup.{Setup, blocks_of}
 use Rattle.history.specs.Eras.{ejects, inserts, is_protected}
 use Rattle.history.specs.Tokens.{Request, accepted, request, was_collected, is_flush, from_of, until_of}
 use Rattle.history.specs.Contents.{contents}
 use Rattle.history.specs.Marks.{mark_of, is_moved, Holds}
 use Rattle.history.specs.Rules.{IsLegal}
-use Rattle.history.specs.Room.{owed_entries}
+use Rattle.history.specs.Room.{commands_of, runs_of, token_owed, owed_entries}
 use Rattle.disk_core.specs.declared.record.Record.{Record}
 use Rattle.disk_core.specs.declared.record.Core.{Core}
 use Rattle.disk_core.specs.State.{Meets, AreGiven}
@@ -58,6 +55,10 @@ AreReady S records ready = (t k b : ℕ) (r : Record) (u : Span) → slice_get r
 abbrev pub AreFew : List Entry → ℕ → Type 0
 AreFew H spare = length H + spare < 2 ^ 63
 
+-- the commands that a token has made and still owes are few: two of the entries that an open token owes are no commands
+abbrev pub SpendFew : Setup → List Entry → Type 0
+SpendFew S H = (t : ℕ) (q : Request) → request H t ≡ Some q → commands_of H t + (token_owed S.size H t - 2) ≤ runs_of S.size q + 4
+
 -- one medium that is in and not protected
 pub record IsPlain (S : Setup) (H : List Entry) : Type 0 where
   pub ejects : ejects H ≡ 0
@@ -78,3 +79,4 @@ pub record IsSound (S : Setup) (d : Device) (prepared : ℕ → Type 0) (c : Cor
   pub ready : AreReady S c.records.items prepared
   pub few : AreFew c.history.entries c.history.spare
   pub room : owed_entries S c.history.entries ≤ c.history.spare
+  pub spent : SpendFew S c.history.entries

@@ -2,7 +2,7 @@
 use Rattle.std.specs.Prelude.{◌≡◌, ℕ, ◌-◌, ◌<◌, ◌≤◌, false, List, [], ◌∷◌, slice_get, Some}
 use Rattle.medium.specs.Device.{Device}
 use Rattle.history.specs.declared.entry.Entry.{Entry}
-use Rattle.history.specs.Setup.{Setup, Opening}
+use Rattle.history.specs.Setup.{Setup}
 use Rattle.history.specs.Tokens.{Request, from_of, until_of}
 use Rattle.history.specs.Contents.{contents, kept_contents, bytes_read}
 use Rattle.history.specs.Room.{commands, faults}

@@ -1,6 +1,5 @@
 -- What the parts of a step do (own profile).
-use Rattle.std.specs.Prelude.{◌≡◌, ℕ, ◌+◌, ◌*◌, ◌^◌, ◌<◌, ◌≤◌, Bool, true, false, List, length, slice_get, map, Option, None, Some}
-use Rattle.efi_status.specs.declared.Status.{Status}
+use Rattle.std.specs.Prelude.{◌≡◌, ℕ, ◌+◌, ◌*◌, ◌^◌, ◌<◌, ◌≤◌, true, false, List, length, slice_get, map, None, Some}
 use Rattle.disk_split.specs.declared.span.Span.{Span}
 use Rattle.medium.specs.Device.{Device}
 use Rattle.history.specs.declared.entry.Kind.{Kind}

@@ -1,5 +1,5 @@
 -- What accepting a request needs (UEFI 2.10, 13.7; room and order of refusals: own profile).
-use Rattle.std.specs.Prelude.{◌≡◌, ℕ, zero, suc, ◌+◌, ◌-◌, ◌^◌, ◌<◌, ◌≤◌, Bool, true, false, not, nat_eq, nat_lt, ◌&&◌, ◌||◌, if◌then◌else◌, List, [], ◌∷◌, ◌++◌, slice_get, length, Option, None, Some}
+use Rattle.std.specs.Prelude.{◌≡◌, ℕ, ◌+◌, ◌-◌, ◌^◌, ◌<◌, ◌≤◌, Bool, true, false, not, nat_eq, nat_lt, ◌&&◌, ◌||◌, if◌then◌else◌, List, [], ◌∷◌, ◌++◌, slice_get, length, Option, None, Some}
 use Rattle.efi_status.specs.declared.Status.{Status}
 use Rattle.efi_status.specs.declared.Status.TheVariants.{Success, InvalidParameter, MediaChanged}
 use Rattle.disk_split.specs.declared.span.Span.{Span}

@@ -1,6 +1,7 @@
 ghost use Rattle.std.specs.Prelude.{◌≡◌, ℕ, ◌^◌, ◌≤◌, [], length, IfOk, IfErr};
 ghost use Rattle.medium.specs.Device.{IsFresh};
 ghost use Rattle.disk_core.specs.Submitting.{IsNewCore};
+ghost use Rattle.history.specs.Room.{AreFewCommands};
 ghost use Rattle.history.specs.Rules.{IsLegal};
 
 use crate::answers::{Ask, Done, MediumBack, NotThere, Refused, Step, Token};
@@ -121,10 +122,11 @@ impl<M: Medium> Disk<M> {
         collect_from(self.alloc, &self.medium, &mut self.core, tag, number)
     }
 
-    /// What has happened on the disk. It is legal.
+    /// What has happened on the disk. It is legal, and no token has more than four commands beside its runs.
     pub fn history(&self) -> &History
         ensures entries { result.now.entries ≡ self.now.entries }
         ensures legal { IsLegal self.now.setup self.now.entries }
+        ensures few_commands { AreFewCommands self.now.setup.size self.now.entries }
     {
         &self.core.history
     }
@@ -141,6 +143,7 @@ impl<M: Medium> Disk<M> {
         ensures meets { Meets self.setup self.entries (M.device result.0) }
         ensures entries { result.1.entries ≡ self.entries }
         ensures legal { IsLegal self.setup self.entries }
+        ensures few_commands { AreFewCommands self.setup.size self.entries }
     {
         let Disk { medium, core, .. } = self;
         let Core { history, .. } = core;

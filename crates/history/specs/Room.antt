@@ -1,8 +1,8 @@
 -- How many commands and faults a history has, and how many entries are still owed (own profile).
-use Rattle.std.specs.Prelude.{ℕ, zero, suc, ◌+◌, ◌-◌, Bool, true, false, List, [], ◌∷◌, length, Option, None, Some}
+use Rattle.std.specs.Prelude.{◌≡◌, ℕ, zero, suc, ◌+◌, ◌-◌, ◌/◌, ◌≤◌, Bool, true, false, nat_eq, if◌then◌else◌, List, [], ◌∷◌, length, Option, None, Some}
 use Rattle.efi_status.specs.declared.Status.{Status}
 use Rattle.disk_split.specs.declared.span.Span.{Span}
-use Rattle.disk_split.specs.Units.{units_of}
+use Rattle.disk_split.specs.Units.{whole_of, units_of}
 use Rattle.history.specs.declared.entry.Kind.{Kind}
 use Rattle.history.specs.declared.entry.Kind.TheVariants.{Read, Write, Flush}
 use Rattle.history.specs.declared.entry.Entry.{Entry}
@@ -19,7 +19,22 @@ commands (Done t c ∷ before) = commands before + 1
 commands (Fault t c done ∷ before) = commands before + 1
 commands (e ∷ before) = commands before
 
--- how many of them failed
+-- how many of them were made for this token
+unfoldable pub commands_of : List Entry → ℕ → ℕ
+commands_of [] t = 0
+commands_of (Done u c ∷ before) t = if nat_eq u t then commands_of before t + 1 else commands_of before t
+commands_of (Fault u c done ∷ before) t = if nat_eq u t then commands_of before t + 1 else commands_of before t
+commands_of (e ∷ before) t = commands_of before t
+
+-- into how many runs the whole blocks of a request are cut
+abbrev pub runs_of : ℕ → Request → ℕ
+runs_of size r = (whole_of size (from_of size r) (until_of size r) + 63) / 64
+
+-- each token has at most four commands beside one for each of its runs
+abbrev pub AreFewCommands : ℕ → List Entry → Type 0
+AreFewCommands size H = (t : ℕ) (r : Request) → request H t ≡ Some r → commands_of H t ≤ runs_of size r + 4
+
+-- how many of all failed
 unfoldable pub faults : List Entry → ℕ
 faults [] = 0
 faults (Fault t c done ∷ before) = faults before + 1

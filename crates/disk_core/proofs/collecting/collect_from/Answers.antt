@@ -1,4 +1,4 @@
-use Rattle.std.proofs.Common.{rules, arith, refl, sym, ap, ◌∙◌, ◌≡◌, ◌<◌, length, slice_get, Some, false}
+use Rattle.std.proofs.Common.{rules, arith, refl, sym, ◌∙◌, ◌≡◌, ◌<◌, length, false}
 use Rattle.std.proofs.lemmas.Option.{slice_get_read}
 use Rattle.disk_core.proofs.Collected.{collected-sound, collect-room}
 use Rattle.disk_core.proofs.Submits.{collect-collects}

@@ -1,4 +1,4 @@
-use Rattle.std.proofs.Common.{rules, refl, sym, ap, ◌∙◌, ◌≡◌}
+use Rattle.std.proofs.Common.{rules, refl, ap, ◌≡◌}
 use Rattle.disk_core.specs.declared.record.Record.{Record}
 use Rattle.disk_core.proofs.Endings.{read-is}
 use Rattle.disk_core.proofs.collecting.hand_back.Goals as goal

@@ -1,4 +1,4 @@
-use Rattle.std.proofs.Common.{rules, arith, refl, ◌≡◌, ◌+◌, ◌-◌, length, take, drop, length-take, length-drop, ◌∙◌, ap}
+use Rattle.std.proofs.Common.{rules, arith, ◌≡◌, length, take, drop}
 use Rattle.std.proofs.lemmas.Grind.{common_steps}
 use Rattle.disk_core.proofs.Transfers.{told-part}
 use Rattle.disk_core.proofs.moving.read_part.Goals as goal

@@ -1,5 +1,4 @@
-use Rattle.std.proofs.Common.{rules, arith, refl, ◌≡◌, ◌+◌, ◌-◌, length, take, drop, length-take, length-drop, ◌∙◌, ap}
-use Rattle.std.proofs.lemmas.Grind.{common_steps}
+use Rattle.std.proofs.Common.{arith, ◌≡◌, ◌+◌, ◌-◌, take, drop, length-take, length-drop}
 use Rattle.disk_core.proofs.Transfers.{writes-part}
 use Rattle.disk_core.proofs.moving.write_part.Goals as goal
 

@@ -1,8 +1,7 @@
-use Rattle.std.proofs.Common.{rules, arith, refl, sym, ap, ◌∙◌, ◌≡◌, ◌<◌, length, set, slice_get, Some}
+use Rattle.std.proofs.Common.{rules, refl}
 use Rattle.std.proofs.lemmas.Grind.{common_steps}
 use Rattle.history.specs.declared.entry.Kind.TheVariants.{Write}
-use Rattle.disk_core.specs.declared.record.Record.{Record}
-use Rattle.disk_core.proofs.Endings.{next-room, next-left, read-is}
+use Rattle.disk_core.proofs.Endings.{next-room}
 use Rattle.disk_core.proofs.Facts.{lies-of, part-transfer}
 use Rattle.disk_core.proofs.Places.{inside-some}
 use Rattle.std.proofs.lemmas.List.{with_items_is}

@@ -1,8 +1,7 @@
-use Rattle.std.proofs.Common.{rules, arith, refl, sym, ap, ◌∙◌, ◌≡◌, ◌<◌, length, set, slice_get, Some}
+use Rattle.std.proofs.Common.{rules, arith, ◌∙◌, ◌≡◌}
 use Rattle.std.proofs.lemmas.Grind.{common_steps}
 use Rattle.std.proofs.lemmas.List.{set-set}
 use Rattle.history.specs.declared.entry.Kind.TheVariants.{Read}
-use Rattle.disk_core.specs.declared.record.Record.{Record}
 use Rattle.disk_core.specs.Stepping.{SameButBuffer}
 use Rattle.disk_core.proofs.Endings.{room-some, read-is, unit-left}
 use Rattle.disk_core.proofs.Facts.{next-of, unit-facts}

@@ -1,11 +1,8 @@
-use Rattle.std.proofs.Common.{rules, arith, refl, sym, ap, ◌∙◌, ◌≡◌, ◌<◌, length, set, slice_get, Some}
-use Rattle.std.proofs.lemmas.Grind.{common_steps}
+use Rattle.std.proofs.Common.{arith, sym, ap, ◌≡◌, length}
 use Rattle.history.specs.declared.entry.Kind.TheVariants.{Write}
-use Rattle.disk_core.specs.declared.record.Record.{Record}
 use Rattle.disk_core.proofs.Endings.{next-room, next-left, read-is}
-use Rattle.disk_core.proofs.Facts.{lies-of, part-transfer}
+use Rattle.disk_core.proofs.Facts.{lies-of}
 use Rattle.disk_core.proofs.Places.{inside-some}
-use Rattle.disk_core.specs.Stepping.{UnitLies}
 use Rattle.disk_core.proofs.Wrote.{put-done, put-not}
 use Rattle.disk_core.proofs.stepping.put.Goals as goal
 

@@ -1,4 +1,4 @@
-use Rattle.std.proofs.Common.{ap, ◌∙◌, ◌≡◌, ◌+◌, length}
+use Rattle.std.proofs.Common.{ap, ◌∙◌, ◌+◌, length}
 use Rattle.disk_split.specs.Units.{units_of}
 use Rattle.disk_core.proofs.Followed.{size-of}
 use Rattle.disk_core.proofs.Submits.{TakesRoom, accept-sound, accept-accepts}

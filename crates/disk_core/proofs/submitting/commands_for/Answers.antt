@@ -1,4 +1,4 @@
-use Rattle.std.proofs.Common.{arith, refl, ◌∙◌, ◌≡◌, ◌+◌, ◌≤◌, length, drop, sym}
+use Rattle.std.proofs.Common.{arith, ◌≡◌, drop}
 use Rattle.disk_core.specs.Submitting.{cost_of}
 use Rattle.disk_core.proofs.Costs.{cost-step, cost-over, unit-cost-few}
 use Rattle.disk_core.proofs.submitting.commands_for.Goals as goal

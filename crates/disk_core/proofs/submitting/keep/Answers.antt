@@ -1,4 +1,4 @@
-use Rattle.std.proofs.Common.{rules, arith, refl, ◌≡◌, ◌∙◌, true, false, length}
+use Rattle.std.proofs.Common.{rules, refl, ◌∙◌}
 use Rattle.disk_core.proofs.submitting.keep.Goals as goal
 
 pub returns-clause-kept : goal.returns-clause-kept

@@ -1,6 +1,5 @@
-use Rattle.std.proofs.Common.{rules, arith, refl, ap, ◌∙◌, ◌≡◌, ◌+◌, ◌≤◌, ◌<◌, ◌^◌, length}
+use Rattle.std.proofs.Common.{arith, refl, ap, length}
 use Rattle.history.specs.declared.entry.Entry.TheVariants.{Refuse}
-use Rattle.disk_core.specs.declared.record.Core.{Core}
 use Rattle.disk_core.proofs.Refusing.{LeavesRefused, refused-sound}
 use Rattle.disk_core.proofs.Submits.{refusal-here, refuse-refuses}
 use Rattle.disk_core.proofs.submitting.refuse.Goals as goal

@@ -1,5 +1,4 @@
-use Rattle.std.proofs.Common.{rules, arith, ◌≡◌, ◌+◌, ◌<◌, ◌∙◌, length}
-use Rattle.disk_split.specs.Units.{units_of}
+use Rattle.std.proofs.Common.{arith, ◌<◌}
 use Rattle.disk_core.proofs.Facts.{lie-on, sizes-bounds}
 use Rattle.disk_core.proofs.submitting.take_room.Goals as goal
 
