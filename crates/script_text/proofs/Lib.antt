@@ -9,5 +9,6 @@ pub mod Clean
 pub mod PlanLemmas
 pub mod Cuts
 pub mod Numbers
+pub mod TokenEnds
 pub mod Tokens
 pub mod Causes
