@@ -24,15 +24,13 @@ echo 'write_bench: disk_core history medium efi_status' >> "$scratch/crates.txt"
 cat > "$program/src/main.rt" <<'PROGRAM'
 #![tactic(auto)]
 
-use std::alloc::{AllocError, Global};
-use std::env;
-use std::io;
-use std::time::Instant;
-
 use disk_core::{Ask, Disk, Step};
 use efi_status::Status;
 use history::View;
 use medium::MemMedium;
+use std::alloc::{AllocError, Global};
+use std::time::Instant;
+use std::{env, io};
 
 const WHOLE: View = View {
     start: 0,
