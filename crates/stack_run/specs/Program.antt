@@ -10,7 +10,7 @@ use Rattle.script_text.specs.Script.{script_of}
 use Rattle.stack_run.specs.declared.refusal.Refusal.{Refusal}
 use Rattle.stack_run.specs.declared.refusal.Refusal.TheVariants.{Words, Script, Image as ImageOf, Source, Memory}
 use Rattle.stack_run.specs.Reading.{IsScript, AreOne}
-use Rattle.stack_run.specs.Serving.{Served, ServedInPart, ImageFails, MayLeave, LacksBlock}
+use Rattle.stack_run.specs.Serving.{Served, ImageFails, MayLeave, LacksBlock}
 
 -- the words are the one word `plain`
 abbrev pub is_plain : List (List ℕ) → Bool
@@ -53,7 +53,7 @@ pub record ServedOne (plans : List DiskPlan) (at at' : List ℕ → Image) (wrot
   pub plan : DiskPlan
   pub client : ClientPlan
   pub one : AreOne plans plan client
-  pub served : Served plan client at at' wrote wrote'
+  pub served : Served plan client at at' (Appends wrote wrote')
 
 -- its image could not be taken or put back, and the line says so
 pub record ImageFailed (plans : List DiskPlan) (at at' : List ℕ → Image) (wrote wrote' : Option (List ℕ)) (faults faults' : ℕ) : Type 0 where
@@ -69,7 +69,7 @@ pub record SinkFailed (plans : List DiskPlan) (at at' : List ℕ → Image) (wro
   pub plan : DiskPlan
   pub client : ClientPlan
   pub one : AreOne plans plan client
-  pub served : ServedInPart plan client at at' wrote wrote'
+  pub served : Served plan client at at' (AppendsFront wrote wrote')
   pub cause : Rose faults faults'
 
 -- memory ran out, and its image is left so

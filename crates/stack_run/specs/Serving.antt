@@ -9,7 +9,6 @@ use Rattle.history.specs.Contents.{kept_contents}
 use Rattle.history.specs.Rules.{IsLegal}
 use Rattle.history.specs.Room.{faults}
 use Rattle.disk_core.specs.State.{Meets}
-use Rattle.image_store.specs.Edge.{Appends, AppendsFront}
 use Rattle.image_store.specs.Place.{Place, Here, Missing, Taken, Untold, Image, IsShort, MayBeShort, ChangesOnly, whole_blocks, tail_of}
 use Rattle.script_text.specs.declared.grammar.plans.DiskPlan.{DiskPlan}
 use Rattle.script_text.specs.declared.grammar.plans.ClientPlan.{ClientPlan}
@@ -92,25 +91,15 @@ pub record RanDisk (plan : DiskPlan) (client : ClientPlan) (old new : Image) (ru
   pub fits : run.blocks * plan.size < 2 ^ 64
   pub ends : AreEnds plan.size run.history.entries run.ends.items
 
--- the report and the images are those of one history
-pub record Served (plan : DiskPlan) (client : ClientPlan) (at at' : List ℕ → Image) (wrote wrote' : Option (List ℕ)) : Type 0 where
+-- the images are those of one history, and so is the report, which was written so
+pub record Served (plan : DiskPlan) (client : ClientPlan) (at at' : List ℕ → Image) (Writes : List ℕ → Type 0) : Type 0 where
   pub setup : Setup
   pub history : List Entry
   pub given : List (Option (List ℕ))
   pub ran : RanPlain plan client (at plan.image) (at' plan.image) setup history given
   pub image : Leaves setup history (at plan.image).place (at' plan.image).place
   pub others : ChangesOnly plan.image at at'
-  pub report : Appends wrote wrote' (disk_report plan setup history given)
-
--- the images are those of one history, and a front of its report was written
-pub record ServedInPart (plan : DiskPlan) (client : ClientPlan) (at at' : List ℕ → Image) (wrote wrote' : Option (List ℕ)) : Type 0 where
-  pub setup : Setup
-  pub history : List Entry
-  pub given : List (Option (List ℕ))
-  pub ran : RanPlain plan client (at plan.image) (at' plan.image) setup history given
-  pub image : Leaves setup history (at plan.image).place (at' plan.image).place
-  pub others : ChangesOnly plan.image at at'
-  pub report : AppendsFront wrote wrote' (disk_report plan setup history given)
+  pub report : Writes (disk_report plan setup history given)
 
 -- the image was not taken and is where it was: it is too short, or its name's faults rose
 pub record NotTaken (size : ℕ) (old new : Image) : Type 0 where

@@ -1,12 +1,12 @@
 ghost use Rattle.std.specs.Prelude.{◌≡◌, ℕ, ◌*◌, ◌^◌, ◌<◌, ◌≤◌, ◌⊎◌, [], ◌∷◌, true, false, length, Some, IfOk, OnOk, OnErr, IfSome, IsErr, IsErrOf, Err};
 ghost use Rattle.medium.specs.Counts.{adds, Rose};
 ghost use Rattle.medium.specs.Device.{IsFresh};
-ghost use Rattle.image_store.specs.Edge.{HasCauseOf, PutsText};
+ghost use Rattle.image_store.specs.Edge.{Appends, AppendsFront, HasCauseOf, PutsText};
 ghost use Rattle.image_store.specs.Place.{IsFree, IsTaken, IsTaking, ChangesOnly, MayBeShort, put_place};
 ghost use Rattle.disk_core.specs.State.{setup_of};
 ghost use Rattle.script_text.specs.Fit.{IsDisk, AreOrders};
 ghost use Rattle.script_text.specs.Report.{AreEnds};
-ghost use Rattle.stack_run.specs.Serving.{RanOver, RanSome, RanDisk, Served, ServedInPart, ImageFails, MayLeave, LacksBlock, run_report};
+ghost use Rattle.stack_run.specs.Serving.{RanOver, RanSome, RanDisk, Served, ImageFails, MayLeave, LacksBlock, run_report};
 
 use crate::plain_run::run_lines;
 use crate::refusal::{NotRun, Unserved};
@@ -183,10 +183,10 @@ pub fn serve<I: Images, O: Sink>(
     requires disk { IsDisk plan.now }
     requires orders { AreOrders client.now.orders }
     requires free { IsFree (I.at images.old plan.now.image).place }
-    ensures served { OnOk result (Served plan.now client.now (I.at images.old) (I.at images.new) (O.wrote out.old) (O.wrote out.new)) }
+    ensures served { OnOk result (Served plan.now client.now (I.at images.old) (I.at images.new) (Appends (O.wrote out.old) (O.wrote out.new))) }
     ensures image { IsErrOf result Unserved.Image → ImageFails plan.now client.now (I.at images.old plan.now.image) (I.at images.new plan.now.image) }
     ensures quiet { IsErrOf result Unserved.Image → O.wrote out.new ≡ O.wrote out.old }
-    ensures sink { IsErrOf result Unserved.Sink → ServedInPart plan.now client.now (I.at images.old) (I.at images.new) (O.wrote out.old) (O.wrote out.new) }
+    ensures sink { IsErrOf result Unserved.Sink → Served plan.now client.now (I.at images.old) (I.at images.new) (AppendsFront (O.wrote out.old) (O.wrote out.new)) }
     ensures cause { HasCauseOf Unserved.Sink (O.faults out.old) (O.faults out.new) result }
     ensures memory { IsErrOf result Unserved.Memory → MayLeave plan.now.size (I.at images.old plan.now.image) (I.at images.new plan.now.image) }
     ensures lacks { LacksBlock plan.now.size (I.at images.old plan.now.image).place → (result ≡ Err Unserved.Image) ⊎ (result ≡ Err Unserved.Memory) }
