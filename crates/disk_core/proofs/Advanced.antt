@@ -59,6 +59,7 @@ advance S d prepared c n sound from within ended = record {
   ready = sound.ready;
   few = sound.few;
   room = sound.room;
+  places = sound.places;
   spent = sound.spent;
 }
 

@@ -117,18 +117,20 @@ collected-sound S d prepared c c' tag t r r' q status sound was tracks ended kep
       meets = meets-quiet S H d (Collect tag t) sound.plain.inserts (collect-quiet S H tag t) sound.meets;
       tracks = tracks-collect S H tag t r r' q c c' status tracks ended back;
       gate = collect-gate S d prepared c c' tag t r r' status sound was marked back;
+      more = 0;
+      pays = back.owed;
       owed = collected-owed S H tag t q status tracks.named marked uncollected;
       spent = inl (commands-collect H tag t);
       becomes = record { units = rw back.units refl; kind = back.kind; unended = λ open_. sym back.status ∙ open_ };
     })
 
--- a disk with a request to hand back has room for the entry
-pub collect-room : (S : Setup) (d : Device) (prepared : ℕ → Type 0) (c : Core) (tag t : ℕ) (r : Record) (q : Request) (status : Status) → IsSound S d prepared c → slice_get c.records.items t ≡ Some r → Tracks S c.history.entries t r q → r.status ≡ Some status → r.collected ≡ false → 0 < c.history.spare
-collect-room S d prepared c tag t r q status sound was tracks ended kept =
+-- a disk with a request to hand back owes an entry
+pub collect-owes : (S : Setup) (d : Device) (prepared : ℕ → Type 0) (c : Core) (tag t : ℕ) (r : Record) (q : Request) (status : Status) → IsSound S d prepared c → slice_get c.records.items t ≡ Some r → Tracks S c.history.entries t r q → r.status ≡ Some status → r.collected ≡ false → 0 < c.owed
+collect-owes S d prepared c tag t r q status sound was tracks ended kept =
     let H = c.history.entries in
     omega (
       arith,
       sound.room,
-      owed-falls S H (Collect tag t) t (collect-own S H tag t) (rw (sym sound.count) (inside-some c.records.items t r was))
+      owed-falls S H (Collect tag t) t 1 (collect-own S H tag t) (rw (sym sound.count) (inside-some c.records.items t r was))
           (collected-owed S H tag t q status tracks.named (tracks.status ∙ ended) (tracks.collected ∙ kept)),
     )

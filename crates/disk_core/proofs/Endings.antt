@@ -20,7 +20,7 @@ use Rattle.history.specs.Next.{next_turn, Made, Failed}
 use Rattle.disk_core.specs.declared.answers.Step.TheVariants as step
 use Rattle.disk_core.specs.declared.record.Record.{Record}
 use Rattle.disk_core.specs.declared.record.Core.{Core}
-use Rattle.disk_core.specs.Bookkeeping.{finished_record, failed_record}
+use Rattle.disk_core.specs.Bookkeeping.{finished_record, failed_record, end_paid}
 use Rattle.disk_core.specs.Sound.{IsSound, Tracks}
 use Rattle.disk_core.specs.Calls.{Fills, is_fetched}
 use Rattle.disk_core.specs.Stepping.{NextUnit, SameButBuffer, Stepped, buffers_of}
@@ -28,7 +28,7 @@ use Rattle.disk_core.proofs.Facts.{next-of}
 use Rattle.disk_core.proofs.Followed.{meets-command, is_fault, IsCommandEntry}
 use Rattle.disk_core.proofs.Gates.{NoneHeld, gate-none, none-after-fault}
 use Rattle.disk_core.proofs.May.{IsNext}
-use Rattle.disk_core.proofs.Own.{done-owed, fault-owed}
+use Rattle.disk_core.proofs.Own.{done-owed, finish-owed, fault-owed}
 use Rattle.disk_core.proofs.Places.{get-set-same}
 use Rattle.disk_core.proofs.Spent.{next-owes}
 use Rattle.disk_core.proofs.Stepped.{done-own, fault-own, owed-falls}
@@ -36,10 +36,11 @@ use Rattle.std.proofs.lemmas.Option.{get_or_from_slice_get, slice_get_read}
 use Rattle.disk_core.proofs.Tracked.{Finishes, tracks-unit, tracks-fault}
 use Rattle.disk_core.proofs.Turned.{did, buffers-same}
 
--- what the end of a command leaves of the disk, beside its medium
-pub record Ends (c c' : Core) (e : Entry) (r' : Record) : Type 0 where
+-- what the end of a command leaves of the disk, beside its medium, where so many entries more than its own are owed no longer
+pub record Ends (c c' : Core) (e : Entry) (r' : Record) (more : ℕ) : Type 0 where
   pub entries : c'.history.entries ≡ e ∷ c.history.entries
   pub spare : c'.history.spare + 1 ≡ c.history.spare
+  pub owed : c'.owed + (more + 1) ≡ c.owed
   pub records : c'.records.items ≡ set c.records.items c.first r'
   pub first : c'.first ≡ c.first
   pub block : length c'.block.items ≡ length c.block.items
@@ -115,7 +116,7 @@ pub faulted : (S : Setup) (d d' : Device) (prepared prepared' : ℕ → Type 0) 
     → MayCommand S c.history.entries c.first command → StopsAt command done
     → d'.now ≡ contents S 1 (Fault c.first command done ∷ c.history.entries) → d'.kept ≡ (if d.cached then d.kept else d'.now)
     → next_turn S.size c.history.entries ≡ Some (record { token = c.first; command = command })
-    → Ends c c' (Fault c.first command done) (failed_record r')
+    → Ends c c' (Fault c.first command done) (failed_record r') 1
     → Stepped S d d' prepared' c c' step.Did
 faulted S d d' prepared prepared' c c' r r' q u command done failure sound stay is was same bytes made may stops now kept next ends =
     let H = c.history.entries in
@@ -136,7 +137,9 @@ faulted S d d' prepared prepared' c c' r r' q u command done failure sound stay 
       meets = meets-command S H d d' (Fault c.first command done) 1 (Err failure) sound.meets made (is_fault c.first command done) refl few now kept;
       tracks = tracks-fault S H c.first command done r' q (tracks-same S H c.first r r' q same bytes tracks) (same.status ∙ is.unended);
       gate = gate-none S (Fault c.first command done ∷ H) c'.records.items c.first c'.block.items c'.held none ends.held;
-      owed = fault-owed S.size H c.first command done q tracks.named (rw tracks.of_kind tracks.moving) (tracks.status ∙ is.unended);
+      more = 1;
+      pays = ends.owed;
+      owed = fault-owed S.size H c.first command done q tracks.named (next-owes S H c.first r q u is) (tracks.status ∙ is.unended);
       spent = inr (next-owes S H c.first r q u is);
       becomes = record { units = rw same.units refl; kind = same.kind; unended = λ _. is.unended };
     })
@@ -153,13 +156,15 @@ pub wrote : (S : Setup) (d d' : Device) (prepared prepared' : ℕ → Type 0) (c
     → span_owed Write (Done c.first command ∷ c.history.entries) c.first u.whole u.block + 1 ≤ span_owed Write c.history.entries c.first u.whole u.block
     → ((old new : List (List ℕ)) → new ≡ old → Fills S c.history.entries c.first command Made old new) → is_fetched command Made ≡ false
     → next_turn S.size c.history.entries ≡ Some (record { token = c.first; command = command })
-    → Ends c c' (Done c.first command) (finished_record r)
+    → Ends c c' (Done c.first command) (finished_record r) (end_paid r)
     → Stepped S d d' prepared' c c' step.Did
 wrote S d d' prepared prepared' c c' r q u command sound stay is was writes made entry moving may none now kept falls fills answer next ends =
     let H = c.history.entries in
     let tracks : Tracks S H c.first r q = is.tracks in
     let few : length H + 1 < 2 ^ 63 = omega (arith, sound.few, ends.spare) in
     let same : SameButBuffer r r = record { kind = refl; from = refl; units = refl; finished = refl; status = refl; collected = refl } in
+    let after : Tracks S (Done c.first command ∷ H) c.first (finished_record r) q =
+    tracks-unit S H c.first command r (finished_record r) q u tracks is.unended is.has moving (same-finishes r r same) refl (λ _. refl) (λ reads. absurd (read-write (sym reads ∙ writes))) in
     did S d d' prepared prepared' c c' (Done c.first command) r (finished_record r) q (record { token = c.first; command = command }) Made sound stay
     (record {
       was = was;
@@ -171,10 +176,13 @@ wrote S d d' prepared prepared' c c' r q u command sound stay is was writes made
       own = done-own S H c.first command;
       may = may-done S H c.first command may;
       meets = meets-command S H d d' (Done c.first command) 0 (Ok tt) sound.meets made entry refl few now kept;
-      tracks = tracks-unit S H c.first command r (finished_record r) q u tracks is.unended is.has moving (same-finishes r r same) refl (λ _. refl) (λ reads. absurd (read-write (sym reads ∙ writes)));
+      tracks = after;
       gate = gate-none S (Done c.first command ∷ H) c'.records.items c.first c'.block.items c'.held none ends.held;
-      owed = done-owed S.size H c.first command q r.finished u tracks.named (rw tracks.of_kind tracks.moving) (tracks.status ∙ is.unended) (rw tracks.units at is.has.is)
-          (rw (tracks.of_kind, writes) falls);
+      more = end_paid r;
+      pays = ends.owed;
+      owed = finish-owed S.size H c.first command q r tracks.named (next-owes S H c.first r q u is) after.status
+          (done-owed S.size H c.first command q r.finished u tracks.named (rw tracks.of_kind tracks.moving) (tracks.status ∙ is.unended) (rw tracks.units at is.has.is)
+          (rw (tracks.of_kind, writes) falls));
       spent = inr (next-owes S H c.first r q u is);
       becomes = record { units = refl; kind = refl; unended = λ _. is.unended };
     })
@@ -182,16 +190,16 @@ wrote S d d' prepared prepared' c c' r q u command sound stay is was writes made
     (fills (buffers_of c.records.items) (buffers_of c'.records.items) (buffers-same c.records.items c'.records.items c.first r (finished_record r) was ends.records refl))
     made.later (λ n failed. absurd (made-failed n failed)) answer
 
--- an open token's disk has room for an entry
-pub room-some : (S : Setup) (d : Device) (prepared : ℕ → Type 0) (c : Core) (r : Record) (q : Request) (u : Span) → IsSound S d prepared c → IsNext S c.history.entries c.first r q u → 0 < c.history.spare
-room-some S d prepared c r q u sound is =
+-- an open token's disk owes two entries and more
+pub owed-some : (S : Setup) (d : Device) (prepared : ℕ → Type 0) (c : Core) (r : Record) (q : Request) (u : Span) → IsSound S d prepared c → IsNext S c.history.entries c.first r q u → 2 ≤ c.owed
+owed-some S d prepared c r q u sound is =
     let H = c.history.entries in
     let tracks : Tracks S H c.first r q = is.tracks in
     omega (
       arith,
       sound.room,
-      owed-falls S H (Fault c.first Sync 0) c.first (fault-own S H c.first Sync 0) is.token
-          (fault-owed S.size H c.first Sync 0 q tracks.named (rw tracks.of_kind tracks.moving) (tracks.status ∙ is.unended)),
+      owed-falls S H (Fault c.first Sync 0) c.first 2 (fault-own S H c.first Sync 0) is.token
+          (fault-owed S.size H c.first Sync 0 q tracks.named (next-owes S H c.first r q u is) (tracks.status ∙ is.unended)),
     )
 
 -- an element that was read from a list
@@ -207,10 +215,10 @@ unit-left S H records t r r' x q tracks open_ same was is =
     some-record : (a b : Record) → Some a ≡ Some b → a ≡ b
     some-record a b e = cc
 
-pub next-room : (S : Setup) (d : Device) (prepared : ℕ → Type 0) (c : Core) (r : Record) (u : Span) (kind : Kind) → IsShaped d → IsSound S d prepared c → NextUnit c u kind r → 0 < c.history.spare
-next-room S d prepared c r u kind shaped sound next =
+pub next-owed : (S : Setup) (d : Device) (prepared : ℕ → Type 0) (c : Core) (r : Record) (u : Span) (kind : Kind) → IsShaped d → IsSound S d prepared c → NextUnit c u kind r → 2 ≤ c.owed
+next-owed S d prepared c r u kind shaped sound next =
     let (q, is) = next-of S d prepared c r u kind shaped sound next in
-    room-some S d prepared c r q u sound is
+    owed-some S d prepared c r q u sound is
 
 pub next-left : (S : Setup) (d : Device) (prepared : ℕ → Type 0) (c : Core) (r x : Record) (u : Span) (kind : Kind) → IsShaped d → IsSound S d prepared c → NextUnit c u kind r → slice_get c.records.items c.first ≡ Some x → x.finished < length x.units.items
 next-left S d prepared c r x u kind shaped sound next there =

@@ -88,7 +88,8 @@ fresh-sound d prepared c fresh new = record {
   gate = rw new.entries (gate-none (setup_of d) [] c.records.items c.first c.block.items c.held (none-held (setup_of d).size) new.held);
   ready = λ t k b r u is. absurd (nothing t r (rw new.records at is));
   few = rw (new.entries, new.spare) (omega arith);
-  room = rw (new.entries, new.spare) (fresh-owed d);
+  room = rw (new.entries, new.owed) (fresh-owed d);
+  places = rw (new.owed, new.spare) (omega arith);
   spent = rw new.entries (λ t q named. absurd (unnamed t q named));
 }
   where

@@ -17,7 +17,7 @@ use Rattle.disk_core.specs.declared.answers.Step.TheVariants as step
 use Rattle.disk_core.specs.declared.record.Record.{Record}
 use Rattle.disk_core.specs.declared.record.Core.{Core}
 use Rattle.disk_core.specs.Moving.{IsFilled, FillsFrom}
-use Rattle.disk_core.specs.Bookkeeping.{finished_record, failed_record}
+use Rattle.disk_core.specs.Bookkeeping.{finished_record, failed_record, end_paid}
 use Rattle.disk_core.specs.Sound.{IsSound, Tracks, IsGate}
 use Rattle.disk_core.specs.Stepping.{NextUnit, SameButBuffer, Stepped}
 use Rattle.disk_core.proofs.Facts.{next-of}
@@ -25,7 +25,7 @@ use Rattle.disk_core.proofs.Followed.{contents-same, meets-command, is_get}
 use Rattle.disk_core.proofs.Gates.{NoneHeld, gate-none, none-after-get}
 use Rattle.disk_core.proofs.Given.{given-get}
 use Rattle.disk_core.proofs.May.{IsNext, may-get, next-ungot}
-use Rattle.disk_core.proofs.Own.{done-owed, got-falls}
+use Rattle.disk_core.proofs.Own.{done-owed, finish-owed, got-falls}
 use Rattle.disk_core.proofs.Places.{get-map}
 use Rattle.disk_core.proofs.Spent.{next-owes}
 use Rattle.disk_core.proofs.Stepped.{done-own}
@@ -48,7 +48,7 @@ fault-silent-get size H t b n done = refl
 
 pub got : (S : Setup) (d d' : Device) (prepared prepared' : ℕ → Type 0) (c c' : Core) (r r' : Record) (u : Span) → IsShaped d → IsSound S d prepared c → StayPrepared prepared prepared'
     → NextUnit c u Read r → SameButBuffer r r' → FillsFrom d u.low (u.low - r.from) (u.high - u.low) (Ok tt) d' r.buffer.items r'.buffer.items
-    → Ends c c' (Done c.first (Get u.block u.count)) (finished_record r')
+    → Ends c c' (Done c.first (Get u.block u.count)) (finished_record r') (end_paid r')
     → Stepped S d d' prepared' c c' step.Did
 got S d d' prepared prepared' c c' r r' u shaped sound stay next same fills ends = by (next-of S d prepared c r u Read shaped sound next)
   where
@@ -66,6 +66,12 @@ got S d d' prepared prepared' c c' r r' u shaped sound stay next same fills ends
         let fits : (u.low - r.from) + length filled.piece ≤ length r.buffer.items = omega (arith, tracks.from, filled.counted) in
         let told : AreToldAt (contents S 1 H) u.low filled.piece = rw (sym sound.meets.now) filled.same in
         let few : length H + 1 < 2 ^ 63 = omega (arith, sound.few, ends.spare) in
+        let after : Tracks S (Done c.first command ∷ H) c.first (finished_record r') q =
+        tracks-unit S H c.first command r (finished_record r') q u tracks next.unended is.has (λ y. refl) (same-finishes r r' same)
+        (rw filled.filled (length-patch r.buffer.items (u.low - r.from) filled.piece fits))
+        (λ writes. absurd (read-write (sym next.of_kind ∙ writes)))
+        (λ _. given-get S H c.first q u r.buffer.items r'.buffer.items filled.piece sound.plain.inserts is.has.unit long
+        (tracks.given (tracks.uncollected next.unended) next.of_kind) filled.counted (rw (sym tracks.from) filled.filled) told) in
         did S d d' prepared prepared' c c' (Done c.first command) r (finished_record r') q (record { token = c.first; command = command }) Made sound stay
         (record {
           was = next.is;
@@ -79,14 +85,13 @@ got S d d' prepared prepared' c c' r r' u shaped sound stay next same fills ends
           meets = meets-command S H d d' (Done c.first command) 0 (Ok tt) sound.meets fills.command (is_get c.first u.block u.count) refl few
               (fills.now ∙ (sound.meets.now ∙ sym (contents-same S H (Done c.first command) sound.plain.inserts (get-silent S.size H c.first u.block u.count))))
               (kept-same d.cached d.kept d.now d'.now d'.kept shaped.uncached fills.now fills.kept);
-          tracks = tracks-unit S H c.first command r (finished_record r') q u tracks next.unended is.has (λ y. refl) (same-finishes r r' same)
-              (rw filled.filled (length-patch r.buffer.items (u.low - r.from) filled.piece fits))
-              (λ writes. absurd (read-write (sym next.of_kind ∙ writes)))
-              (λ _. given-get S H c.first q u r.buffer.items r'.buffer.items filled.piece sound.plain.inserts is.has.unit long
-              (tracks.given (tracks.uncollected next.unended) next.of_kind) filled.counted (rw (sym tracks.from) filled.filled) told);
+          tracks = after;
           gate = gate-none S (Done c.first command ∷ H) c'.records.items c.first c'.block.items c'.held (none-after-get S H c.first u.block u.count free) ends.held;
-          owed = done-owed S.size H c.first command q r.finished u tracks.named (rw tracks.of_kind tracks.moving) (tracks.status ∙ next.unended) (rw tracks.units at is.has.is)
-              (rw (tracks.of_kind, next.of_kind) (got-falls H c.first u.block u.count u.whole (next-ungot S H c.first r q u is)));
+          more = end_paid r';
+          pays = ends.owed;
+          owed = finish-owed S.size H c.first command q r' tracks.named (next-owes S H c.first r q u is) after.status
+              (done-owed S.size H c.first command q r.finished u tracks.named (rw tracks.of_kind tracks.moving) (tracks.status ∙ next.unended) (rw tracks.units at is.has.is)
+              (rw (tracks.of_kind, next.of_kind) (got-falls H c.first u.block u.count u.whole (next-ungot S H c.first r q u is))));
           spent = inr (next-owes S H c.first r q u is);
           becomes = record { units = rw same.units refl; kind = same.kind; unended = λ _. next.unended };
         })
@@ -107,7 +112,7 @@ got S d d' prepared prepared' c c' r r' u shaped sound stay next same fills ends
 
 pub got-not : (S : Setup) (d d' : Device) (prepared prepared' : ℕ → Type 0) (c c' : Core) (r r' : Record) (u : Span) (failure : BlockFailed) → IsShaped d → IsSound S d prepared c → StayPrepared prepared prepared'
     → NextUnit c u Read r → SameButBuffer r r' → FillsFrom d u.low (u.low - r.from) (u.high - u.low) (Err failure) d' r.buffer.items r'.buffer.items
-    → Ends c c' (Fault c.first (Get u.block u.count) 0) (failed_record r')
+    → Ends c c' (Fault c.first (Get u.block u.count) 0) (failed_record r') 1
     → Stepped S d d' prepared' c c' step.Did
 got-not S d d' prepared prepared' c c' r r' u failure shaped sound stay next same fills ends = by (next-of S d prepared c r u Read shaped sound next)
   where

@@ -1,5 +1,5 @@
 -- A disk stays sound as a request is accepted.
-use Rattle.std.proofs.Common.{◌≡◌, ◌≢◌, ℕ, suc, ◌+◌, ◌*◌, ◌^◌, ◌<◌, ◌≤◌, inl, inr, Bool, true, false, List, [], ◌∷◌, ◌++◌, slice_get, length, Option, None, Some, refl, sym, ◌∙◌, ap, arith, length-append}
+use Rattle.std.proofs.Common.{◌≡◌, ◌≢◌, ℕ, suc, ◌+◌, ◌*◌, ◌^◌, ◌<◌, ◌≤◌, inl, inr, Bool, true, false, List, [], ◌∷◌, ◌++◌, slice_get, length, Option, None, Some, refl, sym, ◌∙◌, ap, arith, length-append, nat_eq, if◌then◌else◌}
 use Rattle.std.proofs.lemmas.Bool.{cases_eq, cases_lt, eq-eqb, le-ltb}
 use Rattle.efi_status.specs.declared.Status.{Status}
 use Rattle.efi_status.specs.declared.Status.TheVariants.{Success}
@@ -23,11 +23,12 @@ use Rattle.history.specs.Room.{commands_of, runs_of, owed_entries, token_owed, t
 use Rattle.disk_core.specs.declared.record.Record.{Record}
 use Rattle.disk_core.specs.declared.record.Core.{Core}
 use Rattle.disk_core.specs.Sound.{IsSound, IsPlain, SpendFew, Tracks, low_or}
-use Rattle.disk_core.specs.Submitting.{cost_of, payload_of, AreReadyFor, IsMoving}
+use Rattle.disk_core.specs.Submitting.{cost_of, first_owed, payload_of, AreReadyFor, IsMoving}
 use Rattle.disk_core.proofs.Born.{IsUnborn, unborn}
 use Rattle.disk_core.proofs.Costs.{spans-few, cost-few}
 use Rattle.disk_core.proofs.Gates.{open-before}
 use Rattle.disk_core.proofs.Owed.{silent-owed, tokens-same}
+use Rattle.disk_core.proofs.Own.{marked-owed}
 use Rattle.disk_core.proofs.Places.{inside-some}
 use Rattle.disk_core.proofs.Quiet.{accept-quiet, meets-quiet, plain-quiet, quiet-contents}
 use Rattle.disk_core.proofs.Silence.{IsSilent, accept-silent}
@@ -107,7 +108,8 @@ pub record Keeps (S : Setup) (c c' : Core) (e : Entry) (r : Record) : Type 0 whe
   pub first : c'.first ≡ c.first
   pub block : c'.block ≡ c.block
   pub held : c'.held ≡ c.held
-  pub room : c.history.spare + cost_of r.kind r.units.items + 2 ≤ c'.history.spare
+  pub owed : c'.owed ≡ c.owed + first_owed (cost_of r.kind r.units.items) (length r.buffer.items)
+  pub places : c'.owed ≤ c'.history.spare
 
 accepted-more : (H : List Entry) (tag : ℕ) (view : View) (asked : Asked) (bytes : List ℕ) → accepted (Accept tag view asked bytes ∷ H) ≡ accepted H + 1
 unfolding accepted
@@ -127,6 +129,15 @@ new-owes S H t r q tracks = rw tracks.named (by (mark_of S.size H t) (was_collec
     by None gone = rw (sym tracks.of_kind, tracks.units) (omega (arith, commands q.asked.kind (rw tracks.of_kind tracks.moving)))
     by (Some status) true = omega arith
     by (Some status) false = omega arith
+
+-- one of no bytes has ended, and owes its collect alone
+owes-first : (S : Setup) (H : List Entry) (t : ℕ) (r : Record) (q : Request) → Tracks S H t r q → r.status ≡ (if nat_eq (length r.buffer.items) 0 then Some Success else None)
+    → token_owed S.size H t ≤ first_owed (cost_of r.kind r.units.items) (length r.buffer.items)
+owes-first S H t r q tracks status = by (nat_eq (length r.buffer.items) 0) (tracks.status ∙ status)
+  where
+    by : (none : Bool) → mark_of S.size H t ≡ (if none then Some Success else None) → token_owed S.size H t ≤ (if none then 1 else cost_of r.kind r.units.items + 2)
+    by true ended = marked-owed S.size H t q Success tracks.named ended
+    by false _ = new-owes S H t r q tracks
 
 owed-more : (S : Setup) (H : List Entry) (tag : ℕ) (view : View) (asked : Asked) (bytes : List ℕ) (n : ℕ) → token_owed S.size (Accept tag view asked bytes ∷ H) (accepted H) ≤ n → owed_entries S (Accept tag view asked bytes ∷ H) ≤ owed_entries S H + n
 unfolding owed_entries accepted ejects inserts tokens_owed
@@ -243,6 +254,12 @@ keeps-sound S d prepared prepared' c c' tag view media_id asked buffer r some so
         | inr (last, one) ↦ ready (ap (λ (y : Record). y.kind) (sym one) ∙ writes) k b u (ap (λ (y : Record). slice_get y.units.items k) (sym one) ∙ unit) lo hi
       ]);
       few = keeps.few;
-      room = rw keeps.entries (omega (arith, sound.room, keeps.room, owed-more S H tag view asked bytes (cost_of r.kind r.units.items + 2) (new-owes S (e ∷ H) (accepted H) r (record { tag = tag; view = view; asked = asked; bytes = bytes }) tracks)));
+      room = rw (keeps.entries, keeps.owed) (omega (
+        arith,
+        sound.room,
+        owed-more S H tag view asked bytes (first_owed (cost_of r.kind r.units.items) (length r.buffer.items))
+            (owes-first S (e ∷ H) (accepted H) r (record { tag = tag; view = view; asked = asked; bytes = bytes }) tracks (rw new.bytes new.status)),
+      ));
+      places = keeps.places;
       spent = rw keeps.entries (spent-more S H tag view asked bytes r (record { tag = tag; view = view; asked = asked; bytes = bytes }) sound.legal sound.spent tracks);
     }

@@ -60,19 +60,19 @@ tokens-same S H e (suc n) silent =
     let rest : tokens_owed S.size (e ∷ H) n ≡ tokens_owed S.size H n = tokens-same S H e n (λ t lt. silent t (omega arith)) in
     cc
 
--- one token owes less, and the others owe the same
-pub tokens-fall : (S : Setup) (H : List Entry) (e : Entry) (n t : ℕ) → t < n → token_owed S.size (e ∷ H) t + 1 ≤ token_owed S.size H t → ((u : ℕ) → t ≢ u → IsSilent S H e u) → tokens_owed S.size (e ∷ H) n + 1 ≤ tokens_owed S.size H n
+-- one token owes less by so many, and the others owe the same
+pub tokens-fall : (S : Setup) (H : List Entry) (e : Entry) (n t paid : ℕ) → t < n → token_owed S.size (e ∷ H) t + paid ≤ token_owed S.size H t → ((u : ℕ) → t ≢ u → IsSilent S H e u) → tokens_owed S.size (e ∷ H) n + paid ≤ tokens_owed S.size H n
 unfolding tokens_owed
-tokens-fall S H e zero t lt falls silent = absurd (omega arith)
-tokens-fall S H e (suc n) t lt falls silent =
+tokens-fall S H e zero t paid lt falls silent = absurd (omega arith)
+tokens-fall S H e (suc n) t paid lt falls silent =
     elim (cases_eq t n) [
       | inl same ↦
-          let own : token_owed S.size (e ∷ H) n + 1 ≤ token_owed S.size H n = rw same at falls in
+          let own : token_owed S.size (e ∷ H) n + paid ≤ token_owed S.size H n = rw same at falls in
           let rest : tokens_owed S.size (e ∷ H) n ≡ tokens_owed S.size H n = tokens-same S H e n (λ u below. silent u (λ is. absurd (omega arith))) in
           omega arith
       | inr other ↦
           let own : token_owed S.size (e ∷ H) n ≡ token_owed S.size H n = silent-owed S H e n (silent n other) in
-          let rest : tokens_owed S.size (e ∷ H) n + 1 ≤ tokens_owed S.size H n = tokens-fall S H e n t (omega (arith, other)) falls silent in
+          let rest : tokens_owed S.size (e ∷ H) n + paid ≤ tokens_owed S.size H n = tokens-fall S H e n t paid (omega (arith, other)) falls silent in
           omega arith
     ]
 

@@ -1,8 +1,8 @@
 -- What a token owes after an entry of its own.
-use Rattle.std.proofs.Common.{◌≡◌, ℕ, ◌+◌, ◌≤◌, Bool, true, false, List, ◌∷◌, slice_get, Option, None, Some, refl, ◌∙◌, ap, arith}
+use Rattle.std.proofs.Common.{◌≡◌, ℕ, ◌+◌, ◌≤◌, Bool, true, false, nat_eq, if◌then◌else◌, List, ◌∷◌, length, slice_get, Option, None, Some, refl, ◌∙◌, ap, arith}
 use Rattle.std.proofs.lemmas.Bool.{eq-eqb}
 use Rattle.efi_status.specs.declared.Status.{Status}
-use Rattle.efi_status.specs.declared.Status.TheVariants.{DeviceError}
+use Rattle.efi_status.specs.declared.Status.TheVariants.{Success, DeviceError}
 use Rattle.disk_split.specs.declared.span.Span.{Span}
 use Rattle.disk_split.specs.Units.{units_of}
 use Rattle.history.specs.declared.entry.Kind.{Kind}
@@ -14,6 +14,8 @@ use Rattle.history.specs.declared.entry.Entry.TheVariants.{Done, Fault}
 use Rattle.history.specs.Tokens.{Request, request, was_collected, is_flush, from_of, until_of}
 use Rattle.history.specs.Marks.{mark_of, was_fetched, was_stored, was_put, was_got}
 use Rattle.history.specs.Room.{span_owed, spans_owed, commands_owed, owed_by, token_owed}
+use Rattle.disk_core.specs.declared.record.Record.{Record}
+use Rattle.disk_core.specs.Bookkeeping.{finished_record, end_paid}
 use Rattle.disk_core.proofs.Owed.{spans-fall}
 use Rattle.disk_core.proofs.Ends.{mark-fault}
 
@@ -30,7 +32,7 @@ unfolding token_owed
 open-owed size H t q named moving unmarked = rw (named, unmarked) (ap (λ n. n + 2) (commands-are size H t q q.asked.kind moving))
 
 -- a marked token owes at most its collect
-marked-owed : (size : ℕ) (H : List Entry) (t : ℕ) (q : Request) (status : Status) → request H t ≡ Some q → mark_of size H t ≡ Some status → token_owed size H t ≤ 1
+pub marked-owed : (size : ℕ) (H : List Entry) (t : ℕ) (q : Request) (status : Status) → request H t ≡ Some q → mark_of size H t ≡ Some status → token_owed size H t ≤ 1
 unfolding token_owed
 marked-owed size H t q status named marked = rw (named, marked) (by (was_collected H t))
   where
@@ -64,11 +66,20 @@ done-owed size H t c q k v named moving unmarked is falls = after (mark_of size 
           spans-fall q.asked.kind H t c t k (units_of size (from_of size q) (until_of size q)) v is falls,
         )
 
+-- it takes two away where it ends the token
+pub finish-owed : (size : ℕ) (H : List Entry) (t : ℕ) (c : Command) (q : Request) (r : Record) → request H t ≡ Some q → 3 ≤ token_owed size H t → mark_of size (Done t c ∷ H) t ≡ (finished_record r).status
+    → token_owed size (Done t c ∷ H) t + 1 ≤ token_owed size H t → token_owed size (Done t c ∷ H) t + (end_paid r + 1) ≤ token_owed size H t
+finish-owed size H t c q r named owes marked falls = by (nat_eq (r.finished + 1) (length r.units.items)) marked
+  where
+    by : (last : Bool) → mark_of size (Done t c ∷ H) t ≡ (if last then Some Success else r.status) → token_owed size (Done t c ∷ H) t + ((if last then 1 else 0) + 1) ≤ token_owed size H t
+    by true ended = omega (arith, marked-owed size (Done t c ∷ H) t q Success (request-done H t t c ∙ named) ended, owes)
+    by false _ = omega (arith, falls)
+
 -- so does a fault
-pub fault-owed : (size : ℕ) (H : List Entry) (t : ℕ) (c : Command) (done : ℕ) (q : Request) → request H t ≡ Some q → is_flush q.asked.kind ≡ false → mark_of size H t ≡ None
-    → token_owed size (Fault t c done ∷ H) t + 1 ≤ token_owed size H t
-fault-owed size H t c done q named moving unmarked =
-    omega (arith, marked-owed size (Fault t c done ∷ H) t q DeviceError (request-fault H t t c done ∙ named) (mark-fault size H t c done unmarked), open-owed size H t q named moving unmarked)
+pub fault-owed : (size : ℕ) (H : List Entry) (t : ℕ) (c : Command) (done : ℕ) (q : Request) → request H t ≡ Some q → 3 ≤ token_owed size H t → mark_of size H t ≡ None
+    → token_owed size (Fault t c done ∷ H) t + 2 ≤ token_owed size H t
+fault-owed size H t c done q named owes unmarked =
+    omega (arith, marked-owed size (Fault t c done ∷ H) t q DeviceError (request-fault H t t c done ∙ named) (mark-fault size H t c done unmarked), owes)
 
 pub fetch-falls : (H : List Entry) (t b : ℕ) → was_fetched H t b ≡ false → was_stored H t b ≡ false → span_owed Write (Done t (Fetch b) ∷ H) t false b + 1 ≤ span_owed Write H t false b
 unfolding was_fetched was_stored

@@ -1,5 +1,5 @@
 -- A disk that refuses a request.
-use Rattle.std.proofs.Common.{◌≡◌, ℕ, ◌+◌, ◌^◌, ◌<◌, ◌≤◌, false, List, ◌∷◌, length, Some, refl, sym, ◌∙◌, arith}
+use Rattle.std.proofs.Common.{◌≡◌, ℕ, ◌+◌, ◌^◌, ◌<◌, ◌≤◌, false, List, ◌∷◌, length, Some, refl, sym, ◌∙◌}
 use Rattle.efi_status.specs.declared.Status.{Status}
 use Rattle.medium.specs.Device.{Device}
 use Rattle.history.specs.declared.entry.View.{View}
@@ -61,7 +61,8 @@ legal-more S H tag view asked media_id status buffer is refused legal = (legal, 
 -- what a refusal leaves of the disk
 pub record LeavesRefused (c c' : Core) (e : Entry) : Type 0 where
   pub entries : c'.history.entries ≡ e ∷ c.history.entries
-  pub spare : c.history.spare ≤ c'.history.spare
+  pub owed : c'.owed ≡ c.owed
+  pub places : c.owed ≤ c'.history.spare
   pub few : length c'.history.entries + c'.history.spare < 2 ^ 63
   pub records : c'.records ≡ c.records
   pub first : c'.first ≡ c.first
@@ -92,6 +93,7 @@ refused-sound S d prepared c c' tag view asked media_id status buffer sound is r
       });
       ready = rw leaves.records sound.ready;
       few = leaves.few;
-      room = rw (leaves.entries, owed-same S H e nothing) (omega (arith, sound.room, leaves.spare));
+      room = rw (leaves.entries, owed-same S H e nothing, leaves.owed) sound.room;
+      places = rw leaves.owed leaves.places;
       spent = rw leaves.entries (λ t q named. rw ((nothing.silent t).counted, silent-owed S H e t (nothing.silent t)) (sound.spent t q (sym (nothing.silent t).named ∙ named)));
     }

@@ -37,11 +37,11 @@ pub fault-own : (S : Setup) (H : List Entry) (t : ℕ) (c : Command) (done : ℕ
 unfolding accepted request ejects inserts is_protected commands_of
 fault-own S H t c done = record { silent = λ u ne. fault-silent S H t u c done ne; same_accepted = refl; same_requests = λ u. refl; one = rw (eq-eqb t t refl) (omega arith); same_ejects = refl; same_inserts = refl; same_protection = refl }
 
--- all tokens together owe less where this one does
-pub owed-falls : (S : Setup) (H : List Entry) (e : Entry) (t : ℕ) → IsOwn S H e t → t < accepted H → token_owed S.size (e ∷ H) t + 1 ≤ token_owed S.size H t → owed_entries S (e ∷ H) + 1 ≤ owed_entries S H
+-- all tokens together owe less by so many where this one does
+pub owed-falls : (S : Setup) (H : List Entry) (e : Entry) (t paid : ℕ) → IsOwn S H e t → t < accepted H → token_owed S.size (e ∷ H) t + paid ≤ token_owed S.size H t → owed_entries S (e ∷ H) + paid ≤ owed_entries S H
 unfolding owed_entries
-owed-falls S H e t own token falls =
-    let sum : tokens_owed S.size (e ∷ H) (accepted H) + 1 ≤ tokens_owed S.size H (accepted H) = tokens-fall S H e (accepted H) t token falls own.silent in
+owed-falls S H e t paid own token falls =
+    let sum : tokens_owed S.size (e ∷ H) (accepted H) + paid ≤ tokens_owed S.size H (accepted H) = tokens-fall S H e (accepted H) t paid token falls own.silent in
     rw (own.same_accepted, own.same_ejects, own.same_inserts) (omega arith)
 
 pub plain-own : (S : Setup) (H : List Entry) (e : Entry) (t : ℕ) → IsOwn S H e t → IsPlain S H → IsPlain S (e ∷ H)
@@ -74,7 +74,7 @@ pub record Becomes (r r' : Record) : Type 0 where
   pub kind : r'.kind ≡ r.kind
   pub unended : r'.status ≡ None → r.status ≡ None
 
--- what an entry of token t leaves
+-- what an entry of token t leaves, where so many entries more are owed no longer
 pub record Leaves (S : Setup) (d d' : Device) (c c' : Core) (e : Entry) (t : ℕ) (r r' : Record) (q : Request) : Type 0 where
   pub was : slice_get c.records.items t ≡ Some r
   pub entries : c'.history.entries ≡ e ∷ c.history.entries
@@ -87,7 +87,9 @@ pub record Leaves (S : Setup) (d d' : Device) (c c' : Core) (e : Entry) (t : ℕ
   pub meets : Meets S (e ∷ c.history.entries) d'
   pub tracks : Tracks S (e ∷ c.history.entries) t r' q
   pub gate : IsGate S (e ∷ c.history.entries) c'.records.items c.first c'.block.items c'.held
-  pub owed : token_owed S.size (e ∷ c.history.entries) t + 1 ≤ token_owed S.size c.history.entries t
+  pub more : ℕ
+  pub pays : c'.owed + (more + 1) ≡ c.owed
+  pub owed : token_owed S.size (e ∷ c.history.entries) t + (more + 1) ≤ token_owed S.size c.history.entries t
   pub spent : IsSpent S.size c.history.entries e t
   pub becomes : Becomes r r'
 
@@ -145,7 +147,7 @@ pub sound-after : (S : Setup) (d d' : Device) (prepared prepared' : ℕ → Type
 sound-after S d d' prepared prepared' c c' e t r r' q sound stay leaves =
     let H = c.history.entries in
     let token : t < accepted H = rw (sym sound.count) (inside-some c.records.items t r leaves.was) in
-    let falls : owed_entries S (e ∷ H) + 1 ≤ owed_entries S H = owed-falls S H e t leaves.own token leaves.owed in
+    let falls : owed_entries S (e ∷ H) + (leaves.more + 1) ≤ owed_entries S H = owed-falls S H e t (leaves.more + 1) leaves.own token leaves.owed in
     let long : length (e ∷ H) ≡ suc (length H) = refl in
     record {
       legal = rw leaves.entries (legal-more S H e sound.legal leaves.may);
@@ -159,6 +161,7 @@ sound-after S d d' prepared prepared' c c' e t r r' q sound stay leaves =
       gate = rw (leaves.entries, leaves.first) leaves.gate;
       ready = rw leaves.records (ready-after S prepared prepared' c.records.items t r r' stay leaves.was leaves.becomes sound.ready);
       few = rw leaves.entries (omega (arith, sound.few, leaves.spare));
-      room = rw leaves.entries (omega (arith, sound.room, leaves.spare));
-      spent = rw leaves.entries (few-after S H e t leaves.own leaves.owed leaves.spent sound.spent);
+      room = rw leaves.entries (omega (arith, sound.room, leaves.pays));
+      places = omega (arith, sound.places, leaves.spare, leaves.pays);
+      spent = rw leaves.entries (few-after S H e t leaves.own (omega (arith, leaves.owed)) leaves.spent sound.spent);
     }

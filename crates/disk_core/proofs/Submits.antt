@@ -1,5 +1,5 @@
 -- A request that is accepted or refused, as callers see it.
-use Rattle.std.proofs.Common.{◌≡◌, ℕ, ◌+◌, ◌*◌, ◌<◌, ◌≤◌, false, List, [], ◌∷◌, ◌++◌, length, slice_get, Option, None, Some, refl, sym, ◌∙◌, ap, arith}
+use Rattle.std.proofs.Common.{◌≡◌, ℕ, ◌+◌, ◌*◌, ◌<◌, false, List, [], ◌∷◌, ◌++◌, length, slice_get, Option, None, Some, refl, sym, ◌∙◌, ap, arith}
 use Rattle.std.proofs.lemmas.List.{map-append, length-map}
 use Rattle.efi_status.specs.declared.Status.{Status}
 use Rattle.disk_split.specs.declared.span.Span.{Span}
@@ -19,7 +19,7 @@ use Rattle.disk_core.specs.State.{setup_of}
 use Rattle.disk_core.specs.Calls.{Accepts, Refuses, Collects}
 use Rattle.disk_core.specs.Sound.{IsSound, Tracks}
 use Rattle.disk_core.specs.Stepping.{state_of, buffers_of}
-use Rattle.disk_core.specs.Submitting.{plain_refusal, cost_of, payload_of, AreReadyFor, SameButRoom, IsMoving, IsKept}
+use Rattle.disk_core.specs.Submitting.{plain_refusal, cost_of, first_owed, payload_of, AreReadyFor, SameButRoom, IsMoving, IsKept}
 use Rattle.disk_core.proofs.Accepted.{IsNew, IsWithin, within, refusal-is}
 use Rattle.disk_core.proofs.Facts.{blocks-of, sizes-bounds}
 use Rattle.disk_core.proofs.Followed.{size-of}
@@ -38,19 +38,20 @@ refusal-here S d prepared c view media_id asked buffer answer sound is plain =
     ∙ (ap (λ n. plain_refusal n view media_id asked.at asked.length) (sym (total S d sound.meets.setup)) ∙ plain)
 
 -- an accepted request, with the room that was taken for it
-pub record TakesRoom (S : Setup) (prepared' : ℕ → Type 0) (c m c' : Core) (tag : ℕ) (view : View) (asked : Asked) (buffer : List ℕ) (us : List Span) (bytes : List ℕ) (r : Record) : Type 0 where
+pub record TakesRoom (S : Setup) (prepared' : ℕ → Type 0) (c m c' : Core) (tag : ℕ) (view : View) (asked : Asked) (buffer : List ℕ) (us : List Span) (bytes : List ℕ) (owed : ℕ) (r : Record) : Type 0 where
   pub same : SameButRoom c m
-  pub kept : IsKept m c' tag view asked us bytes buffer r
+  pub kept : IsKept m c' tag view asked us bytes owed buffer r
   pub units : us ≡ units_of S.size (view.start + asked.at) (view.start + asked.at + length buffer)
   pub bytes_are : bytes ≡ payload_of asked.kind buffer
-  pub room : c.history.spare + cost_of asked.kind us + 3 ≤ m.history.spare
+  pub owes : owed ≡ first_owed (cost_of asked.kind us) (length buffer)
+  pub room : c.owed + owed < m.history.spare
   pub ready : asked.kind ≡ Write → AreReadyFor prepared' us
 
-pub accept-sound : (S : Setup) (d : Device) (prepared prepared' : ℕ → Type 0) (c m c' : Core) (tag : ℕ) (view : View) (media_id : ℕ) (asked : Asked) (buffer : List ℕ) (us : List Span) (bytes : List ℕ) (r : Record)
+pub accept-sound : (S : Setup) (d : Device) (prepared prepared' : ℕ → Type 0) (c m c' : Core) (tag : ℕ) (view : View) (media_id : ℕ) (asked : Asked) (buffer : List ℕ) (us : List Span) (bytes : List ℕ) (owed : ℕ) (r : Record)
     → IsShaped d → IsSound S d prepared c → StayPrepared prepared prepared' → IsMoving asked buffer → plain_refusal (d.blocks * d.size) view media_id asked.at asked.length ≡ None
-    → TakesRoom S prepared' c m c' tag view asked buffer us bytes r → IsSound S d prepared' c'
-accept-sound S d prepared prepared' c m c' tag view media_id asked buffer us bytes r shaped sound stay is unrefused takes =
-    let kept : IsKept m c' tag view asked us bytes buffer r = takes.kept in
+    → TakesRoom S prepared' c m c' tag view asked buffer us bytes owed r → IsSound S d prepared' c'
+accept-sound S d prepared prepared' c m c' tag view media_id asked buffer us bytes owed r shaped sound stay is unrefused takes =
+    let kept : IsKept m c' tag view asked us bytes owed buffer r = takes.kept in
     let some : 0 < S.size = rw (sym (size-of S d sound.meets.setup)) (omega (arith, (sizes-bounds d.size shaped.size).0)) in
     let lies : IsWithin (blocks_of S 1 * S.size) view media_id asked.at asked.length =
     within (blocks_of S 1 * S.size) view media_id asked.at asked.length (ap (λ n. plain_refusal n view media_id asked.at asked.length) (sym (total S d sound.meets.setup)) ∙ unrefused) in
@@ -63,7 +64,7 @@ accept-sound S d prepared prepared' c m c' tag view media_id asked buffer us byt
       collected = kept.collected;
       bytes = kept.bytes_are;
     } in
-    let cost : cost_of r.kind r.units.items ≡ cost_of asked.kind us = rw (kept.kind, kept.units_are) refl in
+    let owes : first_owed (cost_of r.kind r.units.items) (length r.buffer.items) ≡ owed = rw (kept.kind, kept.units_are, kept.bytes_are) (sym takes.owes) in
     let long : length c'.history.entries ≡ length m.history.entries + 1 = ap length kept.entries ∙ (omega arith) in
     keeps-sound S d prepared prepared' c c' tag view media_id asked buffer r some sound stay is new lies
     (record {
@@ -73,15 +74,16 @@ accept-sound S d prepared prepared' c m c' tag view media_id asked buffer us byt
       first = kept.first ∙ takes.same.first;
       block = kept.block ∙ takes.same.block;
       held = kept.held ∙ takes.same.held;
-      room = omega (arith, cost, takes.room, kept.spare);
+      owed = omega (arith, owes, kept.owed_more, takes.same.owed);
+      places = omega (arith, kept.owed_more, takes.same.owed, takes.room, kept.spare);
     })
     (λ writes. rw kept.units_are (takes.ready (sym kept.kind ∙ writes)))
 
-pub accept-accepts : (d : Device) (prepared prepared' : ℕ → Type 0) (c m c' : Core) (tag : ℕ) (view : View) (media_id : ℕ) (asked : Asked) (buffer : List ℕ) (us : List Span) (bytes : List ℕ) (r : Record) (number : ℕ)
+pub accept-accepts : (d : Device) (prepared prepared' : ℕ → Type 0) (c m c' : Core) (tag : ℕ) (view : View) (media_id : ℕ) (asked : Asked) (buffer : List ℕ) (us : List Span) (bytes : List ℕ) (owed : ℕ) (r : Record) (number : ℕ)
     → IsSound (setup_of d) d prepared c → IsMoving asked buffer → plain_refusal (d.blocks * d.size) view media_id asked.at asked.length ≡ None
-    → TakesRoom (setup_of d) prepared' c m c' tag view asked buffer us bytes r → IsSound (setup_of d) d prepared' c' → number ≡ length m.records.items
+    → TakesRoom (setup_of d) prepared' c m c' tag view asked buffer us bytes owed r → IsSound (setup_of d) d prepared' c' → number ≡ length m.records.items
     → Accepts (state_of d c) tag view media_id asked (payload_of asked.kind buffer) buffer number (state_of d c')
-accept-accepts d prepared prepared' c m c' tag view media_id asked buffer us bytes r number sound is unrefused takes sound' numbered =
+accept-accepts d prepared prepared' c m c' tag view media_id asked buffer us bytes owed r number sound is unrefused takes sound' numbered =
     let more : buffers_of c'.records.items ≡ buffers_of c.records.items ++ (buffer ∷ []) =
     ap buffers_of takes.kept.records ∙ (map-append (λ (x : Record). x.buffer.items) m.records.items (r ∷ []) ∙ (rw (takes.same.records, takes.kept.bytes_are) refl)) in
     let last : number ≡ length (buffers_of c.records.items) = numbered ∙ (ap length takes.same.records ∙ sym (length-map c.records.items (λ (x : Record). x.buffer.items))) in

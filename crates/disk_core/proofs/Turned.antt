@@ -113,7 +113,7 @@ moves-by S d d' prepared c c' e r r' q turn outcome sound leaves next is fills l
     record {
       next = next;
       entries = leaves.entries ∙ ap (λ x. x ∷ c.history.entries) is;
-      owed = rw leaves.entries (owed-falls S c.history.entries e c.first leaves.own token leaves.owed);
+      owed = rw leaves.entries (owed-falls S c.history.entries e c.first 1 leaves.own token (omega (arith, leaves.owed)));
       fills = fills;
       later = later;
       cause = cause;

@@ -17,7 +17,7 @@ use Rattle.disk_core.specs.declared.answers.Step.TheVariants as step
 use Rattle.disk_core.specs.declared.record.Record.{Record}
 use Rattle.disk_core.specs.declared.record.Core.{Core}
 use Rattle.disk_core.specs.Moving.{WritesTo}
-use Rattle.disk_core.specs.Bookkeeping.{finished_record, failed_record}
+use Rattle.disk_core.specs.Bookkeeping.{finished_record, failed_record, end_paid}
 use Rattle.disk_core.specs.Sound.{IsSound, Tracks, IsGate}
 use Rattle.disk_core.specs.Stepping.{NextUnit, UnitLies, SameButBuffer, Stepped, buffers_of}
 use Rattle.disk_core.proofs.Endings.{Ends, kept-same, faulted, wrote, may-done, made-failed}
@@ -52,7 +52,7 @@ same-record : (r : Record) → SameButBuffer r r
 same-record r = record { kind = refl; from = refl; units = refl; finished = refl; status = refl; collected = refl }
 
 pub put-done : (S : Setup) (d d' : Device) (prepared prepared' : ℕ → Type 0) (c c' : Core) (r : Record) (u : Span) → IsShaped d → IsSound S d prepared c → StayPrepared prepared prepared'
-    → NextUnit c u Write r → u.whole ≡ true → IsWrite d u.block (unit_bytes r u) (Ok tt) d' → Ends c c' (Done c.first (Put u.block u.count)) (finished_record r)
+    → NextUnit c u Write r → u.whole ≡ true → IsWrite d u.block (unit_bytes r u) (Ok tt) d' → Ends c c' (Done c.first (Put u.block u.count)) (finished_record r) (end_paid r)
     → Stepped S d d' prepared' c c' step.Did
 put-done S d d' prepared prepared' c c' r u shaped sound stay next whole write ends = by (next-of S d prepared c r u Write shaped sound next)
   where
@@ -71,7 +71,7 @@ put-done S d d' prepared prepared' c c' r u shaped sound stay next whole write e
         (λ old new same. same) refl (turn-put S d prepared c r q u sound is next.of_kind whole) ends
 
 pub put-not : (S : Setup) (d d' : Device) (prepared prepared' : ℕ → Type 0) (c c' : Core) (r : Record) (u : Span) (failure : BlockFailed) → IsShaped d → IsSound S d prepared c → StayPrepared prepared prepared'
-    → NextUnit c u Write r → u.whole ≡ true → IsWrite d u.block (unit_bytes r u) (Err failure) d' → Ends c c' (Fault c.first (Put u.block u.count) failure.done) (failed_record r)
+    → NextUnit c u Write r → u.whole ≡ true → IsWrite d u.block (unit_bytes r u) (Err failure) d' → Ends c c' (Fault c.first (Put u.block u.count) failure.done) (failed_record r) 1
     → Stepped S d d' prepared' c c' step.Did
 put-not S d d' prepared prepared' c c' r u failure shaped sound stay next whole write ends = by (next-of S d prepared c r u Write shaped sound next)
   where
@@ -95,7 +95,7 @@ some-is : (a b : ℕ) → Some a ≡ Some b → a ≡ b
 some-is a b e = cc
 
 pub store-done : (S : Setup) (d d' : Device) (prepared prepared' : ℕ → Type 0) (c c' : Core) (r : Record) (u : Span) → IsShaped d → IsSound S d prepared c → StayPrepared prepared prepared'
-    → NextUnit c u Write r → u.whole ≡ false → c.held ≡ Some u.block → WritesTo d u.low (unit_bytes r u) (Ok tt) d' → Ends c c' (Done c.first (Store u.block)) (finished_record r)
+    → NextUnit c u Write r → u.whole ≡ false → c.held ≡ Some u.block → WritesTo d u.low (unit_bytes r u) (Ok tt) d' → Ends c c' (Done c.first (Store u.block)) (finished_record r) (end_paid r)
     → Stepped S d d' prepared' c c' step.Did
 store-done S d d' prepared prepared' c c' r u shaped sound stay next part held write ends = by (next-of S d prepared c r u Write shaped sound next)
   where
@@ -126,7 +126,7 @@ unfolding piece_of
 fetch-silent size H t b = refl
 
 pub store-not : (S : Setup) (d d' : Device) (prepared prepared' : ℕ → Type 0) (c c' : Core) (r : Record) (u : Span) (failure : BlockFailed) → IsShaped d → IsSound S d prepared c → StayPrepared prepared prepared'
-    → NextUnit c u Write r → u.whole ≡ false → c.held ≡ Some u.block → WritesTo d u.low (unit_bytes r u) (Err failure) d' → Ends c c' (Fault c.first (Store u.block) 0) (failed_record r)
+    → NextUnit c u Write r → u.whole ≡ false → c.held ≡ Some u.block → WritesTo d u.low (unit_bytes r u) (Err failure) d' → Ends c c' (Fault c.first (Store u.block) 0) (failed_record r) 1
     → Stepped S d d' prepared' c c' step.Did
 store-not S d d' prepared prepared' c c' r u failure shaped sound stay next part held write ends = by (next-of S d prepared c r u Write shaped sound next)
   where
@@ -140,7 +140,7 @@ store-not S d d' prepared prepared' c c' r u failure shaped sound stay next part
         write.kept (turn-store S d prepared c r q u sound is next.of_kind part holds.fetched) ends
 
 pub fetch-not : (S : Setup) (d d' : Device) (prepared prepared' : ℕ → Type 0) (c c' : Core) (r : Record) (u : Span) (block block' : List ℕ) (failure : BlockFailed) → IsShaped d → IsSound S d prepared c → StayPrepared prepared prepared'
-    → NextUnit c u Write r → u.whole ≡ false → c.held ≡ None → IsRead d u.block (Err failure) d' block block' → Ends c c' (Fault c.first (Fetch u.block) 0) (failed_record r)
+    → NextUnit c u Write r → u.whole ≡ false → c.held ≡ None → IsRead d u.block (Err failure) d' block block' → Ends c c' (Fault c.first (Fetch u.block) 0) (failed_record r) 1
     → Stepped S d d' prepared' c c' step.Did
 fetch-not S d d' prepared prepared' c c' r u block block' failure shaped sound stay next part free read ends = by (next-of S d prepared c r u Write shaped sound next)
   where
@@ -158,6 +158,7 @@ fetch-not S d d' prepared prepared' c c' r u block block' failure shaped sound s
 pub record Fetches (c c' : Core) (u : Span) (block' : List ℕ) : Type 0 where
   pub entries : c'.history.entries ≡ Done c.first (Fetch u.block) ∷ c.history.entries
   pub spare : c'.history.spare + 1 ≡ c.history.spare
+  pub owed : c'.owed + 1 ≡ c.owed
   pub records : c'.records ≡ c.records
   pub first : c'.first ≡ c.first
   pub block : c'.block.items ≡ block'
@@ -190,6 +191,8 @@ fetch-done S d d' prepared prepared' c c' r u block block' shaped sound stay nex
               (read.now ∙ (sound.meets.now ∙ sym same)) (kept-same d.cached d.kept d.now d'.now d'.kept shaped.uncached read.now read.kept);
           tracks = after;
           gate = rw (ends.records, ends.block) (gate-fetch S H c.records.items c.first r u block' c'.held none ends.held is.token (after.status ∙ is.unended) (next-unstored S H c.first r q u is) told next.is next.unit next.of_kind part);
+          more = 0;
+          pays = ends.owed;
           owed = done-owed S.size H c.first (Fetch u.block) q r.finished u is.tracks.named (rw is.tracks.of_kind is.tracks.moving) (is.tracks.status ∙ is.unended) (rw is.tracks.units at is.has.is)
               (rw (is.tracks.of_kind, next.of_kind, part) (fetch-falls H c.first u.block (unfetched S H c.first r q u is none) (next-unstored S H c.first r q u is)));
           spent = inr (next-owes S H c.first r q u is);

@@ -12,6 +12,10 @@ finished_record r = record r {
   status = if nat_eq (r.finished + 1) (length r.units.items) then Some Success else r.status;
 }
 
+-- one where the next unit is the last: an entry that ends the request is then not needed
+abbrev pub end_paid : Record → ℕ
+end_paid r = if nat_eq (r.finished + 1) (length r.units.items) then 1 else 0
+
 -- a failed command ends the request
 abbrev pub failed_record : Record → Record
 failed_record r = record r { status = Some DeviceError }
@@ -20,6 +24,7 @@ failed_record r = record r { status = Some DeviceError }
 pub record HandsBack (c c' : Core) (tag t : ℕ) (r r' : Record) : Type 0 where
   pub entries : c'.history.entries ≡ Collect tag t ∷ c.history.entries
   pub spare : c'.history.spare + 1 ≡ c.history.spare
+  pub owed : c'.owed + 1 ≡ c.owed
   pub records : c'.records.items ≡ set c.records.items t r'
   pub first : c'.first ≡ c.first
   pub block : c'.block ≡ c.block

@@ -78,5 +78,6 @@ pub record IsSound (S : Setup) (d : Device) (prepared : ℕ → Type 0) (c : Cor
   pub gate : IsGate S c.history.entries c.records.items c.first c.block.items c.held
   pub ready : AreReady S c.records.items prepared
   pub few : AreFew c.history.entries c.history.spare
-  pub room : owed_entries S c.history.entries ≤ c.history.spare
+  pub room : owed_entries S c.history.entries ≤ c.owed
+  pub places : c.owed ≤ c.history.spare
   pub spent : SpendFew S c.history.entries

@@ -35,6 +35,10 @@ unfoldable pub cost_of : Kind → List Span → ℕ
 cost_of kind [] = 0
 cost_of kind (u ∷ rest) = unit_cost kind u.whole + cost_of kind rest
 
+-- what a new request owes behind its accept: its commands, its end and its collect, or its collect alone where it has no bytes
+abbrev pub first_owed : ℕ → ℕ → ℕ
+first_owed cost n = if nat_eq n 0 then 1 else cost + 2
+
 -- the blocks of these units are on a medium of so many blocks
 abbrev pub LieOn : ℕ → List Span → Type 0
 LieOn blocks us = (k : ℕ) (u : Span) → slice_get us k ≡ Some u → u.block + u.count ≤ blocks
@@ -53,6 +57,7 @@ AreReadyFor prepared us = (k b : ℕ) (u : Span) → slice_get us k ≡ Some u �
 pub record SameButRoom (c c' : Core) : Type 0 where
   pub entries : c'.history.entries ≡ c.history.entries
   pub spare : c.history.spare ≤ c'.history.spare
+  pub owed : c'.owed ≡ c.owed
   pub few : length c'.history.entries + c'.history.spare < 2 ^ 63
   pub records : c'.records.items ≡ c.records.items
   pub first : c'.first ≡ c.first
@@ -66,9 +71,10 @@ pub record IsMoving (asked : Asked) (buffer : List ℕ) : Type 0 where
   pub long : asked.length ≡ length buffer
 
 -- the new request has its entry and its record
-pub record IsKept (c c' : Core) (tag : ℕ) (view : View) (asked : Asked) (units : List Span) (bytes buffer : List ℕ) (r : Record) : Type 0 where
+pub record IsKept (c c' : Core) (tag : ℕ) (view : View) (asked : Asked) (units : List Span) (bytes : List ℕ) (owed : ℕ) (buffer : List ℕ) (r : Record) : Type 0 where
   pub entries : c'.history.entries ≡ Accept tag view asked bytes ∷ c.history.entries
   pub spare : c'.history.spare + 1 ≡ c.history.spare
+  pub owed_more : c'.owed ≡ c.owed + owed
   pub records : c'.records.items ≡ c.records.items ++ (r ∷ [])
   pub first : c'.first ≡ c.first
   pub block : c'.block ≡ c.block
@@ -85,6 +91,7 @@ pub record IsKept (c c' : Core) (tag : ℕ) (view : View) (asked : Asked) (units
 pub record IsNewCore (c : Core) (size : ℕ) : Type 0 where
   pub entries : c.history.entries ≡ []
   pub spare : c.history.spare ≡ 1
+  pub owed : c.owed ≡ 1
   pub records : c.records.items ≡ []
   pub first : c.first ≡ 0
   pub block : length c.block.items ≡ size

@@ -1,4 +1,4 @@
-ghost use Rattle.std.specs.Prelude.{◌≡◌, ℕ, ◌+◌, ◌<◌, length, set, slice_get, Some, true, false};
+ghost use Rattle.std.specs.Prelude.{◌≡◌, ℕ, ◌+◌, ◌<◌, ◌≤◌, length, set, slice_get, Some, true, false};
 ghost use Rattle.disk_core.specs.Bookkeeping.{HandsBack};
 ghost use Rattle.disk_core.specs.Calls.{CollectsOr};
 ghost use Rattle.disk_core.specs.Sound.{IsSound};
@@ -15,7 +15,8 @@ use std::mem;
 
 // Hands an ended request's buffer back.
 fn hand_back(alloc: Global, core: &mut Core, tag: u32, at: usize, status: Status) -> Done
-    requires room { 0 < core.old.history.spare }
+    requires places { core.old.owed ≤ core.old.history.spare }
+    requires owed { 0 < core.old.owed }
     requires there { at < length core.old.records.items }
     ensures status { result.status ≡ status }
     ensures buffer { (r : _) → slice_get core.old.records.items at ≡ Some r → result.buffer.items ≡ r.buffer.items }
@@ -25,6 +26,7 @@ fn hand_back(alloc: Global, core: &mut Core, tag: u32, at: usize, status: Status
         tag,
         token: at as u64,
     });
+    core.owed -= 1;
     let kept = &mut core.records[at];
     kept.collected = true;
     let buffer = mem::replace(&mut kept.buffer, Vec::new(alloc));

@@ -41,6 +41,7 @@ fn new_core(alloc: Global, size: u32) -> Result<Core, AllocError>
 {
     Ok(Core {
         history: History::make(alloc, 1)?,
+        owed: 1,
         records: Vec::new(alloc),
         first: 0,
         block: vec![in alloc; 0; size as usize]?,

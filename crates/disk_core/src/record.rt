@@ -25,6 +25,8 @@ pub struct Record {
 #[derive(Drop)]
 pub struct Core {
     pub history: History,
+    /// The entries that the history must still have room for, at most.
+    pub owed: u64,
     /// The accepted requests by number.
     pub records: Vec<Record>,
     /// No request before this one is outstanding.

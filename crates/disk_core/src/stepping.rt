@@ -1,7 +1,7 @@
 ghost use Rattle.std.specs.Prelude.{◌≡◌, ◌≢◌, ℕ, ◌+◌, ◌<◌, ◌≤◌, ◌∷◌, length, set, slice_get, Some, None, true, false};
 ghost use Rattle.medium.specs.Device.{StayPrepared};
 ghost use Rattle.history.specs.declared.entry.Kind.TheVariants.{Read, Write};
-ghost use Rattle.disk_core.specs.Bookkeeping.{finished_record, failed_record};
+ghost use Rattle.disk_core.specs.Bookkeeping.{finished_record, failed_record, end_paid};
 ghost use Rattle.disk_core.specs.State.{setup_of};
 ghost use Rattle.disk_core.specs.Sound.{IsSound};
 ghost use Rattle.disk_core.specs.Stepping.{NextUnit, Stepped};
@@ -16,12 +16,14 @@ use medium::Medium;
 
 // The unit of the first outstanding record was done.
 fn finish(core: &mut Core, command: Command)
-    requires room { 0 < core.old.history.spare }
+    requires places { core.old.owed ≤ core.old.history.spare }
+    requires owed { 2 ≤ core.old.owed }
     requires there { core.old.first < length core.old.records.items }
     requires unit { (r : _) → slice_get core.old.records.items core.old.first ≡ Some r → r.finished < length r.units.items }
     ensures entries { core.new.history.entries ≡ Entry.Done core.old.first command ∷ core.old.history.entries }
     ensures spare { core.new.history.spare + 1 ≡ core.old.history.spare }
     ensures records { (r : _) → slice_get core.old.records.items core.old.first ≡ Some r → core.new.records.items ≡ set core.old.records.items core.old.first (finished_record r) }
+    ensures owed { (r : _) → slice_get core.old.records.items core.old.first ≡ Some r → core.new.owed + (end_paid r + 1) ≡ core.old.owed }
     ensures first { core.new.first ≡ core.old.first }
     ensures block { core.new.block ≡ core.old.block }
     ensures held { core.new.held ≡ None }
@@ -34,17 +36,22 @@ fn finish(core: &mut Core, command: Command)
     record.finished += 1;
     if record.finished == record.units.len() {
         record.status = Some(Status::Success);
+        // An entry that ends the request is not needed.
+        core.owed -= 1;
     }
+    core.owed -= 1;
     core.held = None;
 }
 
 // A command of the first outstanding record failed after so many blocks.
 fn fail(core: &mut Core, command: Command, done: u32)
-    requires room { 0 < core.old.history.spare }
+    requires places { core.old.owed ≤ core.old.history.spare }
+    requires owed { 2 ≤ core.old.owed }
     requires there { core.old.first < length core.old.records.items }
     ensures entries { core.new.history.entries ≡ Entry.Fault core.old.first command done ∷ core.old.history.entries }
     ensures spare { core.new.history.spare + 1 ≡ core.old.history.spare }
     ensures records { (r : _) → slice_get core.old.records.items core.old.first ≡ Some r → core.new.records.items ≡ set core.old.records.items core.old.first (failed_record r) }
+    ensures owed { core.new.owed + 2 ≡ core.old.owed }
     ensures first { core.new.first ≡ core.old.first }
     ensures block { core.new.block ≡ core.old.block }
     ensures held { core.new.held ≡ None }
@@ -55,6 +62,8 @@ fn fail(core: &mut Core, command: Command, done: u32)
         done,
     });
     core.records[core.first].status = Some(Status::DeviceError);
+    // What its further commands would have needed stays counted.
+    core.owed -= 2;
     core.held = None;
 }
 
@@ -142,6 +151,7 @@ pub fn fetch<M: Medium>(medium: &mut M, core: &mut Core, unit: Span) -> Step
                 token: core.first as u64,
                 command,
             });
+            core.owed -= 1;
             core.held = Some(unit.block);
             Step::Fetched
         }

@@ -9,7 +9,7 @@ ghost use Rattle.disk_core.specs.Calls.{SubmitsAsked};
 ghost use Rattle.disk_core.specs.Sound.{IsSound};
 ghost use Rattle.disk_core.specs.State.{setup_of};
 ghost use Rattle.disk_core.specs.Stepping.{state_of};
-ghost use Rattle.disk_core.specs.Submitting.{plain_refusal, is_beyond, unit_cost, cost_of, LieOn, payload_of, AreReadyFor, SameButRoom, IsMoving, IsKept};
+ghost use Rattle.disk_core.specs.Submitting.{plain_refusal, is_beyond, unit_cost, cost_of, first_owed, LieOn, payload_of, AreReadyFor, SameButRoom, IsMoving, IsKept};
 
 use crate::answers::{Refused, Token, Why};
 use crate::record::{Core, Record};
@@ -84,6 +84,17 @@ fn prepare_units<M: Medium>(alloc: Global, medium: &mut M, units: &[Span]) -> Re
 pub struct Room {
     pub units: Vec<Span>,
     pub bytes: Bytes,
+    /// The entries that it owes behind its accept.
+    pub owed: u64,
+}
+
+// How many entries a new request owes behind its accept.
+fn owed_at_first(cost: u64, length: usize) -> u64
+    requires { cost < 2 ^ 63 }
+    ensures owed { result ≡ first_owed cost length }
+    ensures most { result ≤ cost + 2 }
+{
+    if length == 0 { 1 } else { cost + 2 }
 }
 
 // Takes all memory that the request can ever need. The error is want of memory, and nothing is then recorded.
@@ -104,7 +115,8 @@ pub fn take_room<M: Medium>(
     ensures same { SameButRoom core.old core.new }
     ensures units { IfOk result (λ room. room.units.items ≡ units_of (M.device medium.old).size from (from + length buffer.now)) }
     ensures bytes { IfOk result (λ room. room.bytes ≡ payload_of kind buffer.now) }
-    ensures room { IfOk result (λ room. core.old.history.spare + cost_of kind room.units.items + 3 ≤ core.new.history.spare) }
+    ensures owed { IfOk result (λ room. room.owed ≡ first_owed (cost_of kind room.units.items) (length buffer.now)) }
+    ensures room { IfOk result (λ room. core.old.owed + room.owed < core.new.history.spare) }
     ensures place { OnOk result (vec_len core.new.records < vec_capacity core.new.records) }
     ensures ready { IfOk result (λ room. kind ≡ Write → AreReadyFor (M.prepared medium.new) room.units.items) }
 {
@@ -112,13 +124,13 @@ pub fn take_room<M: Medium>(
     let bytes = payload(alloc, kind, buffer)?;
     core.records.reserve(1)?;
     let cost = commands_for(kind, &units);
-    let spare = core.history.spare();
     core.history
-        .reserve(spare.saturating_add(cost).saturating_add(3))?;
+        .reserve(core.owed.saturating_add(cost).saturating_add(3))?;
+    let owed = owed_at_first(cost, buffer.len());
     if kind == Kind::Write {
         prepare_units(alloc, medium, &units)?;
     }
-    Ok(Room { units, bytes })
+    Ok(Room { units, bytes, owed })
 }
 
 // The bytes that an accepted request's entry has: a write's.
@@ -146,12 +158,13 @@ fn first_status(length: usize) -> Option<Status>
 fn keep(core: &mut Core, tag: u32, view: &View, asked: Asked, room: Room, buffer: Vec<u8>) -> Token
     requires from { view.now.start + asked.at < 2 ^ 64 }
     requires spare { 0 < core.old.history.spare }
+    requires fits { core.old.owed + room.owed < 2 ^ 64 }
     requires place { vec_len core.old.records < vec_capacity core.old.records }
     ensures number { result.number ≡ length core.old.records.items }
-    ensures kept { (r : _) × IsKept core.old core.new tag view.now asked room.units.items room.bytes buffer.items r }
+    ensures kept { (r : _) × IsKept core.old core.new tag view.now asked room.units.items room.bytes room.owed buffer.items r }
 {
     let number = core.records.len() as u64;
-    let Room { units, bytes } = room;
+    let Room { units, bytes, owed } = room;
     let status = first_status(buffer.len());
     core.records.push_reserved(Record {
         kind: asked.kind,
@@ -168,6 +181,7 @@ fn keep(core: &mut Core, tag: u32, view: &View, asked: Asked, room: Room, buffer
         asked,
         bytes,
     });
+    core.owed += owed;
     Token { number }
 }
 
@@ -217,8 +231,7 @@ fn refuse<M: Medium>(
     ensures sound { IsSound (setup_of (M.device medium.now)) (M.device medium.now) (M.prepared medium.now) core.new }
     ensures submits { SubmitsAsked (state_of (M.device medium.now) core.old) tag view.now media_id asked (payload_of asked.kind buffer.items) buffer.items result (state_of (M.device medium.now) core.new) }
 {
-    let spare = core.history.spare();
-    match core.history.reserve(spare.saturating_add(1)) {
+    match core.history.reserve(core.owed.saturating_add(1)) {
         Ok(()) => {
             core.history.push(Entry::Refuse {
                 tag,

@@ -248,3 +248,23 @@ fn answers_each_call(rt: HostRuntime) -> Result<(), Fail> {
     assert_eq!(rt; medium.into_bytes()?.get(508..516), Some(ROUND.as_slice()));
     Ok(())
 }
+
+// The room that one request took serves the next one.
+#[test]
+fn uses_room_again(rt: HostRuntime) -> Result<(), Fail> {
+    let alloc = rt.alloc();
+    let mut disk = disk_over(alloc, zeros(alloc, 2)?)?;
+    let view = view_of(1_024);
+    for number in 0..4 {
+        let buffer = Vec::from_slice(alloc, &WRITTEN)?;
+        let write = disk.submit(1, &view, 1, Ask::Write { at: 510, buffer });
+        assert_eq!(rt; write.map_err(why)?, Token { number });
+        assert_eq!(rt; disk.history().spare(), 7);
+        for step in [Step::Fetched, Step::Did, Step::Fetched, Step::Did] {
+            assert_eq!(rt; disk.step(), step);
+        }
+        assert_eq!(rt; disk.collect(1, number)?.status, Status::Success);
+        assert_eq!(rt; disk.history().spare(), 2);
+    }
+    Ok(())
+}

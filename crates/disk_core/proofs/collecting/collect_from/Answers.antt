@@ -1,16 +1,16 @@
 use Rattle.std.proofs.Common.{rules, arith, refl, sym, ◌∙◌, ◌≡◌, ◌<◌, length, false}
 use Rattle.std.proofs.lemmas.Option.{slice_get_read}
-use Rattle.disk_core.proofs.Collected.{collected-sound, collect-room}
+use Rattle.disk_core.proofs.Collected.{collected-sound, collect-owes}
 use Rattle.disk_core.proofs.Submits.{collect-collects}
 use Rattle.disk_core.proofs.collecting.collect_from.Goals as goal
 
-pub hand_back-requires-clause-room : goal.hand_back-requires-clause-room
-hand_back-requires-clause-room g c =
+pub hand_back-requires-clause-owed : goal.hand_back-requires-clause-owed
+hand_back-requires-clause-owed g c =
     let there : c.args.number < length c.args.core.now.records.items = omega arith in
     let is = slice_get_read c.args.core.now.records.items (length c.args.core.now.records.items) c.args.number c.index-kept.result.now refl there c.index-kept.ensures in
     let (q, tracks) = c.requires.tracked c.args.number c.index-kept.result.now is in
     let kept : c.index-kept.result.now.collected ≡ false = search rules in
-    collect-room _ _ _ c.args.core.now c.args.tag c.args.number c.index-kept.result.now q c.in-Some.status c.requires is tracks c.in-Some.is kept
+    collect-owes _ _ _ c.args.core.now c.args.tag c.args.number c.index-kept.result.now q c.in-Some.status c.requires is tracks c.in-Some.is kept
 
 pub returns-in-None-clause-collects : goal.returns-in-None-clause-collects
 returns-in-None-clause-collects g c =

@@ -1,4 +1,4 @@
-use Rattle.std.proofs.Common.{rules, refl, ap, ◌≡◌}
+use Rattle.std.proofs.Common.{rules, refl, arith, ap, ◌≡◌}
 use Rattle.disk_core.specs.declared.record.Record.{Record}
 use Rattle.disk_core.proofs.Endings.{read-is}
 use Rattle.disk_core.proofs.collecting.hand_back.Goals as goal
@@ -10,6 +10,7 @@ returns-clause-back c r is =
       record {
         entries = c.push.ensures.entries;
         spare = c.push.ensures.spare;
+        owed = omega (arith, c.requires.owed);
         records = refl;
         first = refl;
         block = refl;

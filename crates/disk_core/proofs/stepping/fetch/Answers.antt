@@ -1,7 +1,7 @@
-use Rattle.std.proofs.Common.{rules, refl}
+use Rattle.std.proofs.Common.{rules, refl, arith}
 use Rattle.std.proofs.lemmas.Grind.{common_steps}
 use Rattle.history.specs.declared.entry.Kind.TheVariants.{Write}
-use Rattle.disk_core.proofs.Endings.{next-room}
+use Rattle.disk_core.proofs.Endings.{next-owed}
 use Rattle.disk_core.proofs.Facts.{lies-of, part-transfer}
 use Rattle.disk_core.proofs.Places.{inside-some}
 use Rattle.std.proofs.lemmas.List.{with_items_is}
@@ -16,13 +16,19 @@ read_blocks-requires g c =
 pub push-requires : goal.push-requires
 push-requires g c =
     let (r, next) = c.requires.next in
-    next-room _ _ _ c.args.core.now r c.args.unit Write (g.met.M.Medium.shaped c.args.medium.now) c.requires.sound next
+    omega (arith, next-owed _ _ _ c.args.core.now r c.args.unit Write (g.met.M.Medium.shaped c.args.medium.now) c.requires.sound next, c.requires.sound.places)
+
+pub overflow_sub-core : goal.overflow_sub-core
+overflow_sub-core g c =
+    let (r, next) = c.requires.next in
+    omega (arith, next-owed _ _ _ c.args.core.now r c.args.unit Write (g.met.M.Medium.shaped c.args.medium.now) c.requires.sound next)
 
 pub fail-requires : goal.fail-requires
 fail-requires g c =
     let (r, next) = c.requires.next in
     record {
-      room = next-room _ _ _ c.args.core.now r c.args.unit Write (g.met.M.Medium.shaped c.args.medium.now) c.requires.sound next;
+      places = c.requires.sound.places;
+      owed = next-owed _ _ _ c.args.core.now r c.args.unit Write (g.met.M.Medium.shaped c.args.medium.now) c.requires.sound next;
       there = inside-some c.args.core.now.records.items c.args.core.now.first r next.is;
     }
 
@@ -35,6 +41,7 @@ returns-in-Ok g c =
           (record {
             entries = c.push.ensures.entries;
             spare = c.push.ensures.spare;
+            owed = omega (arith, next-owed _ _ _ c.args.core.now r c.args.unit Write (g.met.M.Medium.shaped c.args.medium.now) c.requires.sound next);
             records = refl;
             first = refl;
             block = with_items_is c.args.core.now.block c.read_blocks.new.out (search (rules, common_steps));
@@ -52,6 +59,7 @@ returns-in-Err g c =
           (record {
             entries = c.fail.ensures.entries;
             spare = c.fail.ensures.spare;
+            owed = c.fail.ensures.owed;
             records = c.fail.ensures.records r next.is;
             first = c.fail.ensures.first;
             block = rw c.fail.ensures.block (search (rules, common_steps));

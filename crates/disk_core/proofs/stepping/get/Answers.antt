@@ -3,7 +3,7 @@ use Rattle.std.proofs.lemmas.Grind.{common_steps}
 use Rattle.std.proofs.lemmas.List.{set-set}
 use Rattle.history.specs.declared.entry.Kind.TheVariants.{Read}
 use Rattle.disk_core.specs.Stepping.{SameButBuffer}
-use Rattle.disk_core.proofs.Endings.{room-some, read-is, unit-left}
+use Rattle.disk_core.proofs.Endings.{owed-some, read-is, unit-left}
 use Rattle.disk_core.proofs.Facts.{next-of, unit-facts}
 use Rattle.disk_core.proofs.Got.{got, got-not}
 use Rattle.disk_core.proofs.Places.{inside-some, get-set-same, length-set-here}
@@ -30,7 +30,8 @@ finish-requires g c =
     let one : c.index_mut-kept.result.now ≡ r = read-is c.args.core.now.records.items c.args.core.now.first r c.index_mut-kept.result.now next.is c.index_mut-kept.ensures.value in
     let same : SameButBuffer r c.read_unit.new.kept = rw one at c.in-Ok.ensures.same in
     record {
-      room = room-some _ _ _ c.args.core.now r q c.args.unit c.requires.sound is;
+      places = c.requires.sound.places;
+      owed = owed-some _ _ _ c.args.core.now r q c.args.unit c.requires.sound is;
       there = rw (length-set-here c.args.core.now.records.items c.args.core.now.first c.read_unit.new.kept) (inside-some c.args.core.now.records.items c.args.core.now.first r next.is);
       unit = λ x there. unit-left _ _ c.args.core.now.records.items c.args.core.now.first r c.read_unit.new.kept x q is.tracks is.unended same next.is there;
     }
@@ -41,7 +42,8 @@ fail-requires g c =
     let shaped = g.met.M.Medium.shaped c.args.medium.now in
     let (q, is) = next-of _ _ _ c.args.core.now r c.args.unit Read shaped c.requires.sound next in
     record {
-      room = room-some _ _ _ c.args.core.now r q c.args.unit c.requires.sound is;
+      places = c.requires.sound.places;
+      owed = owed-some _ _ _ c.args.core.now r q c.args.unit c.requires.sound is;
       there = rw (length-set-here c.args.core.now.records.items c.args.core.now.first c.read_unit.new.kept) (inside-some c.args.core.now.records.items c.args.core.now.first r next.is);
     }
 
@@ -57,6 +59,7 @@ returns-in-Ok g c =
           (record {
             entries = c.finish.ensures.entries;
             spare = c.finish.ensures.spare;
+            owed = c.finish.ensures.owed kept set_here;
             records = c.finish.ensures.records kept set_here ∙ set-set c.args.core.now.records.items c.args.core.now.first kept _;
             first = c.finish.ensures.first;
             block = rw c.finish.ensures.block (search (rules, common_steps));
@@ -76,6 +79,7 @@ returns-in-Err g c =
           (record {
             entries = c.fail.ensures.entries;
             spare = c.fail.ensures.spare;
+            owed = c.fail.ensures.owed;
             records = c.fail.ensures.records kept set_here ∙ set-set c.args.core.now.records.items c.args.core.now.first kept _;
             first = c.fail.ensures.first;
             block = rw c.fail.ensures.block (search (rules, common_steps));

@@ -1,6 +1,6 @@
 use Rattle.std.proofs.Common.{arith, sym, ap, ◌≡◌, length}
 use Rattle.history.specs.declared.entry.Kind.TheVariants.{Write}
-use Rattle.disk_core.proofs.Endings.{next-room, next-left, read-is}
+use Rattle.disk_core.proofs.Endings.{next-owed, next-left, read-is}
 use Rattle.disk_core.proofs.Facts.{lies-of}
 use Rattle.disk_core.proofs.Places.{inside-some}
 use Rattle.disk_core.proofs.Wrote.{put-done, put-not}
@@ -27,7 +27,8 @@ finish-requires g c =
     let (r, next) = c.requires.next in
     let shaped = g.met.M.Medium.shaped c.args.medium.now in
     record {
-      room = next-room _ _ _ c.args.core.now r c.args.unit Write shaped c.requires.sound next;
+      places = c.requires.sound.places;
+      owed = next-owed _ _ _ c.args.core.now r c.args.unit Write shaped c.requires.sound next;
       there = inside-some c.args.core.now.records.items c.args.core.now.first r next.is;
       unit = λ x there. next-left _ _ _ c.args.core.now r x c.args.unit Write shaped c.requires.sound next there;
     }
@@ -36,7 +37,8 @@ pub fail-requires : goal.fail-requires
 fail-requires g c =
     let (r, next) = c.requires.next in
     record {
-      room = next-room _ _ _ c.args.core.now r c.args.unit Write (g.met.M.Medium.shaped c.args.medium.now) c.requires.sound next;
+      places = c.requires.sound.places;
+      owed = next-owed _ _ _ c.args.core.now r c.args.unit Write (g.met.M.Medium.shaped c.args.medium.now) c.requires.sound next;
       there = inside-some c.args.core.now.records.items c.args.core.now.first r next.is;
     }
 
@@ -50,6 +52,7 @@ returns-in-Ok g c =
           (record {
             entries = c.finish.ensures.entries;
             spare = c.finish.ensures.spare;
+            owed = c.finish.ensures.owed r next.is;
             records = c.finish.ensures.records r next.is;
             first = c.finish.ensures.first;
             block = ap (λ b. length b.items) c.finish.ensures.block;
@@ -67,6 +70,7 @@ returns-in-Err g c =
           (record {
             entries = c.fail.ensures.entries;
             spare = c.fail.ensures.spare;
+            owed = c.fail.ensures.owed;
             records = c.fail.ensures.records r next.is;
             first = c.fail.ensures.first;
             block = ap (λ b. length b.items) c.fail.ensures.block;

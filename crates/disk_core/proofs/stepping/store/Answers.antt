@@ -1,7 +1,7 @@
 use Rattle.std.proofs.Common.{rules, arith, ◌≡◌}
 use Rattle.std.proofs.lemmas.Grind.{common_steps}
 use Rattle.history.specs.declared.entry.Kind.TheVariants.{Write}
-use Rattle.disk_core.proofs.Endings.{next-room, next-left, read-is}
+use Rattle.disk_core.proofs.Endings.{next-owed, next-left, read-is}
 use Rattle.disk_core.proofs.Facts.{lies-of}
 use Rattle.disk_core.proofs.Places.{inside-some}
 use Rattle.disk_core.proofs.Followed.{size-of}
@@ -30,7 +30,8 @@ finish-requires g c =
     let (r, next) = c.requires.next in
     let shaped = g.met.M.Medium.shaped c.args.medium.now in
     record {
-      room = next-room _ _ _ c.args.core.now r c.args.unit Write shaped c.requires.sound next;
+      places = c.requires.sound.places;
+      owed = next-owed _ _ _ c.args.core.now r c.args.unit Write shaped c.requires.sound next;
       there = inside-some c.args.core.now.records.items c.args.core.now.first r next.is;
       unit = λ x there. next-left _ _ _ c.args.core.now r x c.args.unit Write shaped c.requires.sound next there;
     }
@@ -39,7 +40,8 @@ pub fail-requires : goal.fail-requires
 fail-requires g c =
     let (r, next) = c.requires.next in
     record {
-      room = next-room _ _ _ c.args.core.now r c.args.unit Write (g.met.M.Medium.shaped c.args.medium.now) c.requires.sound next;
+      places = c.requires.sound.places;
+      owed = next-owed _ _ _ c.args.core.now r c.args.unit Write (g.met.M.Medium.shaped c.args.medium.now) c.requires.sound next;
       there = inside-some c.args.core.now.records.items c.args.core.now.first r next.is;
     }
 
@@ -53,6 +55,7 @@ returns-in-Ok g c =
           (record {
             entries = c.finish.ensures.entries;
             spare = c.finish.ensures.spare;
+            owed = c.finish.ensures.owed r next.is;
             records = c.finish.ensures.records r next.is;
             first = c.finish.ensures.first;
             block = rw c.finish.ensures.block (search (rules, common_steps));
@@ -70,6 +73,7 @@ returns-in-Err g c =
           (record {
             entries = c.fail.ensures.entries;
             spare = c.fail.ensures.spare;
+            owed = c.fail.ensures.owed;
             records = c.fail.ensures.records r next.is;
             first = c.fail.ensures.first;
             block = rw c.fail.ensures.block (search (rules, common_steps));

@@ -7,6 +7,7 @@ returns-clause-kept c = (
   record {
     entries = c.push.ensures.entries;
     spare = c.push.ensures.spare;
+    owed_more = refl;
     records = c.push_reserved.ensures.items;
     first = refl;
     block = refl;

@@ -10,7 +10,8 @@ returns-in-Ok-clause-sound g c =
     (refusal-here _ _ _ c.args.core.now c.args.view.now c.args.media_id c.args.asked c.args.buffer.items _ c.requires.sound c.requires.moving c.requires.refused)
     (record {
       entries = rw c.in-Ok.ensures.entries at c.push.ensures.entries;
-      spare = omega (arith, c.saturating_add.ensures, c.in-Ok.ensures.spare, c.in-Ok.ensures.bound, c.push.ensures.spare);
+      owed = refl;
+      places = omega (arith, c.saturating_add.ensures, c.in-Ok.ensures.spare, c.in-Ok.ensures.bound, c.push.ensures.spare);
       few = omega (arith, ap length c.push.ensures.entries, c.in-Ok.ensures.bound, c.push.ensures.spare);
       records = refl;
       first = refl;
@@ -22,7 +23,8 @@ pub returns-in-Ok-clause-submits : goal.returns-in-Ok-clause-submits
 returns-in-Ok-clause-submits g c =
     let leaves : LeavesRefused c.args.core.now (record c.args.core.now { history = c.push.new.self }) (Refuse c.args.tag c.args.view.now c.args.asked c.args.media_id c.args.status) = record {
       entries = rw c.in-Ok.ensures.entries at c.push.ensures.entries;
-      spare = omega (arith, c.saturating_add.ensures, c.in-Ok.ensures.spare, c.in-Ok.ensures.bound, c.push.ensures.spare);
+      owed = refl;
+      places = omega (arith, c.saturating_add.ensures, c.in-Ok.ensures.spare, c.in-Ok.ensures.bound, c.push.ensures.spare);
       few = omega (arith, ap length c.push.ensures.entries, c.in-Ok.ensures.bound, c.push.ensures.spare);
       records = refl;
       first = refl;
