@@ -17,10 +17,6 @@ abbrev pub SoFar : Option (List ℕ) → Option (List ℕ) → List ℕ → Type
 SoFar (Some left) now bytes = (rest : List ℕ) × (now ≡ Some rest) × (left ≡ bytes ++ rest)
 SoFar None now bytes = now ≡ None
 
-pub so-far-none : (left : Option (List ℕ)) → SoFar left left []
-so-far-none None = refl
-so-far-none (Some bytes) = (bytes, refl, refl)
-
 -- one more piece
 pub so-far-more : (left now new : Option (List ℕ)) (bytes out : List ℕ) (n : ℕ) → SoFar left now bytes → TakesFront now new n out → SoFar left new (bytes ++ take n out)
 unfolding TakesFront

@@ -9,7 +9,7 @@ use Rattle.script_text.specs.declared.grammar.refusal.Reason.{Reason}
 use Rattle.script_text.specs.Script.{script_of}
 use Rattle.stack_run.specs.declared.refusal.Refusal.{Refusal}
 use Rattle.stack_run.specs.declared.refusal.Refusal.TheVariants.{Words, Script, Image as ImageOf, Source, Memory}
-use Rattle.stack_run.specs.Reading.{IsScript, AreOne}
+use Rattle.stack_run.specs.Reading.{IsScript, OfOne}
 use Rattle.stack_run.specs.Serving.{Served, ImageFails, MayLeave, LacksBlock}
 
 -- the words are the one word `plain`
@@ -42,41 +42,25 @@ pub record Refuses (text : List ℕ) (at at' : List ℕ → Image) (wrote wrote'
   pub images : at' ≡ at
   pub line : WritesLine text wrote wrote' faults faults'
 
--- the source was read to its end and is a script, and this holds of its disks
-pub record OfScript (left left' : Option (List ℕ)) (P : List DiskPlan → Type 0) : Type 0 where
+-- the source was read to its end and is a script of one disk with one client, and this holds of the two
+pub record OfScript (left left' : Option (List ℕ)) (P : DiskPlan → ClientPlan → Type 0) : Type 0 where
   pub plans : List DiskPlan
   pub script : IsScript left left' plans
-  pub holds : P plans
+  pub one : OfOne plans P
 
--- the one disk of a script was served with its one client
-pub record ServedOne (plans : List DiskPlan) (at at' : List ℕ → Image) (wrote wrote' : Option (List ℕ)) : Type 0 where
-  pub plan : DiskPlan
-  pub client : ClientPlan
-  pub one : AreOne plans plan client
-  pub served : Served plan client at at' (Appends wrote wrote')
-
--- its image could not be taken or put back, and the line says so
-pub record ImageFailed (plans : List DiskPlan) (at at' : List ℕ → Image) (wrote wrote' : Option (List ℕ)) (faults faults' : ℕ) : Type 0 where
-  pub plan : DiskPlan
-  pub client : ClientPlan
-  pub one : AreOne plans plan client
+-- the image of a disk could not be taken or put back, and the line says so
+pub record ImageFailed (at at' : List ℕ → Image) (wrote wrote' : Option (List ℕ)) (faults faults' : ℕ) (plan : DiskPlan) (client : ClientPlan) : Type 0 where
   pub fails : ImageFails plan client (at plan.image) (at' plan.image)
   pub others : ChangesOnly plan.image at at'
   pub line : WritesLine (refusal_text ImageOf plan.image) wrote wrote' faults faults'
 
--- it was served, and the sink failed in its report
-pub record SinkFailed (plans : List DiskPlan) (at at' : List ℕ → Image) (wrote wrote' : Option (List ℕ)) (faults faults' : ℕ) : Type 0 where
-  pub plan : DiskPlan
-  pub client : ClientPlan
-  pub one : AreOne plans plan client
+-- a disk was served, and the sink failed in its report
+pub record SinkFailed (at at' : List ℕ → Image) (wrote wrote' : Option (List ℕ)) (faults faults' : ℕ) (plan : DiskPlan) (client : ClientPlan) : Type 0 where
   pub served : Served plan client at at' (AppendsFront wrote wrote')
   pub cause : Rose faults faults'
 
--- memory ran out, and its image is left so
-pub record MemoryRanOut (plans : List DiskPlan) (at at' : List ℕ → Image) : Type 0 where
-  pub plan : DiskPlan
-  pub client : ClientPlan
-  pub one : AreOne plans plan client
+-- memory ran out, and the image of a disk is left so
+pub record MemoryRanOut (at at' : List ℕ → Image) (plan : DiskPlan) (client : ClientPlan) : Type 0 where
   pub leaves : MayLeave plan.size (at plan.image) (at' plan.image)
   pub others : ChangesOnly plan.image at at'
 

@@ -32,7 +32,10 @@ pub record IsRefused (left : Option (List ℕ)) : Type 0 where
   pub reason : Reason
   pub says : Says left (Err (line, reason))
 
--- one disk with one client
-pub record AreOne (plans : List DiskPlan) (plan : DiskPlan) (client : ClientPlan) : Type 0 where
+-- these are one disk with one client, and this holds of the two
+pub record OfOne (plans : List DiskPlan) (P : DiskPlan → ClientPlan → Type 0) : Type 0 where
+  pub plan : DiskPlan
+  pub client : ClientPlan
   pub disk : plans ≡ plan ∷ []
   pub client_of : plan.clients ≡ client ∷ []
+  pub holds : P plan client

@@ -8,7 +8,7 @@ returns-in-Ok-read_script-clause-done g c is =
     record {
       plans = c.in-Ok-read_script.read.disks;
       script = script-read _ _ c.in-Ok.bytes.items c.in-Ok-read_script.read.disks c.in-Ok.ensures.read says;
-      holds = c.run_script.ensures.done is;
+      one = c.run_script.ensures.done is;
     }
 
 pub returns-in-Ok-read_script-clause-script_exactly : goal.returns-in-Ok-read_script-clause-script_exactly
@@ -22,7 +22,7 @@ returns-in-Ok-read_script-clause-image g c is =
     record {
       plans = c.in-Ok-read_script.read.disks;
       script = script-read _ _ c.in-Ok.bytes.items c.in-Ok-read_script.read.disks c.in-Ok.ensures.read says;
-      holds = c.run_script.ensures.image is;
+      one = c.run_script.ensures.image is;
     }
 
 pub returns-in-Ok-read_script-clause-image_exactly : goal.returns-in-Ok-read_script-clause-image_exactly
@@ -37,7 +37,7 @@ returns-in-Ok-read_script-clause-sink g c is =
     record {
       plans = c.in-Ok-read_script.read.disks;
       script = script-read _ _ c.in-Ok.bytes.items c.in-Ok-read_script.read.disks c.in-Ok.ensures.read says;
-      holds = c.run_script.ensures.sink is;
+      one = c.run_script.ensures.sink is;
     }
 
 pub returns-in-Ok-read_script-clause-memory : goal.returns-in-Ok-read_script-clause-memory
@@ -46,7 +46,7 @@ returns-in-Ok-read_script-clause-memory g c is =
     inr (record {
       plans = c.in-Ok-read_script.read.disks;
       script = script-read _ _ c.in-Ok.bytes.items c.in-Ok-read_script.read.disks c.in-Ok.ensures.read says;
-      holds = c.run_script.ensures.memory is;
+      one = c.run_script.ensures.memory is;
     })
 
 pub returns-in-Err-Fault-clause-script : goal.returns-in-Err-Fault-clause-script
