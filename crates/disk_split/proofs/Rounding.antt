@@ -1,9 +1,10 @@
 -- Rounding to block borders.
-use Rattle.std.proofs.Common.{◌≡◌, ℕ, ◌+◌, ◌*◌, ◌/◌, ◌%◌, ◌<◌, ◌↔◌, ◌≤◌, arith, ap, inl, inr}
+use Rattle.std.proofs.Common.{◌≡◌, ℕ, ◌+◌, ◌*◌, ◌/◌, ◌%◌, ◌<◌, ◌↔◌, ◌≤◌, ◌^◌, ◌⊎◌, arith, ap, inl, inr, ◌∙◌}
 use Rattle.std.proofs.lemmas.Bool.{cases_lt}
-use Rattle.std.proofs.Math.Nat.{div-mul-le_self, le-div_iff_mul-le, lt_of_mul-lt-mul_right, mul-le-mul_right}
+use Rattle.std.proofs.Math.Nat.{div-mul-le_self, le-div_iff_mul-le, lt_of_mul-lt-mul_right, mul-le-mul, mul-le-mul_left, mul-le-mul_right, mul_assoc, mul_right_comm, add-mul}
 use Rattle.std.specs.Int.{div_ceil}
-use Rattle.disk_split.specs.Units.{IsWhole, up, whole_of, whole_end}
+use Rattle.disk_split.specs.declared.geometry.Geometry.{Geometry}
+use Rattle.disk_split.specs.Units.{IsGeometry, IsWhole, up, whole_of, whole_end, group_size, first_whole, whole_blocks}
 
 -- a block that begins at the byte or after it
 pub up-reaches : (size a : ℕ) → 0 < size → a ≤ up size a * size
@@ -99,3 +100,55 @@ pub wider : (size block count : ℕ) → 0 < size → 0 < count → block * size
 wider size block count some one =
     let least : 1 * size ≤ count * size = mul-le-mul_right size (omega arith) in
     omega arith
+
+-- the bytes of so many groups are those of their blocks
+pub group-bytes : (G : Geometry) (n : ℕ) → n * G.per * G.size ≡ n * group_size G
+group-bytes G n = mul_right_comm n G.per G.size ∙ mul_assoc n G.size G.per
+
+-- a group has bytes, and few of them
+pub group-some : (G : Geometry) → IsGeometry G → 0 < group_size G
+group-some G is =
+    let least : 1 * 1 ≤ group_size G = mul-le-mul {n₁ = 1} {m₁ = 1} {n₂ = G.size} {m₂ = G.per} (omega (arith, is.size_some)) is.per_some in
+    omega arith
+
+pub group-most : (G : Geometry) → IsGeometry G → group_size G ≤ 32768
+group-most G is =
+    let most : group_size G ≤ 4096 * 8 = mul-le-mul {n₁ = G.size} {m₁ = G.per} {n₂ = 4096} {m₂ = 8} is.size_most is.per_most in
+    omega arith
+
+-- the whole groups of a range begin at a byte of it, and end in it
+pub first-whole-bytes : (G : Geometry) (a : ℕ) → first_whole G a * G.size ≡ up (group_size G) a * group_size G
+first-whole-bytes G a = group-bytes G (up (group_size G) a)
+
+pub whole-bytes : (G : Geometry) (a z : ℕ) → (first_whole G a + whole_blocks G a z) * G.size ≡ (up (group_size G) a + whole_of (group_size G) a z) * group_size G
+whole-bytes G a z =
+    omega (
+      arith,
+      add-mul (first_whole G a) (whole_blocks G a z) G.size,
+      add-mul (up (group_size G) a) (whole_of (group_size G) a z) (group_size G),
+      group-bytes G (up (group_size G) a),
+      group-bytes G (whole_of (group_size G) a z),
+    )
+
+-- their numbers are small where the range is
+pub first-whole-fits : (G : Geometry) (a : ℕ) → IsGeometry G → a < 2 ^ 64 → first_whole G a < 2 ^ 64
+first-whole-fits G a is small =
+    let least : first_whole G a * 512 ≤ first_whole G a * G.size = mul-le-mul_left (first_whole G a) is.size_some in
+    omega (arith, first-whole-bytes G a, up-near (group_size G) a (group-some G is), group-most G is)
+
+pub whole-blocks-fits : (G : Geometry) (a z : ℕ) → IsGeometry G → z < 2 ^ 64 → whole_blocks G a z < 2 ^ 64
+whole-blocks-fits G a z is small =
+    let least : whole_blocks G a z * 512 ≤ whole_blocks G a z * G.size = mul-le-mul_left (whole_blocks G a z) is.size_some in
+    let most : whole_of (group_size G) a z * group_size G ≤ z / group_size G * group_size G = mul-le-mul_right (group_size G) (omega arith) in
+    omega (arith, group-bytes G (whole_of (group_size G) a z), div-mul-le_self z (group_size G))
+
+-- the runs end in the range
+pub whole-blocks-within : (G : Geometry) (a z : ℕ) → 0 < whole_blocks G a z → (first_whole G a + whole_blocks G a z) * G.size ≤ z
+whole-blocks-within G a z some = rw (whole-bytes G a z) (whole-within (group_size G) a z (by (cases_lt 0 (whole_of (group_size G) a z))))
+  where
+    by : (0 < whole_of (group_size G) a z) ⊎ (whole_of (group_size G) a z ≤ 0) → 0 < whole_of (group_size G) a z
+    by (inl more) = more
+    by (inr none) =
+        let zero_of : whole_of (group_size G) a z ≡ 0 = omega arith in
+        let no_blocks : 0 < 0 * G.per = rw zero_of at some in
+        absurd (omega arith)

@@ -2,16 +2,18 @@
 #![tactic(auto)]
 
 mod cut;
+mod geometry;
 mod parts;
 mod span;
 
 pub use cut::spans;
+pub use geometry::Geometry;
 pub use parts::{Part, Parts, run, runs, split};
 pub use span::Span;
 
 #[cfg(test)]
 mod tests {
-    use super::{Part, Parts, Span, run, runs, spans, split};
+    use super::{Geometry, Part, Parts, Span, run, runs, spans, split};
     use std::test::Fail;
 
     fn part(at: u64, len: u32) -> Option<Part> {
@@ -56,7 +58,7 @@ mod tests {
         assert_eq!(rt; runs(130), 3);
         assert_eq!(rt; runs(u64::MAX), 1 << 58);
         assert_eq!(rt; run(0, 130, 2), (128, 2));
-        let units = spans(rt.alloc(), 510, 1028, 512)?;
+        let units = spans(rt.alloc(), 510, 1028, Geometry { size: 512, per: 1 })?;
         let expected = [
             Span {
                 whole: false,

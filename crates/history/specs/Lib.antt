@@ -1,3 +1,4 @@
+pub mod Commands
 pub mod Contents
 pub mod Eras
 pub mod Log
@@ -6,4 +7,5 @@ pub mod Next
 pub mod Room
 pub mod Rules
 pub mod Setup
+pub mod Tasks
 pub mod Tokens

@@ -1,62 +1,37 @@
--- Which command comes next where no gate is held: the least outstanding token's unfinished unit of least byte (own profile).
-use Rattle.std.specs.Prelude.{ℕ, zero, suc, ◌+◌, Bool, true, false, not, if◌then◌else◌, List, Option, None, Some, is_none, find}
-use Rattle.disk_split.specs.declared.span.Span.{Span}
-use Rattle.disk_split.specs.Units.{units_of}
-use Rattle.history.specs.declared.entry.Kind.{Kind}
-use Rattle.history.specs.declared.entry.Kind.TheVariants.{Read, Write, Flush}
+-- Which command comes next where no group is held: that of the least outstanding token's unfinished unit of least byte (own profile).
+use Rattle.std.specs.Prelude.{ℕ, not, List, Option, None, Some, option_map, find}
 use Rattle.history.specs.declared.entry.Command.{Command}
-use Rattle.history.specs.declared.entry.Command.TheVariants.{Fetch, Store, Put, Get, Sync}
 use Rattle.history.specs.declared.entry.Entry.{Entry}
 use Rattle.history.specs.declared.entry.Entry.TheVariants.{Done, Fault}
-use Rattle.history.specs.Tokens.{Request, accepted, request, from_of, until_of}
-use Rattle.history.specs.Marks.{mark_of, is_moved, was_fetched}
-
--- the least of the n numbers from a on of which the test holds
-unfoldable pub first_from : (ℕ → Bool) → ℕ → ℕ → Option ℕ
-first_from test a zero = None
-first_from test a (suc n) = if test a then Some a else first_from test (a + 1) n
-
-abbrev pub is_open : ℕ → List Entry → ℕ → Bool
-is_open size H t = is_none (mark_of size H t)
+use Rattle.history.specs.Setup.{Setup}
+use Rattle.history.specs.Tokens.{Request, accepted, request}
+use Rattle.history.specs.Marks.{first_from, is_outstanding}
+use Rattle.history.specs.Tasks.{Task, tasks_of, is_finished, task_command}
 
 -- the least outstanding token
-unfoldable pub first_open : ℕ → List Entry → Option ℕ
-first_open size H = first_from (is_open size H) 0 (accepted H)
+unfoldable pub first_open : Setup → List Entry → Option ℕ
+first_open S H = first_from (is_outstanding S H) 0 (accepted H)
 
--- the first unit of the request whose bytes are not moved
-unfoldable pub next_span : ℕ → List Entry → ℕ → Request → Option Span
-next_span size H t r = find (λ u. not (is_moved size H t u.low)) (units_of size (from_of size r) (until_of size r))
-
--- the command of a unit: a part of a write is fetched and then stored
-abbrev pub span_command : List Entry → ℕ → Kind → Bool → ℕ → ℕ → Command
-span_command H t Read whole b n = Get b n
-span_command H t Write true b n = Put b n
-span_command H t Write false b n = if was_fetched H t b then Store b else Fetch b
-span_command H t Flush whole b n = Sync
+-- the first unit of the request that is not finished
+unfoldable pub next_task : Setup → List Entry → ℕ → Request → Option Task
+next_task S H t r = find (λ task. not (is_finished S H t task)) (tasks_of S r)
 
 -- a token and its command
 pub record Turn : Type 0 where
   pub token : ℕ
   pub command : Command
 
-abbrev pub turn_with : List Entry → ℕ → Kind → Option Span → Option Turn
-turn_with H t Flush span = Some (record { token = t; command = Sync })
-turn_with H t Read None = None
-turn_with H t Read (Some u) = Some (record { token = t; command = span_command H t Read u.whole u.block u.count })
-turn_with H t Write None = None
-turn_with H t Write (Some u) = Some (record { token = t; command = span_command H t Write u.whole u.block u.count })
+abbrev pub turn_of_request : Setup → List Entry → ℕ → Option Request → Option Turn
+turn_of_request S H t None = None
+turn_of_request S H t (Some r) = option_map (λ task. record { token = t; command = task_command H t r.asked.kind task }) (next_task S H t r)
 
-abbrev pub turn_of_request : ℕ → List Entry → ℕ → Option Request → Option Turn
-turn_of_request size H t None = None
-turn_of_request size H t (Some r) = turn_with H t r.asked.kind (next_span size H t r)
-
-abbrev pub turn_of_token : ℕ → List Entry → Option ℕ → Option Turn
-turn_of_token size H None = None
-turn_of_token size H (Some t) = turn_of_request size H t (request H t)
+abbrev pub turn_of_token : Setup → List Entry → Option ℕ → Option Turn
+turn_of_token S H None = None
+turn_of_token S H (Some t) = turn_of_request S H t (request H t)
 
 -- the command that comes next
-unfoldable pub next_turn : ℕ → List Entry → Option Turn
-next_turn size H = turn_of_token size H (first_open size H)
+unfoldable pub next_turn : Setup → List Entry → Option Turn
+next_turn S H = turn_of_token S H (first_open S H)
 
 -- how a command ended: done, or failed after so many blocks
 pub data Outcome : Type 0 where

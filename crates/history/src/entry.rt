@@ -20,6 +20,8 @@ pub enum Kind {
     Read,
     Write,
     Flush,
+    /// Makes whole blocks zero (own profile).
+    Erase,
 }
 
 /// Whether a request counts its place in bytes (Disk I/O) or in blocks (Block I/O).
@@ -29,7 +31,7 @@ pub enum UnitKind {
     Blocks,
 }
 
-/// What a request asks for. A flush has the unit bytes and zeros.
+/// What a request asks for. A flush has the unit bytes and zeros, and an erase the unit blocks.
 #[derive(Clone, Copy, Debug, PartialEq, Eq)]
 pub struct Asked {
     pub kind: Kind,
@@ -43,14 +45,16 @@ pub struct Asked {
 /// A command to the block device. A block is an LBA of the medium.
 #[derive(Clone, Copy, Debug, PartialEq, Eq)]
 pub enum Command {
-    /// Reads a block of which some bytes are to be written.
+    /// Reads a group, named by its first block, of which some bytes are to be changed.
     Fetch { block: u64 },
-    /// Writes such a block back with the bytes put in.
+    /// Writes such a group back with the bytes put in.
     Store { block: u64 },
     /// Writes 1 to 64 whole blocks.
     Put { block: u64, count: u32 },
     /// Reads 1 to 64 blocks.
     Get { block: u64, count: u32 },
+    /// Makes 1 to 64 whole blocks zero.
+    Wipe { block: u64, count: u32 },
     /// Flushes the device's cache.
     Sync,
 }
