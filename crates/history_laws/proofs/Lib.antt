@@ -1,3 +1,6 @@
 pub mod CountLemmas
 pub mod TokenLemmas
 pub mod EndLemmas
+pub mod ContentLemmas
+pub mod ScanLemmas
+pub mod UnitLemmas

@@ -1,0 +1,1 @@
+-- Each done command of a token is of one of its units.
