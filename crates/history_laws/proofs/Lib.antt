@@ -4,3 +4,5 @@ pub mod EndLemmas
 pub mod ContentLemmas
 pub mod ScanLemmas
 pub mod UnitLemmas
+pub mod TaskLemmas
+pub mod OwedLemmas
