@@ -6,3 +6,4 @@ pub mod ScanLemmas
 pub mod UnitLemmas
 pub mod TaskLemmas
 pub mod OwedLemmas
+pub mod RoomLemmas
