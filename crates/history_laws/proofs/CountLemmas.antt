@@ -39,6 +39,10 @@ pub accepted-same : (H : List Entry) (e : Entry) → is_accept e ≡ false → a
 unfolding accepted
 accepted-same H e is = count-same is_accept e H is
 
+pub ejects-none : ejects [] ≡ 0
+unfolding ejects
+ejects-none = refl
+
 pub ejects-more : (H : List Entry) (e : Entry) → is_eject e ≡ true → ejects (e ∷ H) ≡ ejects H + 1
 unfolding ejects
 ejects-more H e is = count-more is_eject e H is
@@ -46,6 +50,10 @@ ejects-more H e is = count-more is_eject e H is
 pub ejects-same : (H : List Entry) (e : Entry) → is_eject e ≡ false → ejects (e ∷ H) ≡ ejects H
 unfolding ejects
 ejects-same H e is = count-same is_eject e H is
+
+pub inserts-none : inserts [] ≡ 0
+unfolding inserts
+inserts-none = refl
 
 pub inserts-more : (H : List Entry) (e : Entry) → is_insert e ≡ true → inserts (e ∷ H) ≡ inserts H + 1
 unfolding inserts

@@ -7,3 +7,4 @@ pub mod UnitLemmas
 pub mod TaskLemmas
 pub mod OwedLemmas
 pub mod RoomLemmas
+pub mod SpareLemmas
