@@ -8,3 +8,5 @@ pub mod TaskLemmas
 pub mod OwedLemmas
 pub mod RoomLemmas
 pub mod SpareLemmas
+pub mod PieceLemmas
+pub mod NextLemmas
