@@ -83,7 +83,8 @@ unconcerned S H (Eject tag) t may unnamed unmarked past = le-ltb t (accepted H) 
 unconcerned S H (Insert tag media_id) t may unnamed unmarked past = refl
 unconcerned S H (Protect tag on) t may unnamed unmarked past = and_right on (is_some_change (request H t)) (ap is_some_change unnamed)
 
-accepted-rises : (H : List Entry) (e : Entry) → accepted H ≤ accepted (e ∷ H)
+-- tokens stay accepted
+pub accepted-rises : (H : List Entry) (e : Entry) → accepted H ≤ accepted (e ∷ H)
 accepted-rises H (Accept a b c d) = omega (arith, accepted-more H (Accept a b c d) refl)
 accepted-rises H (Refuse a b c d e) = omega (arith, accepted-same H (Refuse a b c d e) refl)
 accepted-rises H (Done a b) = omega (arith, accepted-same H (Done a b) refl)

@@ -10,3 +10,5 @@ pub mod RoomLemmas
 pub mod SpareLemmas
 pub mod PieceLemmas
 pub mod NextLemmas
+pub mod HolderLemmas
+pub mod MediaLemmas

@@ -43,7 +43,7 @@ run-command S r b n c is run block count kind =
     )
 
 -- one of the commands passes the test
-find-command : (S : Setup) (r : Request) (test : Command → Bool) (cs : List Command) → AreTaskCommands S r cs → list_any test cs ≡ true → (c : Command) × (test c ≡ true) × IsTaskCommand S r c
+pub find-command : (S : Setup) (r : Request) (test : Command → Bool) (cs : List Command) → AreTaskCommands S r cs → list_any test cs ≡ true → (c : Command) × (test c ≡ true) × IsTaskCommand S r c
 unfolding AreTaskCommands
 find-command S r test [] all some = cc
 find-command S r test (c ∷ cs) (one, others) some = elim (or_cases (test c) (list_any test cs) some) [

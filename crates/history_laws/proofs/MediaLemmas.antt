@@ -1,0 +1,1 @@
+-- Which medium an open token is of, and which range it has there.
