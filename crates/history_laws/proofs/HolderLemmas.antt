@@ -181,7 +181,8 @@ still-open S H t c r legal named moving none open_ =
     let before : all_from (is_moved S H t) (from_of S r) r.asked.length ≡ false = sym (complete-moved S H t r named moving) ∙ open-incomplete S H t legal open_.token open_.unmarked in
     mark-done S H t c open_.unmarked ∙ ap (λ whole. status_if whole Success) (after ∙ (same ∙ before))
 
-changes-moving : (kind : Kind) → changes_bytes kind ≡ true → is_flush kind ≡ false
+-- a request that changes bytes is no flush
+pub changes-moving : (kind : Kind) → changes_bytes kind ≡ true → is_flush kind ≡ false
 changes-moving Read changes = cc
 changes-moving Write changes = refl
 changes-moving Flush changes = cc

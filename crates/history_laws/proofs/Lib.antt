@@ -12,3 +12,5 @@ pub mod PieceLemmas
 pub mod NextLemmas
 pub mod HolderLemmas
 pub mod MediaLemmas
+pub mod RangeLemmas
+pub mod GateLemmas

@@ -1,0 +1,1 @@
+-- What a held group has, and what it keeps.
