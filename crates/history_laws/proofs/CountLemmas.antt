@@ -63,6 +63,10 @@ pub inserts-same : (H : List Entry) (e : Entry) → is_insert e ≡ false → in
 unfolding inserts
 inserts-same H e is = count-same is_insert e H is
 
+pub commands-none : commands [] ≡ 0
+unfolding commands
+commands-none = refl
+
 pub commands-more : (H : List Entry) (e : Entry) → is_command e ≡ true → commands (e ∷ H) ≡ commands H + 1
 unfolding commands
 commands-more H e is = count-more is_command e H is

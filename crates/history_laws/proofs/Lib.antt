@@ -14,3 +14,6 @@ pub mod HolderLemmas
 pub mod MediaLemmas
 pub mod RangeLemmas
 pub mod GateLemmas
+pub mod EraLemmas
+pub mod LengthLemmas
+pub mod RunnableLemmas

@@ -2,3 +2,4 @@ pub mod Told
 pub mod Units
 pub mod Ranges
 pub mod Gates
+pub mod Turns
