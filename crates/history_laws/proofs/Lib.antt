@@ -17,3 +17,4 @@ pub mod GateLemmas
 pub mod EraLemmas
 pub mod LengthLemmas
 pub mod RunnableLemmas
+pub mod Worked
