@@ -10,11 +10,12 @@ use Rattle.history.specs.declared.entry.Command.{Command}
 use Rattle.history.specs.declared.entry.Entry.{Entry}
 use Rattle.history.specs.declared.entry.Entry.TheVariants.{Accept, Refuse, Done, Fault, Collect, Cancel, Reset, Eject, Insert, Protect}
 use Rattle.history.specs.Setup.{Setup, first_of}
-use Rattle.history.specs.Eras.{is_command, is_fault, is_insert, inserts, media_id_of, is_present, is_protected, era_count}
+use Rattle.history.specs.Eras.{is_command, is_fault, is_insert, inserts, media_id_of, is_present, is_protected, era_count, era_commands, era_faults}
 use Rattle.history.specs.Tokens.{Request, is_accept, accepted, request}
 use Rattle.history.specs.Contents.{piece_of, pieces_of, patch_all, contents, flushed_contents, kept_contents}
 use Rattle.history.specs.Marks.{mark_of, ending, status_if, or_else, has_view, is_some_change, is_outstanding}
 use Rattle.history.specs.Rules.{MayCommand, MayFollow, IsLegal}
+use Rattle.history_laws.specs.Eras.{IsOut}
 use Rattle.history_laws.proofs.CountLemmas.{accepted-same, inserts-more, inserts-same}
 use Rattle.history_laws.proofs.EndLemmas.{command-open, open-request}
 use Rattle.history_laws.proofs.ContentLemmas.{is_flush_entry, contents-same, contents-other, piece-none, flushed-other, kept-same, kept-other}
@@ -47,6 +48,10 @@ outstanding-cancel S H tag view t = outstanding-next S H (Cancel tag view) t ref
 pub outstanding-protect : (S : Setup) (H : List Entry) (tag : ℕ) (on : Bool) (t : ℕ) → is_outstanding S (Protect tag on ∷ H) t ≡ (is_outstanding S H t && not (on && is_some_change (request H t)))
 unfolding ending
 outstanding-protect S H tag on t = outstanding-next S H (Protect tag on) t refl ∙ ap (λ b. is_outstanding S H t && b) (none-if (on && is_some_change (request H t)) WriteProtected)
+
+-- turning it on
+pub outstanding-protect-on : (S : Setup) (H : List Entry) (tag t : ℕ) → is_outstanding S (Protect tag true ∷ H) t ≡ (is_outstanding S H t && not (is_some_change (request H t)))
+outstanding-protect-on S H tag t = outstanding-protect S H tag true t
 
 and-not : (p q : Bool) → ((p && q) && not p) ≡ false
 and-not true true = refl
@@ -138,10 +143,6 @@ fault-is-command : (e : Entry) → is_command e ≡ false → is_fault e ≡ fal
 fault-is-command (Fault u c done) isnt = cc
 fault-is-command e isnt = refl
 
--- medium k is out: the drive is in another era, or has no medium
-abbrev pub IsOut : List Entry → ℕ → Type 0
-IsOut H k = (media_id_of H ≢ k) ⊎ (is_present H ≡ false)
-
 -- a medium that is out keeps what it holds
 pub out-contents : (S : Setup) (k : ℕ) (H : List Entry) (e : Entry) → IsLegal S H → MayFollow S H e → IsOut H k → contents S k (e ∷ H) ≡ contents S k H
 out-contents S k H e legal may (inl out) = contents-other S k H e out
@@ -189,6 +190,10 @@ later-kept S k H later = by S.cached
     by true = later-flushed S k H later
     by false = later-contents S k H later
 
+-- both are its opening bytes
+pub later-first : (S : Setup) (k : ℕ) (H : List Entry) → media_id_of H < k → (contents S k H ≡ first_of S k) × (kept_contents S k H ≡ first_of S k)
+later-first S k H later = (later-contents S k H later, later-kept S k H later)
+
 -- an entry of another era does not count
 pub era_count-other : (test : Entry → Bool) (k : ℕ) (H : List Entry) (e : Entry) → media_id_of H ≢ k → era_count test k (e ∷ H) ≡ era_count test k H
 unfolding era_count
@@ -232,3 +237,8 @@ later-count test k [] later = refl
 later-count test k (e ∷ H) later =
     let before : media_id_of H < k = omega (arith, later, media-id-rises H e) in
     rw (ne_eqb (media_id_of H) k (λ same. absurd (omega (arith, same, before)))) (later-count test k H before)
+
+-- a medium that is out stays as it is
+pub out-stays : (S : Setup) (k : ℕ) (H : List Entry) (e : Entry) → IsLegal S H → MayFollow S H e → IsOut H k
+    → (contents S k (e ∷ H) ≡ contents S k H) × (kept_contents S k (e ∷ H) ≡ kept_contents S k H) × (era_commands k (e ∷ H) ≡ era_commands k H) × (era_faults k (e ∷ H) ≡ era_faults k H)
+out-stays S k H e legal may out = (out-contents S k H e legal may out, out-kept S k H e legal may out, out-commands S k H e legal may out, out-faults S k H e legal may out)

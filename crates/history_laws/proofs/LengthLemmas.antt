@@ -82,3 +82,7 @@ inserts-after-ejects S (e ∷ H) (legal, may) = omega (arith, inserts-after-ejec
 -- so it has fewer insertions than entries
 pub inserts-fewer : (S : Setup) (H : List Entry) → IsLegal S H → 0 < length H → inserts H < length H
 inserts-fewer S H legal some = omega (arith, counts-together H, inserts-after-ejects S H legal)
+
+-- both
+pub both-fewer : (S : Setup) (H : List Entry) → IsLegal S H → 0 < length H → (commands H < length H) × (inserts H < length H)
+both-fewer S H legal some = (commands-fewer S H legal some, inserts-fewer S H legal some)
