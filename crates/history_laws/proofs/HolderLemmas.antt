@@ -53,7 +53,8 @@ holds-start S H t b is legal holds =
     let (part, changes) = fetched-part S H t b r is legal named holds.fetched in
     group-start-part S.geometry (from_of S r) (until_of S r) b is.geometry part
 
-fetch-is : (b : ℕ) (c : Command) → is_at is_fetch b c ≡ true → c ≡ Fetch b
+-- a fetch of this group
+pub fetch-is : (b : ℕ) (c : Command) → is_at is_fetch b c ≡ true → c ≡ Fetch b
 fetch-is b (Fetch d) at = ap Fetch (eqb-true d b at)
 fetch-is b (Store d) at = cc
 fetch-is b (Put d n) at = cc
@@ -102,7 +103,7 @@ holds-before S H e t b legal holds =
     })
 
 -- a group that is fetched was held by no token
-fetch-unheld : (S : Setup) (H : List Entry) (t u b : ℕ) → IsSetup S → MayCommand S H t (Fetch b) → Holds S H u b → ⊥
+pub fetch-unheld : (S : Setup) (H : List Entry) (t u b : ℕ) → IsSetup S → MayCommand S H t (Fetch b) → Holds S H u b → ⊥
 unfolding MayCommand
 fetch-unheld S H t u b is (r, may) holds = may.free u (rw (group-start-part S.geometry (from_of S r) (until_of S r) b is.geometry may.part) holds)
 

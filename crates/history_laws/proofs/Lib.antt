@@ -17,4 +17,8 @@ pub mod GateLemmas
 pub mod EraLemmas
 pub mod LengthLemmas
 pub mod RunnableLemmas
+pub mod PendingLemmas
+pub mod FinishLemmas
+pub mod MayLemmas
+pub mod TicketLemmas
 pub mod Worked

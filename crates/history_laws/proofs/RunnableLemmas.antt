@@ -66,7 +66,7 @@ first_from-last test a (suc n) = elim (cases_Bool (test a)) [
 ]
 
 -- what the first n tokens have in both words
-abbrev Agrees : Setup → List Entry → (Todo → Bool) → Option ℕ → Option Todo → Type 0
+abbrev pub Agrees : Setup → List Entry → (Todo → Bool) → Option ℕ → Option Todo → Type 0
 Agrees S H test first todo = ((first ≡ None) × (todo ≡ None)) ⊎ ((t : ℕ) × (d : Todo) × (first ≡ Some t) × (todo ≡ Some d) × (turn_of_token S H (Some t) ≡ Some (turn_of_todo H d)))
 
 todo-closed : (S : Setup) (H : List Entry) (t : ℕ) → is_outstanding S H t ≡ false → todo_of S H t ≡ []
@@ -81,7 +81,7 @@ todo-open S H t r task test all open_ named next =
     (find-filtered (λ other. not (is_finished S H t other)) (λ other. record { token = t; kind = r.asked.kind; task = other }) test (tasks_of S r) all
     ∙ ap (option_map (λ other. record { token = t; kind = r.asked.kind; task = other })) next)
 
-agrees-before : (S : Setup) (H : List Entry) (test : Todo → Bool) (n : ℕ) → IsSetup S → IsLegal S H → ((d : Todo) → test d ≡ true) → Agrees S H test (first_from (is_outstanding S H) 0 n) (find test (todo_before S H n))
+pub agrees-before : (S : Setup) (H : List Entry) (test : Todo → Bool) (n : ℕ) → IsSetup S → IsLegal S H → ((d : Todo) → test d ≡ true) → Agrees S H test (first_from (is_outstanding S H) 0 n) (find test (todo_before S H n))
 unfolding todo_before first_from
 agrees-before S H test zero is legal all = inl (refl, refl)
 agrees-before S H test (suc n) is legal all =

@@ -1,8 +1,9 @@
 -- When a unit is finished, and that a token is complete exactly where all its units are.
-use Rattle.std.proofs.Common.{◌≡◌, ◌≢◌, ◌⊎◌, ℕ, ◌+◌, ◌-◌, ◌<◌, ◌≤◌, inl, inr, Bool, true, false, ◌&&◌, ◌||◌, if◌then◌else◌, List, [], ◌∷◌, slice_get, map, Option, None, Some, refl, sym, ◌∙◌, ap, arith}
+use Rattle.std.proofs.Common.{◌≡◌, ◌≢◌, ◌⊎◌, ℕ, zero, suc, ◌+◌, ◌-◌, ◌<◌, ◌≤◌, inl, inr, Bool, true, false, ◌&&◌, ◌||◌, if◌then◌else◌, List, [], ◌∷◌, slice_get, map, Option, None, Some, option_map, refl, sym, ◌∙◌, ap, arith}
 use Rattle.std.specs.List.{list_all, list_any}
 use Rattle.std.proofs.lemmas.Bool.{cases_Bool, cases_eq, and_from, and_right, or_left, eq-eqb, both_ways, le-ltb, lt-leb, le-leb, lt-ltb}
 use Rattle.std.proofs.lemmas.List.Folds.{list_all-map}
+use Rattle.std.proofs.lemmas.Option.{slice_get-map}
 use Rattle.efi_status.specs.declared.Status.{Status}
 use Rattle.efi_status.specs.declared.Status.TheVariants.{Success}
 use Rattle.disk_split.specs.declared.span.Span.{Span}
@@ -127,3 +128,40 @@ open-incomplete S (Done u c ∷ H) t (legal, may) token unmarked = elim (cases_e
 open-incomplete S (e ∷ H) t (legal, may) token unmarked =
     let below : t < accepted H = omega (arith, accepted-same H e refl) in
     complete-kept S H e t refl (λ same. absurd (omega (arith, same, below))) ∙ open-incomplete S H t legal below (mark-before S H e t unmarked)
+
+flush-one : (u : Span) (k : ℕ) → slice_get (Syncs ∷ []) k ≡ Some (Moves u) → ⊥
+flush-one u zero e = cc
+flush-one u (suc k) e = cc
+
+-- a part or a run of a request's list is a unit of its range
+pub task-unit : (S : Setup) (r : Request) (k : ℕ) (u : Span) → IsSetup S → slice_get (tasks_of S r) k ≡ Some (Moves u) → IsUnit S.geometry (from_of S r) (until_of S r) u
+task-unit S r k u is there = elim (cases_Bool (is_flush r.asked.kind)) [
+  | inl flush ↦ absurd (flush-one u k (rw flush at there))
+  | inr moving ↦
+      let listed : option_map Moves (slice_get (units_of S.geometry (from_of S r) (until_of S r)) k) ≡ Some (Moves u) =
+      sym (slice_get-map Moves (units_of S.geometry (from_of S r) (until_of S r)) k) ∙ rw moving at there in
+      unit-of S r k u is (by (slice_get (units_of S.geometry (from_of S r) (until_of S r)) k) listed)
+]
+  where
+    by : (o : Option Span) → option_map Moves o ≡ Some (Moves u) → o ≡ Some u
+    by None e = cc
+    by (Some v) e = cc
+
+-- and its request no flush
+pub task-moving : (S : Setup) (r : Request) (k : ℕ) (u : Span) → slice_get (tasks_of S r) k ≡ Some (Moves u) → is_flush r.asked.kind ≡ false
+task-moving S r k u there = elim (cases_Bool (is_flush r.asked.kind)) [
+  | inr moving ↦ moving
+  | inl flush ↦ absurd (flush-one u k (rw flush at there))
+]
+
+-- a sync is the unit of a flush
+pub task-sync : (S : Setup) (r : Request) (k : ℕ) → slice_get (tasks_of S r) k ≡ Some Syncs → is_flush r.asked.kind ≡ true
+task-sync S r k there = elim (cases_Bool (is_flush r.asked.kind)) [
+  | inl flush ↦ flush
+  | inr moving ↦
+      absurd (by (slice_get (units_of S.geometry (from_of S r) (until_of S r)) k) (sym (slice_get-map Moves (units_of S.geometry (from_of S r) (until_of S r)) k) ∙ rw moving at there))
+]
+  where
+    by : (o : Option Span) → option_map Moves o ≡ Some Syncs → ⊥
+    by None e = cc
+    by (Some v) e = cc

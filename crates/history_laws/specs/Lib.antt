@@ -5,3 +5,4 @@ pub mod Ranges
 pub mod Gates
 pub mod Eras
 pub mod Turns
+pub mod Pending
