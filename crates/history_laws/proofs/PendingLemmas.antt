@@ -115,12 +115,12 @@ pub record IsPending (S : Setup) (H : List Entry) (todo : Todo) (r : Request) : 
   pub listed : slice_get (tasks_of S r) place ≡ Some todo.task
   pub unfinished : is_finished S H todo.token todo.task ≡ false
 
-get-mapped : {X Y : Type 0} (f : X → Y) (xs : List X) (k : ℕ) (y : Y) → slice_get (map f xs) k ≡ Some y → (x : X) × (slice_get xs k ≡ Some x) × (f x ≡ y)
+pub get-mapped : {X Y : Type 0} (f : X → Y) (xs : List X) (k : ℕ) (y : Y) → slice_get (map f xs) k ≡ Some y → (x : X) × (slice_get xs k ≡ Some x) × (f x ≡ y)
 get-mapped f [] k y there = cc
 get-mapped f (x ∷ xs) zero y there = (x, refl, (let e : Some (f x) ≡ Some y = there in cc))
 get-mapped f (x ∷ xs) (suc k) y there = get-mapped f xs k y there
 
-get-filtered : {X : Type 0} (keep : X → Bool) (xs : List X) (k : ℕ) (x : X) → slice_get (filter keep xs) k ≡ Some x → (j : ℕ) × (slice_get xs j ≡ Some x) × (keep x ≡ true)
+pub get-filtered : {X : Type 0} (keep : X → Bool) (xs : List X) (k : ℕ) (x : X) → slice_get (filter keep xs) k ≡ Some x → (j : ℕ) × (slice_get xs j ≡ Some x) × (keep x ≡ true)
 get-filtered keep [] k x there = cc
 get-filtered {X} keep (y ∷ xs) k x there = elim (cases_Bool (keep y)) [
   | inr dropped ↦ let (j, at, kept) = get-filtered keep xs k x (rw dropped at there) in (suc j, at, kept)
@@ -132,13 +132,13 @@ get-filtered {X} keep (y ∷ xs) k x there = elim (cases_Bool (keep y)) [
     first zero there kept rest = let same : y ≡ x = cc in (0, there, rw (← same) kept)
     first (suc k) there kept rest = let (j, at, passes) = rest k there in (suc j, at, passes)
 
-get-appended : {X : Type 0} (xs ys : List X) (k : ℕ) (x : X) → slice_get (xs ++ ys) k ≡ Some x → (slice_get xs k ≡ Some x) ⊎ ((j : ℕ) × (slice_get ys j ≡ Some x))
+pub get-appended : {X : Type 0} (xs ys : List X) (k : ℕ) (x : X) → slice_get (xs ++ ys) k ≡ Some x → (slice_get xs k ≡ Some x) ⊎ ((j : ℕ) × (slice_get ys j ≡ Some x))
 get-appended [] ys k x there = inr (k, there)
 get-appended (y ∷ xs) ys zero x there = inl there
 get-appended (y ∷ xs) ys (suc k) x there = get-appended xs ys k x there
 
 -- a unit that is left of a token
-todo-is : (S : Setup) (H : List Entry) (t k : ℕ) (todo : Todo) → slice_get (todo_of S H t) k ≡ Some todo → (todo.token ≡ t) × ((r : Request) × IsPending S H todo r)
+pub todo-is : (S : Setup) (H : List Entry) (t k : ℕ) (todo : Todo) → slice_get (todo_of S H t) k ≡ Some todo → (todo.token ≡ t) × ((r : Request) × IsPending S H todo r)
 todo-is S H t k todo there = by (cases_Bool (is_outstanding S H t))
   where
     by : (is_outstanding S H t ≡ true) ⊎ (is_outstanding S H t ≡ false) → (todo.token ≡ t) × ((r : Request) × IsPending S H todo r)
