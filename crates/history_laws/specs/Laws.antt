@@ -1,25 +1,28 @@
 -- The laws of a history (own profile).
-use Rattle.std.specs.Prelude.{◌≡◌, ℕ, ◌+◌, ◌*◌, ◌<◌, ◌≤◌, Bool, true, false, not, ◌&&◌, List, ◌∷◌, length, Option, None, Some, option_map}
+use Rattle.std.specs.Prelude.{◌≡◌, ℕ, ◌+◌, ◌*◌, ◌<◌, ◌≤◌, Bool, true, false, not, ◌&&◌, List, ◌∷◌, length, Option, None, Some, option_map, ◌++◌, ◌⊎◌, filter}
 use Rattle.std.specs.List.{list_all}
 use Rattle.efi_status.specs.declared.Status.{Status}
 use Rattle.disk_split.specs.declared.span.Span.{Span}
 use Rattle.disk_split.specs.Units.{IsUnit, group_start}
 use Rattle.history.specs.declared.entry.View.{View}
+use Rattle.history.specs.declared.entry.Asked.{Asked}
 use Rattle.history.specs.declared.entry.Command.{Command}
+use Rattle.history.specs.declared.entry.Command.TheVariants.{Fetch}
 use Rattle.history.specs.declared.entry.Entry.{Entry}
-use Rattle.history.specs.declared.entry.Entry.TheVariants.{Done, Fault, Collect, Cancel, Reset, Eject, Insert, Protect}
+use Rattle.history.specs.declared.entry.Entry.TheVariants.{Accept, Done, Fault, Collect, Cancel, Reset, Eject, Insert, Protect}
 use Rattle.history.specs.Setup.{Setup, IsSetup, size_of, per_of, first_of}
 use Rattle.history.specs.Eras.{ejects, inserts, media_id_of, era_commands, era_faults}
 use Rattle.history.specs.Tokens.{Request, is_accept, accepted, request, from_of, until_of}
-use Rattle.history.specs.Commands.{done_commands, is_moved}
+use Rattle.history.specs.Commands.{is_transfer, done_commands, is_moved}
 use Rattle.history.specs.Contents.{pieces_of, contents, kept_contents, byte_at, bytes_read}
-use Rattle.history.specs.Marks.{mark_of, has_view, is_some_change, is_outstanding, is_complete, is_held, Holds}
+use Rattle.history.specs.Marks.{mark_of, has_view, is_some_change, is_outstanding, is_complete, is_held, fetches, Holds, HoldsBy}
 use Rattle.history.specs.Rules.{MayCommand, MayFollow, IsLegal}
-use Rattle.history.specs.Tasks.{tasks_of, is_finished, first_runnable}
+use Rattle.history.specs.Tasks.{tasks_of, is_finished, Todo, pending, first_runnable, task_command}
 use Rattle.history.specs.Next.{next_turn}
 use Rattle.history.specs.Room.{commands, AreFewCommands, owed_entries}
 use Rattle.history_laws.specs.Told.{told, IsUntold, concerns}
-use Rattle.history_laws.specs.Units.{AreTaskCommands}
+use Rattle.history_laws.specs.Units.{IsUnitCommand, AreTaskCommands}
+use Rattle.history_laws.specs.Pending.{is_todo, todos_of, is_todo_of, IsBefore, Ordered}
 use Rattle.history_laws.specs.Ranges.{AreInViews, AreToldWhole}
 use Rattle.history_laws.specs.Gates.{is_store_of}
 use Rattle.history_laws.specs.Eras.{IsOut}
@@ -140,3 +143,35 @@ CommandsAreFewer = (S : Setup) (H : List Entry) → IsLegal S H → 0 < length H
 -- the command that comes next is that of the first runnable unit, where no block is held and a buffer set is free
 abbrev pub NextIsRunnable : Type 0
 NextIsRunnable = (S : Setup) (H : List Entry) (held : ℕ → Bool) → IsSetup S → IsLegal S H → ((b : ℕ) → held b ≡ false) → next_turn S H ≡ option_map (turn_of_todo H) (first_runnable held true S H)
+
+-- an entry that is no accept leaves those units that are still to do
+abbrev pub KeepsTodo : Type 0
+KeepsTodo = (S : Setup) (H : List Entry) (e : Entry) → is_accept e ≡ false → pending S (e ∷ H) ≡ filter (is_todo S (e ∷ H)) (pending S H)
+
+-- an accept adds the units of its request at the end
+abbrev pub AddsUnits : Type 0
+AddsUnits =
+    (S : Setup) (H : List Entry) (tag : ℕ) (view : View) (asked : Asked) (bytes : List ℕ) → IsSetup S → IsLegal S (Accept tag view asked bytes ∷ H)
+    → pending S (Accept tag view asked bytes ∷ H) ≡ pending S H ++ todos_of S (accepted H) (record { tag = tag; view = view; asked = asked; bytes = bytes })
+
+-- a done command that finishes a unit takes that unit away, and no other
+abbrev pub TakesUnit : Type 0
+TakesUnit =
+    (S : Setup) (H : List Entry) (t : ℕ) (c : Command) (r : Request) (u : Span) → IsSetup S → IsLegal S (Done t c ∷ H) → request H t ≡ Some r → IsUnitCommand S r c u → is_transfer c ≡ true
+    → pending S (Done t c ∷ H) ≡ filter (λ todo. not (is_todo_of t u todo)) (pending S H)
+
+-- the units that are left stand in the order of their tokens, and those of one token in the order of their bytes
+abbrev pub StandInOrder : Type 0
+StandInOrder = (S : Setup) (H : List Entry) → IsSetup S → Ordered IsBefore (pending S H)
+
+-- the command of the first runnable unit may be made
+abbrev pub RunnableMay : Type 0
+RunnableMay = (S : Setup) (H : List Entry) (free : Bool) (todo : Todo) → IsSetup S → IsLegal S H → first_runnable (is_held S H) free S H ≡ Some todo → MayCommand S H todo.token (task_command H todo.token todo.kind todo.task)
+
+-- one fetch has one ticket
+abbrev pub HasOneTicket : Type 0
+HasOneTicket = (S : Setup) (H : List Entry) (t u b c k : ℕ) → HoldsBy S H t b k → HoldsBy S H u c k → (t ≡ u) × (b ≡ c)
+
+-- a holder held before by the same ticket, or has just fetched the group
+abbrev pub HeldBefore : Type 0
+HeldBefore = (S : Setup) (H : List Entry) (e : Entry) (t b k : ℕ) → IsSetup S → IsLegal S (e ∷ H) → HoldsBy S (e ∷ H) t b k → HoldsBy S H t b k ⊎ ((e ≡ Done t (Fetch b)) × (k ≡ fetches H))

@@ -1,4 +1,4 @@
-ghost use Rattle.history_laws.specs.Laws.{AreOfUnits, MoveTogether, CompletesWhereFinished, OpenIsIncomplete, HasOneHolder, HeldHasHolder, HolderHolds, NextIsRunnable};
+ghost use Rattle.history_laws.specs.Laws.{AreOfUnits, MoveTogether, CompletesWhereFinished, OpenIsIncomplete, HasOneHolder, HeldHasHolder, HolderHolds, HasOneTicket, HeldBefore, NextIsRunnable, RunnableMay, KeepsTodo, AddsUnits, TakesUnit, StandInOrder};
 
 /// A token's done commands are of its units, a unit's bytes are moved together, and a token is complete where its units
 /// are finished. It does nothing else than to carry these laws.
@@ -17,8 +17,24 @@ pub fn groups_have_one_holder()
     ensures held { HolderHolds }
 {}
 
-/// The command that comes next is that of the first runnable unit, where no block is held and a buffer set is free. It
-/// does nothing else than to carry this law.
+/// One fetch has one ticket, and a holder holds by the ticket of its fetch. It does nothing else than to carry these laws.
+pub fn fetches_have_tickets()
+    ensures one { HasOneTicket }
+    ensures before { HeldBefore }
+{}
+
+/// The command of the first runnable unit may be made, and it is the one that comes next, where no block is held and a
+/// buffer set is free. It does nothing else than to carry these laws.
 pub fn next_is_runnable()
-    ensures { NextIsRunnable }
+    ensures may { RunnableMay }
+    ensures next { NextIsRunnable }
+{}
+
+/// Which units are left after an entry, in the order of their tokens and bytes. It does nothing else than to carry these
+/// laws.
+pub fn units_are_left()
+    ensures keeps { KeepsTodo }
+    ensures adds { AddsUnits }
+    ensures takes { TakesUnit }
+    ensures order { StandInOrder }
 {}
