@@ -4,7 +4,7 @@ use Rattle.std.proofs.lemmas.Bool.{eq-eqb, ne_eqb, and_right}
 use Rattle.byte_lists.specs.Patching.{patch}
 use Rattle.history.specs.declared.entry.Command.{Command}
 use Rattle.history.specs.declared.entry.Entry.{Entry}
-use Rattle.history.specs.declared.entry.Entry.TheVariants.{Accept, Refuse, Done, Fault, Collect, Cancel, Reset, Eject, Insert, Protect}
+use Rattle.history.specs.declared.entry.Entry.TheVariants.{Done, Fault}
 use Rattle.history.specs.Setup.{Setup, first_of}
 use Rattle.history.specs.Eras.{is_command, media_id_of}
 use Rattle.history.specs.Commands.{is_change, is_sync}
@@ -41,16 +41,9 @@ contents-other S k H e out = rw (ne_eqb (media_id_of H) k out)
 -- an entry that is no command gives no piece
 pub piece-none : (S : Setup) (H : List Entry) (e : Entry) → is_command e ≡ false → piece_of S H e ≡ None
 unfolding piece_of
-piece-none S H (Accept a b c d) isnt = refl
-piece-none S H (Refuse a b c d e) isnt = refl
 piece-none S H (Done a b) isnt = cc
 piece-none S H (Fault a b c) isnt = cc
-piece-none S H (Collect a b) isnt = refl
-piece-none S H (Cancel a b) isnt = refl
-piece-none S H (Reset a) isnt = refl
-piece-none S H (Eject a) isnt = refl
-piece-none S H (Insert a b) isnt = refl
-piece-none S H (Protect a b) isnt = refl
+piece-none S H e isnt = refl
 
 -- nor does a command that changes no bytes
 pub piece-unchanged : (S : Setup) (H : List Entry) (t : ℕ) (c : Command) → is_change c ≡ false → piece_of S H (Done t c) ≡ None
@@ -69,15 +62,7 @@ is_flush_entry e = false
 pub flushed-same : (S : Setup) (k : ℕ) (H : List Entry) (e : Entry) → is_flush_entry e ≡ false → flushed_contents S k (e ∷ H) ≡ flushed_contents S k H
 unfolding flushed_contents
 flushed-same S k H (Done a b) isnt = rw isnt
-flushed-same S k H (Accept a b c d) isnt = refl
-flushed-same S k H (Refuse a b c d e) isnt = refl
-flushed-same S k H (Fault a b c) isnt = refl
-flushed-same S k H (Collect a b) isnt = refl
-flushed-same S k H (Cancel a b) isnt = refl
-flushed-same S k H (Reset a) isnt = refl
-flushed-same S k H (Eject a) isnt = refl
-flushed-same S k H (Insert a b) isnt = refl
-flushed-same S k H (Protect a b) isnt = refl
+flushed-same S k H e isnt = refl
 
 -- a flush keeps what its medium holds
 pub flushed-sync : (S : Setup) (k : ℕ) (H : List Entry) (t : ℕ) (c : Command) → is_sync c ≡ true → media_id_of H ≡ k → flushed_contents S k (Done t c ∷ H) ≡ contents S k H
@@ -88,15 +73,7 @@ flushed-sync S k H t c is in_ = rw (is, eq-eqb (media_id_of H) k in_)
 pub flushed-other : (S : Setup) (k : ℕ) (H : List Entry) (e : Entry) → media_id_of H ≢ k → flushed_contents S k (e ∷ H) ≡ flushed_contents S k H
 unfolding flushed_contents
 flushed-other S k H (Done a b) out = rw (and_right (is_sync b) (nat_eq (media_id_of H) k) (ne_eqb (media_id_of H) k out))
-flushed-other S k H (Accept a b c d) out = refl
-flushed-other S k H (Refuse a b c d e) out = refl
-flushed-other S k H (Fault a b c) out = refl
-flushed-other S k H (Collect a b) out = refl
-flushed-other S k H (Cancel a b) out = refl
-flushed-other S k H (Reset a) out = refl
-flushed-other S k H (Eject a) out = refl
-flushed-other S k H (Insert a b) out = refl
-flushed-other S k H (Protect a b) out = refl
+flushed-other S k H e out = refl
 
 -- what is kept of a medium after an entry that is no done flush: the same with a cache, what it holds without one
 pub kept-more : (S : Setup) (k : ℕ) (H : List Entry) (e : Entry) → is_flush_entry e ≡ false

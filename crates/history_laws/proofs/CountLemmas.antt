@@ -1,9 +1,9 @@
 -- How each entry changes what is counted.
 use Rattle.std.proofs.Common.{◌≡◌, ℕ, ◌+◌, ◌≤◌, Bool, true, false, if◌then◌else◌, List, [], ◌∷◌, length, refl, arith}
-use Rattle.std.specs.List.{count_by, sum_by}
+use Rattle.std.specs.List.{count_by}
 use Rattle.std.proofs.lemmas.List.Sums.{sum_by-cons, sum_by-le-sum_by, count_by-le-length}
 use Rattle.history.specs.declared.entry.Entry.{Entry}
-use Rattle.history.specs.declared.entry.Entry.TheVariants.{Accept, Refuse, Done, Fault, Collect, Cancel, Reset, Eject, Insert, Protect}
+use Rattle.history.specs.declared.entry.Entry.TheVariants.{Done, Fault}
 use Rattle.history.specs.Tokens.{is_accept, accepted}
 use Rattle.history.specs.Eras.{is_eject, is_insert, is_command, is_fault, ejects, inserts}
 use Rattle.history.specs.Marks.{is_fetch_entry, fetches}
@@ -112,11 +112,4 @@ faults-few H = count-less is_fault is_command H by
     by : (e : Entry) → is_fault e ≡ true → is_command e ≡ true
     by (Fault t c done) is = refl
     by (Done t c) is = refl
-    by (Accept a b c d) is = cc
-    by (Refuse a b c d f) is = cc
-    by (Collect a b) is = cc
-    by (Cancel a b) is = cc
-    by (Reset a) is = cc
-    by (Eject a) is = cc
-    by (Insert a b) is = cc
-    by (Protect a b) is = cc
+    by e is = cc

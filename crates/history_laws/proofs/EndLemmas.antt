@@ -1,5 +1,5 @@
 -- How tokens end, and what stays of one that has ended or is not yet accepted.
-use Rattle.std.proofs.Common.{◌≡◌, ℕ, ◌<◌, ◌≤◌, Bool, true, false, ◌&&◌, List, [], ◌∷◌, Option, None, Some, is_some, refl, sym, ◌∙◌, ap, subst, arith}
+use Rattle.std.proofs.Common.{◌≡◌, ℕ, ◌≤◌, Bool, true, false, List, [], ◌∷◌, Option, None, Some, is_some, refl, sym, ◌∙◌, ap, arith}
 use Rattle.std.proofs.lemmas.Bool.{ne_eqb, eq-eqb, le-ltb, and_right}
 use Rattle.efi_status.specs.declared.Status.{Status}
 use Rattle.efi_status.specs.declared.Status.TheVariants.{Success, DeviceError}
@@ -16,7 +16,7 @@ use Rattle.history.specs.Contents.{bytes_read}
 use Rattle.history.specs.Marks.{mark_of, ending, status_if, or_else, is_complete, is_some_change, has_view, ticket_of, IsOutstanding}
 use Rattle.history.specs.Room.{commands_of}
 use Rattle.history.specs.Rules.{IsLegal, MayFollow, MayCommand}
-use Rattle.history_laws.specs.Told.{Told, told, untold, IsUntold, concerns}
+use Rattle.history_laws.specs.Told.{Told, told, IsUntold, concerns}
 use Rattle.history_laws.proofs.CountLemmas.{accepted-more, accepted-same}
 use Rattle.history_laws.proofs.TokenLemmas.{told-other, bytes_read-other, ticket_of-other, request-some}
 
@@ -86,15 +86,7 @@ unconcerned S H (Protect tag on) t may unnamed unmarked past = and_right on (is_
 -- tokens stay accepted
 pub accepted-rises : (H : List Entry) (e : Entry) → accepted H ≤ accepted (e ∷ H)
 accepted-rises H (Accept a b c d) = omega (arith, accepted-more H (Accept a b c d) refl)
-accepted-rises H (Refuse a b c d e) = omega (arith, accepted-same H (Refuse a b c d e) refl)
-accepted-rises H (Done a b) = omega (arith, accepted-same H (Done a b) refl)
-accepted-rises H (Fault a b c) = omega (arith, accepted-same H (Fault a b c) refl)
-accepted-rises H (Collect a b) = omega (arith, accepted-same H (Collect a b) refl)
-accepted-rises H (Cancel a b) = omega (arith, accepted-same H (Cancel a b) refl)
-accepted-rises H (Reset a) = omega (arith, accepted-same H (Reset a) refl)
-accepted-rises H (Eject a) = omega (arith, accepted-same H (Eject a) refl)
-accepted-rises H (Insert a b) = omega (arith, accepted-same H (Insert a b) refl)
-accepted-rises H (Protect a b) = omega (arith, accepted-same H (Protect a b) refl)
+accepted-rises H e = omega (arith, accepted-same H e refl)
 
 untold-other : (S : Setup) (H : List Entry) (e : Entry) (t : ℕ) → concerns H e t ≡ false → IsUntold S H t → IsUntold S (e ∷ H) t
 untold-other S H e t other is = record {
@@ -158,26 +150,10 @@ command-other S H u t c status may marked same = clash (sym marked ∙ rw same a
 pub ended-done : (S : Setup) (H : List Entry) (e : Entry) (t : ℕ) (status : Status) → MayFollow S H e → mark_of S H t ≡ Some status → done_commands (e ∷ H) t ≡ done_commands H t
 unfolding MayFollow done_commands
 ended-done S H (Done u c) t status may marked = rw (ne_eqb u t (command-other S H u t c status may marked))
-ended-done S H (Accept a b c d) t status may marked = refl
-ended-done S H (Refuse a b c d e) t status may marked = refl
-ended-done S H (Fault a b c) t status may marked = refl
-ended-done S H (Collect a b) t status may marked = refl
-ended-done S H (Cancel a b) t status may marked = refl
-ended-done S H (Reset a) t status may marked = refl
-ended-done S H (Eject a) t status may marked = refl
-ended-done S H (Insert a b) t status may marked = refl
-ended-done S H (Protect a b) t status may marked = refl
+ended-done S H e t status may marked = refl
 
 -- and what it read
 pub ended-read : (S : Setup) (H : List Entry) (e : Entry) (t : ℕ) (status : Status) (x : ℕ) → MayFollow S H e → mark_of S H t ≡ Some status → bytes_read S (e ∷ H) t x ≡ bytes_read S H t x
 unfolding MayFollow bytes_read
 ended-read S H (Done u c) t status x may marked = rw (ne_eqb u t (command-other S H u t c status may marked))
-ended-read S H (Accept a b c d) t status x may marked = refl
-ended-read S H (Refuse a b c d e) t status x may marked = refl
-ended-read S H (Fault a b c) t status x may marked = refl
-ended-read S H (Collect a b) t status x may marked = refl
-ended-read S H (Cancel a b) t status x may marked = refl
-ended-read S H (Reset a) t status x may marked = refl
-ended-read S H (Eject a) t status x may marked = refl
-ended-read S H (Insert a b) t status x may marked = refl
-ended-read S H (Protect a b) t status x may marked = refl
+ended-read S H e t status x may marked = refl

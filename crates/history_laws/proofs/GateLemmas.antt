@@ -1,24 +1,21 @@
 -- The bytes of a held group change by its holder's store alone.
-use Rattle.std.proofs.Common.{◌≡◌, ◌⊎◌, ℕ, ◌+◌, ◌-◌, ◌*◌, ◌/◌, ◌<◌, ◌≤◌, inl, inr, min, max, Bool, true, false, ◌&&◌, List, [], ◌∷◌, length, slice_get, take, drop, Option, None, Some, option_map, refl, sym, ◌∙◌, ap, subst, arith, nat_eq, nat_lt, nat_le}
-use Rattle.std.proofs.lemmas.Bool.{cases_eq, cases_lt, and_parts, and_from, leb-true, ltb-true, eq-eqb, both_ways}
+use Rattle.std.proofs.Common.{◌≡◌, ◌⊎◌, ℕ, ◌+◌, ◌-◌, ◌*◌, ◌/◌, ◌<◌, ◌≤◌, inl, inr, true, false, List, ◌∷◌, length, Option, None, Some, refl, sym, ◌∙◌, ap, arith, nat_eq}
+use Rattle.std.proofs.lemmas.Bool.{cases_eq, cases_lt, and_from, eq-eqb, both_ways}
 use Rattle.std.proofs.lemmas.Nat.{div-mul-add}
 use Rattle.std.proofs.Math.Nat.{le-div_iff_mul-le, lt_of_mul-lt-mul_right, div-mul-le_self, mul-le-mul_right}
-use Rattle.byte_lists.specs.Patching.{patch}
 use Rattle.byte_lists.proofs.Patches.{patch-before, patch-behind}
-use Rattle.disk_split.specs.declared.geometry.Geometry.{Geometry}
-use Rattle.disk_split.specs.Units.{IsGeometry, group_start}
+use Rattle.disk_split.specs.Units.{group_start}
 use Rattle.history.specs.declared.entry.Command.{Command}
-use Rattle.history.specs.declared.entry.Command.TheVariants.{Fetch, Store, Put, Get, Wipe, Sync}
+use Rattle.history.specs.declared.entry.Command.TheVariants.{Store, Put, Wipe}
 use Rattle.history.specs.declared.entry.Entry.{Entry}
 use Rattle.history.specs.declared.entry.Entry.TheVariants.{Done, Fault}
 use Rattle.history.specs.Setup.{Setup, IsSetup, size_of, per_of, blocks_of}
 use Rattle.history.specs.Eras.{media_id_of}
-use Rattle.history.specs.Tokens.{Request, from_of, until_of}
-use Rattle.history.specs.Commands.{is_change, first_block, block_count, lies_in}
+use Rattle.history.specs.Commands.{is_change, first_block, block_count}
 use Rattle.history.specs.Contents.{Piece, piece_of, contents, byte_at}
 use Rattle.history.specs.Marks.{Holds}
-use Rattle.history.specs.Rules.{IsUnheld, MayCommand, MayFollow, IsLegal}
-use Rattle.history_laws.specs.Ranges.{IsInView, IsPieceOf, AreToldWhole}
+use Rattle.history.specs.Rules.{MayCommand, MayFollow, IsLegal}
+use Rattle.history_laws.specs.Ranges.{AreToldWhole}
 use Rattle.history_laws.specs.Gates.{is_store_of}
 use Rattle.history_laws.proofs.ContentLemmas.{patch_piece, contents-piece, contents-same, contents-other}
 use Rattle.history_laws.proofs.HolderLemmas.{holds-start, one-holder}
@@ -56,9 +53,7 @@ untouched S H u (Put d m) n t b x is legal (r, may) change few holds from until 
 untouched S H u (Wipe d m) n t b x is legal (r, may) change few holds from until low high =
     let (lo, hi) = block-within (size_of S) d n x (omega (arith, is.geometry.size_some)) low high in
     absurd (may.free (x / size_of S) lo (omega (arith, hi, few)) t (rw (held-block S H t b x is legal holds from until) holds))
-untouched S H u (Fetch d) n t b x is legal may change few holds from until low high = cc
-untouched S H u (Get d m) n t b x is legal may change few holds from until low high = cc
-untouched S H u Sync n t b x is legal may change few holds from until low high = cc
+untouched S H u c n t b x is legal may change few holds from until low high = cc
 
 -- a byte outside a piece that fits is as it was
 pub byte-outside : (held : Option (List ℕ)) (p : Piece) (x : ℕ) → ((bytes : List ℕ) → held ≡ Some bytes → p.at + length p.bytes ≤ length bytes) → (x < p.at) ⊎ (p.at + length p.bytes ≤ x)

@@ -1,29 +1,29 @@
 -- Who holds a group after an entry, and that at most one token does.
-use Rattle.std.proofs.Common.{◌≡◌, ◌≢◌, ◌⊎◌, ℕ, ◌+◌, ◌<◌, ◌≤◌, inl, inr, Bool, true, false, not, ◌&&◌, ◌||◌, List, [], ◌∷◌, Option, None, Some, is_some, refl, sym, ◌∙◌, ap, subst, arith, nat_eq}
-use Rattle.std.proofs.lemmas.Bool.{cases_eq, cases_Bool, or_cases, or_parts, or_left, or_from, and_parts, and_from, eq-eqb, eqb-true, both_ways, not-true, not_from_false, false_from_ne_true, ne_eqb}
+use Rattle.std.proofs.Common.{◌≡◌, ◌⊎◌, ℕ, ◌<◌, inl, inr, true, false, not, ◌&&◌, List, [], ◌∷◌, Option, None, Some, is_some, refl, sym, ◌∙◌, ap, subst, arith, nat_eq}
+use Rattle.std.proofs.lemmas.Bool.{cases_eq, or_cases, or_parts, or_left, and_parts, and_from, eq-eqb, eqb-true, both_ways, not-true, not_from_false, false_from_ne_true}
 use Rattle.efi_status.specs.declared.Status.{Status}
 use Rattle.efi_status.specs.declared.Status.TheVariants.{Success}
-use Rattle.disk_split.specs.Units.{IsGroupPart, IsKind, group_start}
+use Rattle.disk_split.specs.Units.{IsKind, group_start}
 use Rattle.history.specs.declared.entry.Kind.{Kind}
 use Rattle.history.specs.declared.entry.Kind.TheVariants.{Read, Write, Flush, Erase}
 use Rattle.history.specs.declared.entry.Command.{Command}
-use Rattle.history.specs.declared.entry.Command.TheVariants.{Fetch, Store, Put, Get, Wipe, Sync}
+use Rattle.history.specs.declared.entry.Command.TheVariants.{Fetch, Store}
 use Rattle.history.specs.declared.entry.Entry.{Entry}
 use Rattle.history.specs.declared.entry.Entry.TheVariants.{Accept, Done}
 use Rattle.history.specs.Setup.{Setup, IsSetup}
 use Rattle.history.specs.Tokens.{Request, accepted, request, changes_bytes, is_flush, from_of, until_of}
-use Rattle.history.specs.Commands.{is_fetch, is_store, is_transfer, is_sync, is_at, done_commands, has_done, is_moved}
+use Rattle.history.specs.Commands.{is_fetch, is_store, is_transfer, is_at, done_commands, has_done, is_moved}
 use Rattle.history.specs.Marks.{first_from, mark_of, is_outstanding, IsOutstanding, was_fetched, was_stored, Holds, is_holder, is_held, status_if, is_complete, all_from}
 use Rattle.history.specs.Rules.{HasPart, IsUnheld, MayCommand, MayFollow, IsLegal}
 use Rattle.history_laws.specs.Told.{concerns}
-use Rattle.history_laws.specs.Units.{is_span_command, IsUnitCommand, IsTaskCommand}
+use Rattle.history_laws.specs.Units.{IsTaskCommand}
 use Rattle.history_laws.proofs.CountLemmas.{accepted-none, accepted-more, accepted-same}
 use Rattle.history_laws.proofs.TokenLemmas.{has_done-done, has_done-other, has_done-same, done-concerns, request-same, mark-other}
-use Rattle.history_laws.proofs.EndLemmas.{accepted-rises, mark-before, mark-done, open-request, unaccepted, untold-has_done, command-open}
+use Rattle.history_laws.proofs.EndLemmas.{accepted-rises, mark-before, mark-done, open-request, unaccepted, untold-has_done}
 use Rattle.history_laws.proofs.ScanLemmas.{all_from-same, first_from-some, first_from-fails}
 use Rattle.history_laws.proofs.UnitLemmas.{done-tasks, find-command, moved-same}
 use Rattle.history_laws.proofs.TaskLemmas.{complete-moved, open-incomplete}
-use Rattle.history_laws.proofs.OwedLemmas.{group-start-part, fetch-unfetched, span-moving}
+use Rattle.history_laws.proofs.OwedLemmas.{group-start-part}
 use Rattle.history_laws.proofs.NextLemmas.{outstanding-test, outstanding-from}
 
 fetch-part : (S : Setup) (r : Request) (b : ℕ) (c : Command) → is_at is_fetch b c ≡ true → IsTaskCommand S r c → HasPart S r b × (changes_bytes r.asked.kind ≡ true)
@@ -33,11 +33,7 @@ fetch-part S r b (Fetch d) at (inl (u, is)) =
     let part : IsKind S.geometry (from_of S r) (until_of S r) false u.block u.count = rw (not-true u.whole parts.1) at is.unit.kind in
     (subst (λ n. HasPart S r n) (sym is.block ∙ same) part.0, parts.0)
 fetch-part S r b (Fetch d) at (inr (sync, flush)) = cc
-fetch-part S r b (Store d) at is = cc
-fetch-part S r b (Put d n) at is = cc
-fetch-part S r b (Get d n) at is = cc
-fetch-part S r b (Wipe d n) at is = cc
-fetch-part S r b Sync at is = cc
+fetch-part S r b c at is = cc
 
 -- a group that a token has fetched is a part of its range
 pub fetched-part : (S : Setup) (H : List Entry) (t b : ℕ) (r : Request) → IsSetup S → IsLegal S H → request H t ≡ Some r → was_fetched H t b ≡ true → HasPart S r b × (changes_bytes r.asked.kind ≡ true)
@@ -56,11 +52,7 @@ holds-start S H t b is legal holds =
 -- a fetch of this group
 pub fetch-is : (b : ℕ) (c : Command) → is_at is_fetch b c ≡ true → c ≡ Fetch b
 fetch-is b (Fetch d) at = ap Fetch (eqb-true d b at)
-fetch-is b (Store d) at = cc
-fetch-is b (Put d n) at = cc
-fetch-is b (Get d n) at = cc
-fetch-is b (Wipe d n) at = cc
-fetch-is b Sync at = cc
+fetch-is b c at = cc
 
 -- a holder held before, or has just fetched the group
 pub holds-before : (S : Setup) (H : List Entry) (e : Entry) (t b : ℕ) → IsLegal S H → Holds S (e ∷ H) t b → Holds S H t b ⊎ (e ≡ Done t (Fetch b))

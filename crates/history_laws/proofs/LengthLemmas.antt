@@ -1,13 +1,13 @@
 -- How much a history of so many entries has.
-use Rattle.std.proofs.Common.{◌≡◌, ◌⊎◌, ℕ, ◌+◌, ◌<◌, ◌≤◌, inl, inr, Bool, true, false, List, [], ◌∷◌, length, refl, arith}
+use Rattle.std.proofs.Common.{◌≡◌, ◌+◌, ◌<◌, ◌≤◌, inl, inr, true, List, [], ◌∷◌, length, refl, arith}
 use Rattle.std.proofs.lemmas.Bool.{cases_lt, eqb-true, eqb-false}
 use Rattle.history.specs.declared.entry.Entry.{Entry}
-use Rattle.history.specs.declared.entry.Entry.TheVariants.{Accept, Refuse, Done, Fault, Collect, Cancel, Reset, Eject, Insert, Protect}
+use Rattle.history.specs.declared.entry.Entry.TheVariants.{Accept, Done, Fault, Eject, Insert}
 use Rattle.history.specs.Setup.{Setup}
-use Rattle.history.specs.Eras.{ejects, inserts, is_command, is_fault}
+use Rattle.history.specs.Eras.{ejects, inserts, is_command}
 use Rattle.history.specs.Tokens.{accepted}
 use Rattle.history.specs.Marks.{is_fetch_entry, fetches}
-use Rattle.history.specs.Room.{commands, faults}
+use Rattle.history.specs.Room.{commands}
 use Rattle.history.specs.Rules.{MayFollow, IsLegal}
 use Rattle.history_laws.proofs.CountLemmas.{count-less, commands-none, accepted-none, accepted-more, accepted-same, ejects-none, ejects-more, ejects-same, inserts-none, inserts-more, inserts-same, commands-more, commands-same}
 use Rattle.history_laws.proofs.EndLemmas.{command-open}
@@ -40,14 +40,7 @@ fetches-few H = count-less is_fetch_entry is_command H by
     by : (e : Entry) → is_fetch_entry e ≡ true → is_command e ≡ true
     by (Done t c) is = refl
     by (Fault t c done) is = refl
-    by (Accept a b c d) is = cc
-    by (Refuse a b c d f) is = cc
-    by (Collect a b) is = cc
-    by (Cancel a b) is = cc
-    by (Reset a) is = cc
-    by (Eject a) is = cc
-    by (Insert a b) is = cc
-    by (Protect a b) is = cc
+    by e is = cc
 
 -- a legal history with a command has accepted a request
 pub commands-after-accept : (S : Setup) (H : List Entry) → IsLegal S H → 0 < commands H → 0 < accepted H

@@ -1,19 +1,19 @@
 -- The command of a runnable unit may be made.
-use Rattle.std.proofs.Common.{◌≡◌, ◌⊎◌, ℕ, ◌+◌, ◌<◌, ◌≤◌, inl, inr, Bool, true, false, not, ◌&&◌, ◌||◌, if◌then◌else◌, List, slice_get, Option, None, Some, refl, sym, ◌∙◌, ap, subst, arith}
-use Rattle.std.proofs.lemmas.Bool.{cases_Bool, and_parts, both_ways, not-true, not-false}
+use Rattle.std.proofs.Common.{◌≡◌, ℕ, ◌+◌, ◌<◌, ◌≤◌, inl, inr, Bool, true, false, not, ◌&&◌, ◌||◌, if◌then◌else◌, List, slice_get, Some, refl, ◌∙◌, ap}
+use Rattle.std.proofs.lemmas.Bool.{cases_Bool, and_parts, both_ways, not-true}
 use Rattle.disk_split.specs.declared.span.Span.{Span}
-use Rattle.disk_split.specs.Units.{IsUnit, IsKind, group_start}
+use Rattle.disk_split.specs.Units.{IsUnit, IsKind}
 use Rattle.history.specs.declared.entry.Kind.{Kind}
 use Rattle.history.specs.declared.entry.Kind.TheVariants.{Read, Write, Flush, Erase}
 use Rattle.history.specs.declared.entry.Command.{Command}
-use Rattle.history.specs.declared.entry.Command.TheVariants.{Fetch, Store, Put, Get, Wipe, Sync}
+use Rattle.history.specs.declared.entry.Command.TheVariants.{Fetch, Store}
 use Rattle.history.specs.declared.entry.Entry.{Entry}
 use Rattle.history.specs.Setup.{Setup, IsSetup}
 use Rattle.history.specs.Tokens.{Request, request, is_read, is_write, is_flush, is_erase, changes_bytes, from_of, until_of}
 use Rattle.history.specs.Commands.{is_store, is_put, is_get, is_wipe, is_transfer, is_at, has_done, is_moved}
-use Rattle.history.specs.Marks.{all_from, was_fetched, was_stored, Holds, is_held, IsOutstanding}
+use Rattle.history.specs.Marks.{all_from, was_fetched, Holds, is_held, IsOutstanding}
 use Rattle.history.specs.Rules.{IsOpen, IsUnheld, MayCommand, IsLegal}
-use Rattle.history.specs.Tasks.{Task, Moves, Syncs, tasks_of, is_finished, Todo, is_clear, is_task_clear, is_runnable, pending, first_runnable, span_command, task_command}
+use Rattle.history.specs.Tasks.{Task, Moves, Syncs, tasks_of, is_finished, Todo, is_task_clear, is_runnable, pending, first_runnable, span_command, task_command}
 use Rattle.history_laws.proofs.ScanLemmas.{all_from-each}
 use Rattle.history_laws.proofs.UnitLemmas.{unmoved-undone, store-transfers, put-transfers, get-transfers, wipe-transfers}
 use Rattle.history_laws.proofs.TaskLemmas.{task-unit, task-sync, task-moving}

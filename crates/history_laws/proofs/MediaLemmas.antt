@@ -1,5 +1,5 @@
 -- What an accept asks of the medium, and which medium an open token is of.
-use Rattle.std.proofs.Common.{◌≡◌, ◌≢◌, ◌⊎◌, ℕ, ◌+◌, ◌-◌, ◌*◌, ◌<◌, ◌≤◌, inl, inr, Bool, true, false, not, ◌&&◌, ◌||◌, if◌then◌else◌, List, [], ◌∷◌, length, replicate, Option, None, Some, refl, sym, subst, ◌∙◌, ap, arith, nat_eq, nat_lt}
+use Rattle.std.proofs.Common.{◌≡◌, ℕ, ◌+◌, ◌-◌, ◌*◌, ◌<◌, ◌≤◌, inl, inr, Bool, true, false, not, ◌&&◌, ◌||◌, if◌then◌else◌, List, [], ◌∷◌, length, Option, None, Some, refl, sym, subst, ◌∙◌, ap, arith, nat_eq, nat_lt}
 use Rattle.std.proofs.lemmas.Bool.{cases_eq, and_parts, or_parts, eqb-true, eq-eqb, ne_eqb, both_ways, lt-ltb, ltb-false}
 use Rattle.std.proofs.lemmas.List.{length-replicate}
 use Rattle.efi_status.specs.declared.Status.{Status}
@@ -11,13 +11,12 @@ use Rattle.history.specs.declared.entry.Asked.{Asked}
 use Rattle.history.specs.declared.entry.Entry.{Entry}
 use Rattle.history.specs.declared.entry.Entry.TheVariants.{Accept, Eject, Insert}
 use Rattle.history.specs.Setup.{Setup, size_of, blocks_of}
-use Rattle.history.specs.Eras.{ejects, inserts, is_eject, is_insert, media_id_of, is_present, is_protected}
-use Rattle.history.specs.Tokens.{Request, is_accept, accepted, request, request_bytes, bytes_to_put, is_flush, changes_bytes, offset, from_of, until_of}
-use Rattle.history.specs.Marks.{mark_of, ending, status_if, IsOutstanding}
+use Rattle.history.specs.Eras.{is_eject, is_insert, media_id_of, is_present, is_protected}
+use Rattle.history.specs.Tokens.{Request, accepted, request, request_bytes, bytes_to_put, is_flush, changes_bytes, offset}
+use Rattle.history.specs.Marks.{mark_of, ending, IsOutstanding}
 use Rattle.history.specs.Rules.{is_ragged, is_outside, range_refusal, refusal_of, IsPayload, MayAccept, MayFollow, IsLegal}
 use Rattle.history_laws.specs.Ranges.{IsInView}
-use Rattle.history_laws.proofs.CountLemmas.{accepted-none, accepted-more, accepted-same, ejects-more, ejects-same, inserts-more, inserts-same}
-use Rattle.history_laws.proofs.TokenLemmas.{request-kept, request-accepted}
+use Rattle.history_laws.proofs.CountLemmas.{accepted-more, accepted-same, ejects-same, inserts-same}
 use Rattle.history_laws.proofs.EndLemmas.{mark-before, mark-next}
 
 -- a request that is not refused is for the medium that is in, and its range is not refused

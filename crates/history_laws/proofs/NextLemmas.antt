@@ -1,14 +1,13 @@
 -- The first open token, its first unfinished unit, and the command that comes next.
-use Rattle.std.proofs.Common.{◌≡◌, ◌≢◌, ℕ, zero, suc, ◌+◌, ◌<◌, ◌≤◌, inl, inr, Bool, true, false, not, ◌&&◌, List, [], ◌∷◌, slice_get, map, Option, None, Some, is_none, option_map, find, refl, sym, ◌∙◌, ap, arith, nat_lt}
+use Rattle.std.proofs.Common.{◌≡◌, ◌≢◌, ℕ, zero, suc, ◌<◌, inl, inr, Bool, true, false, not, List, [], ◌∷◌, slice_get, Option, None, Some, is_none, find, refl, sym, ◌∙◌, ap, arith, nat_lt}
 use Rattle.std.proofs.lemmas.Bool.{cases_Bool, lt-ltb, ltb-true, and_parts, and_from, and_right, not-true, not_from_false, not_from_true}
 use Rattle.efi_status.specs.declared.Status.{Status}
-use Rattle.disk_split.specs.declared.span.Span.{Span}
 use Rattle.history.specs.declared.entry.Entry.{Entry}
 use Rattle.history.specs.Setup.{Setup}
 use Rattle.history.specs.Tokens.{Request, accepted, request}
-use Rattle.history.specs.Marks.{mark_of, first_from, is_outstanding, IsOutstanding}
+use Rattle.history.specs.Marks.{mark_of, is_outstanding, IsOutstanding}
 use Rattle.history.specs.Tasks.{Task, tasks_of, is_finished, task_command}
-use Rattle.history.specs.Next.{first_open, next_task, Turn, turn_of_request, turn_of_token, next_turn}
+use Rattle.history.specs.Next.{first_open, next_task, next_turn}
 use Rattle.history_laws.proofs.ScanLemmas.{first_from-is, first_from-none, first_from-some, first_from-fails}
 
 -- the test for an open token

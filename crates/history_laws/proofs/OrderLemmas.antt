@@ -1,5 +1,5 @@
 -- The units that are left stand in the order of their tokens and bytes.
-use Rattle.std.proofs.Common.{◌≡◌, ◌⊎◌, ℕ, zero, suc, ◌+◌, ◌<◌, ◌≤◌, inl, inr, Bool, true, false, not, List, [], ◌∷◌, ◌++◌, slice_get, map, filter, Some, refl, sym, subst, arith}
+use Rattle.std.proofs.Common.{◌≡◌, ◌⊎◌, ℕ, zero, suc, ◌<◌, inl, inr, Bool, true, false, not, List, [], ◌∷◌, ◌++◌, slice_get, map, filter, Some, refl, subst, arith}
 use Rattle.std.proofs.lemmas.Bool.{cases_Bool}
 use Rattle.disk_split.specs.declared.span.Span.{Span}
 use Rattle.disk_split.specs.Units.{Tile, units_of}
@@ -7,9 +7,9 @@ use Rattle.disk_split.proofs.Tiling.{tile-units}
 use Rattle.disk_split.proofs.Tiled.{tile-within}
 use Rattle.history.specs.declared.entry.Entry.{Entry}
 use Rattle.history.specs.Setup.{Setup, IsSetup}
-use Rattle.history.specs.Tokens.{Request, accepted, request, is_flush, from_of, until_of}
+use Rattle.history.specs.Tokens.{Request, accepted, is_flush, from_of, until_of}
 use Rattle.history.specs.Marks.{is_outstanding, IsOutstanding}
-use Rattle.history.specs.Tasks.{Task, Moves, Syncs, tasks_of, is_finished, Todo, todo_of, todo_before, pending}
+use Rattle.history.specs.Tasks.{Task, Moves, Syncs, tasks_of, is_finished, todo_of, todo_before, pending}
 use Rattle.history_laws.specs.Pending.{todo_at, task_low, IsBefore, Ordered}
 use Rattle.history_laws.proofs.TokenLemmas.{request-some}
 use Rattle.history_laws.proofs.NextLemmas.{outstanding-from}

@@ -1,34 +1,30 @@
 -- What each entry does to the entries that are owed, and that a token makes few commands.
-use Rattle.std.proofs.Common.{◌≡◌, ◌≢◌, ◌⊎◌, ℕ, zero, suc, ◌+◌, ◌-◌, ◌*◌, ◌/◌, ◌<◌, ◌≤◌, inl, inr, Bool, true, false, not, ◌&&◌, ◌||◌, if◌then◌else◌, List, [], ◌∷◌, length, slice_get, map, Option, None, Some, option_map, refl, sym, ◌∙◌, ap, subst, arith}
-use Rattle.std.specs.List.{list_any, sum_by, count_by}
-use Rattle.std.proofs.lemmas.Bool.{cases_Bool, cases_eq, eq-eqb, both_ways, or_left, ne_eqb}
+use Rattle.std.proofs.Common.{◌≡◌, ℕ, zero, suc, ◌+◌, ◌*◌, ◌≤◌, inl, inr, Bool, true, false, not, ◌&&◌, List, [], ◌∷◌, slice_get, Some, option_map, refl, sym, ◌∙◌, ap, arith}
+use Rattle.std.specs.List.{list_any, sum_by}
+use Rattle.std.proofs.lemmas.Bool.{cases_Bool, eq-eqb, or_left}
 use Rattle.std.proofs.lemmas.List.Sums.{sum_by-cons, sum_by-le-sum_by}
-use Rattle.std.proofs.lemmas.List.Folds.{fold-map}
 use Rattle.std.proofs.lemmas.Option.{slice_get-map}
 use Rattle.std.proofs.Math.Nat.{mul-div_left}
-use Rattle.efi_status.specs.declared.Status.{Status}
 use Rattle.disk_split.specs.declared.geometry.Geometry.{Geometry}
 use Rattle.disk_split.specs.declared.span.Span.{Span}
-use Rattle.disk_split.specs.Units.{IsGeometry, IsGroupPart, IsUnit, units_of, group_start, whole_blocks}
+use Rattle.disk_split.specs.Units.{IsGeometry, IsGroupPart, units_of, group_start}
 use Rattle.disk_split.proofs.Shared.{unit-listed}
-use Rattle.disk_split.proofs.Listing.{units-count, parts-count}
 use Rattle.history.specs.declared.entry.Kind.{Kind}
 use Rattle.history.specs.declared.entry.Kind.TheVariants.{Read, Write, Flush, Erase}
 use Rattle.history.specs.declared.entry.Command.{Command}
 use Rattle.history.specs.declared.entry.Command.TheVariants.{Fetch, Store, Put, Get, Wipe, Sync}
 use Rattle.history.specs.declared.entry.Entry.{Entry}
-use Rattle.history.specs.declared.entry.Entry.TheVariants.{Accept, Refuse, Done, Fault, Collect, Cancel, Reset, Eject, Insert, Protect}
+use Rattle.history.specs.declared.entry.Entry.TheVariants.{Done}
 use Rattle.history.specs.Setup.{Setup, IsSetup}
-use Rattle.history.specs.Tokens.{Request, accepted, request, was_collected, is_read, is_write, is_flush, is_erase, changes_bytes, from_of, until_of}
+use Rattle.history.specs.Tokens.{Request, request, is_read, is_write, is_flush, is_erase, changes_bytes, from_of, until_of}
 use Rattle.history.specs.Commands.{first_block, is_fetch, is_store, is_put, is_get, is_wipe, is_sync, is_at, done_commands, has_done}
-use Rattle.history.specs.Marks.{mark_of, was_fetched, was_stored, Holds, IsOutstanding}
-use Rattle.history.specs.Rules.{MayFetch, MayCover, MayGet, MayCommand, MayFollow, IsLegal}
+use Rattle.history.specs.Marks.{was_fetched, was_stored, Holds, IsOutstanding}
+use Rattle.history.specs.Rules.{MayFetch, MayCommand, IsLegal}
 use Rattle.history.specs.Tasks.{Task, Moves, Syncs, tasks_of}
-use Rattle.history.specs.Room.{part_owed, one_unless, span_owed, task_owed, commands_owed, commands_of, runs_of, AreFewCommands}
+use Rattle.history.specs.Room.{part_owed, one_unless, span_owed, task_owed, commands_owed}
 use Rattle.history_laws.specs.Units.{is_span_command, IsUnitCommand, IsTaskCommand}
-use Rattle.history_laws.proofs.CountLemmas.{accepted-none, accepted-more, accepted-same, commands_of-more, commands_of-same}
-use Rattle.history_laws.proofs.TokenLemmas.{is_done, has_done-done, has_done-stays, has_done-same, done_commands-same, done_commands-done, done_commands-other, done-concerns, request-kept, request-same, request-accepted}
-use Rattle.history_laws.proofs.EndLemmas.{mark-before, mark-fault, command-open, unaccepted, untold-done, untold-commands}
+use Rattle.history_laws.proofs.TokenLemmas.{has_done-done, has_done-stays}
+use Rattle.history_laws.proofs.EndLemmas.{command-open}
 use Rattle.history_laws.proofs.UnitLemmas.{legal-task}
 use Rattle.history_laws.proofs.TaskLemmas.{complete-flush, open-incomplete}
 

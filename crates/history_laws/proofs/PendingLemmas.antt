@@ -1,37 +1,29 @@
 -- The units that are left after each entry.
-use Rattle.std.proofs.Common.{◌≡◌, ◌≢◌, ◌⊎◌, ℕ, zero, suc, ◌+◌, ◌-◌, ◌<◌, ◌≤◌, inl, inr, Bool, true, false, not, ◌&&◌, ◌||◌, if◌then◌else◌, List, [], ◌∷◌, ◌++◌, slice_get, map, filter, find, Option, None, Some, is_none, option_map, refl, sym, ◌∙◌, ap, subst, arith, nat_eq}
-use Rattle.std.specs.List.{list_all, list_any}
+use Rattle.std.proofs.Common.{◌≡◌, ◌≢◌, ◌⊎◌, ℕ, zero, suc, ◌<◌, ◌≤◌, inl, inr, Bool, true, false, not, ◌&&◌, List, [], ◌∷◌, ◌++◌, slice_get, map, filter, None, Some, refl, sym, ◌∙◌, ap, subst, arith}
+use Rattle.std.specs.List.{list_any}
 use Rattle.std.proofs.lemmas.List.Elements.{filter-append}
-use Rattle.std.proofs.lemmas.Bool.{cases_Bool, cases_eq, cases_lt, and_parts, and_from, and_left, and_right, both_ways, eq-eqb, ne_eqb, eqb-true, or_parts, not-true, not-false, not_from_false, not_from_true, false_from_ne_true}
+use Rattle.std.proofs.lemmas.Bool.{cases_Bool, cases_eq, and_from, and_left, both_ways, not-true, not-false, not_from_false, not_from_true}
 use Rattle.efi_status.specs.declared.Status.{Status}
-use Rattle.efi_status.specs.declared.Status.TheVariants.{Success}
-use Rattle.disk_split.specs.declared.span.Span.{Span}
-use Rattle.disk_split.specs.Units.{IsUnit}
-use Rattle.disk_split.proofs.Shared.{units-same}
 use Rattle.history.specs.declared.entry.View.{View}
-use Rattle.history.specs.declared.entry.Kind.{Kind}
 use Rattle.history.specs.declared.entry.Asked.{Asked}
 use Rattle.history.specs.declared.entry.Command.{Command}
-use Rattle.history.specs.declared.entry.Command.TheVariants.{Fetch, Sync}
+use Rattle.history.specs.declared.entry.Command.TheVariants.{Fetch}
 use Rattle.history.specs.declared.entry.Entry.{Entry}
-use Rattle.history.specs.declared.entry.Entry.TheVariants.{Accept, Refuse, Done, Fault, Collect, Cancel, Reset, Eject, Insert, Protect}
+use Rattle.history.specs.declared.entry.Entry.TheVariants.{Refuse, Done, Collect, Insert, Protect}
 use Rattle.history.specs.Setup.{Setup, IsSetup}
-use Rattle.history.specs.Tokens.{Request, is_accept, accepted, request, is_flush, from_of, until_of}
-use Rattle.history.specs.Commands.{is_transfer, is_sync, moves, done_commands, has_done, is_moved}
-use Rattle.history.specs.Marks.{mark_of, ending, status_if, is_complete, is_outstanding, IsOutstanding}
-use Rattle.history.specs.Rules.{MayCommand, MayFollow, IsLegal}
-use Rattle.history.specs.Tasks.{Task, Moves, Syncs, tasks_of, is_finished, Todo, todo_of_request, todo_of, todo_before, pending}
-use Rattle.history.specs.Next.{first_open}
+use Rattle.history.specs.Tokens.{Request, is_accept, accepted, request}
+use Rattle.history.specs.Commands.{is_transfer, is_sync, moves, done_commands, has_done}
+use Rattle.history.specs.Marks.{mark_of, ending, is_outstanding, IsOutstanding}
+use Rattle.history.specs.Rules.{MayCommand, IsLegal}
+use Rattle.history.specs.Tasks.{Task, Moves, Syncs, tasks_of, is_finished, Todo, todo_of, todo_before, pending}
 use Rattle.history_laws.specs.Told.{concerns}
-use Rattle.history_laws.specs.Units.{IsUnitCommand}
-use Rattle.history_laws.specs.Pending.{is_todo, todo_at, todos_of, is_task_of, is_todo_of}
+use Rattle.history_laws.specs.Pending.{is_todo, todo_at}
 use Rattle.history_laws.proofs.CountLemmas.{accepted-more, accepted-same}
-use Rattle.history_laws.proofs.TokenLemmas.{or_else-none, has_done-done, request-kept, request-same, request-accept, request-some, has_done-other, done_commands-same, done_commands-other, mark-other, done-concerns, accept-concerns}
-use Rattle.history_laws.proofs.EndLemmas.{accepted-rises, mark-before, mark-accept, unaccepted, untold-done, command-open}
-use Rattle.history_laws.proofs.UnitLemmas.{is_within, within-from, within-parts, unit-inside, moved-same, moved-more}
+use Rattle.history_laws.proofs.TokenLemmas.{or_else-none, has_done-done, request-kept, request-some, done_commands-same, done_commands-other, mark-other, done-concerns}
+use Rattle.history_laws.proofs.EndLemmas.{accepted-rises, mark-before}
+use Rattle.history_laws.proofs.UnitLemmas.{moved-same}
 use Rattle.history_laws.proofs.HolderLemmas.{fetch-holds}
-use Rattle.history_laws.proofs.OwedLemmas.{span-moving}
-use Rattle.history_laws.proofs.TaskLemmas.{finished-stays, complete-tasks, task-unit, task-sync, task-moving}
+use Rattle.history_laws.proofs.TaskLemmas.{finished-stays}
 use Rattle.history_laws.proofs.NextLemmas.{outstanding-test, outstanding-from}
 
 -- one filter after a harder one
@@ -91,9 +83,9 @@ todo-keeps S H e t token =
     by r named named' old (inl open_) (inl open_') =
         rw (todo-open S (e ∷ H) t r open_' named', todo-open S H t r open_ named)
         (sym (
-          filter-mapped (todo_at t r) (λ task. not (is_finished S H t task)) (λ task. not (is_finished S (e ∷ H) t task)) (is_todo S (e ∷ H)) (tasks_of S r)
-          (λ task finished. not_from_true (is_finished S (e ∷ H) t task) (finished-stays S H e t task (not-false (is_finished S H t task) finished)))
-          (λ task. ap (λ b. b && not (is_finished S (e ∷ H) t task)) open_')
+        filter-mapped (todo_at t r) (λ task. not (is_finished S H t task)) (λ task. not (is_finished S (e ∷ H) t task)) (is_todo S (e ∷ H)) (tasks_of S r)
+        (λ task finished. not_from_true (is_finished S (e ∷ H) t task) (finished-stays S H e t task (not-false (is_finished S H t task) finished)))
+        (λ task. ap (λ b. b && not (is_finished S (e ∷ H) t task)) open_')
         ))
 
 pub before-keeps : (S : Setup) (H : List Entry) (e : Entry) (n : ℕ) → n ≤ accepted H → todo_before S (e ∷ H) n ≡ filter (is_todo S (e ∷ H)) (todo_before S H n)

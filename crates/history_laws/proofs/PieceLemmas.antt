@@ -1,11 +1,11 @@
 -- The piece that each command of a unit puts on the medium.
-use Rattle.std.proofs.Common.{◌≡◌, ◌⊎◌, ℕ, zero, suc, ◌+◌, ◌-◌, ◌*◌, ◌/◌, ◌<◌, ◌≤◌, inl, inr, min, max, Bool, true, false, List, [], ◌∷◌, ◌++◌, length, take, drop, Option, None, Some, option_map, refl, sym, ◌∙◌, ap, arith, add-zero, take-append-drop}
+use Rattle.std.proofs.Common.{◌≡◌, ℕ, zero, suc, ◌+◌, ◌-◌, ◌*◌, ◌/◌, ◌<◌, ◌≤◌, inl, inr, min, true, List, [], ◌∷◌, take, drop, Option, None, Some, option_map, refl, sym, ◌∙◌, ap, arith, add-zero, take-append-drop}
 use Rattle.std.proofs.lemmas.Bool.{cases_eq, lt-ltb, le-ltb}
 use Rattle.std.proofs.Math.Nat.{mul-le-mul_right, div-mul-le_self, add-mul}
 use Rattle.byte_lists.specs.Patching.{patch}
 use Rattle.disk_split.specs.declared.geometry.Geometry.{Geometry}
 use Rattle.disk_split.specs.declared.span.Span.{Span}
-use Rattle.disk_split.specs.Units.{IsGeometry, IsKind, IsUnit, up, group_size, first_whole}
+use Rattle.disk_split.specs.Units.{IsGeometry, IsKind, IsUnit, group_size, first_whole}
 use Rattle.disk_split.proofs.Rounding.{up-reaches, wider, group-some, group-bytes, first-whole-bytes}
 use Rattle.history.specs.declared.entry.Command.{Command}
 use Rattle.history.specs.declared.entry.Entry.{Entry}
@@ -13,10 +13,10 @@ use Rattle.history.specs.declared.entry.Entry.TheVariants.{Done, Fault}
 use Rattle.history.specs.Setup.{Setup, IsSetup, size_of}
 use Rattle.history.specs.Eras.{media_id_of}
 use Rattle.history.specs.Tokens.{Request, request, request_bytes, from_of, until_of}
-use Rattle.history.specs.Commands.{is_change, first_block, block_count}
+use Rattle.history.specs.Commands.{is_change}
 use Rattle.history.specs.Contents.{Piece, bytes_between, piece_between, piece_in, piece_of, contents}
 use Rattle.history_laws.specs.Units.{IsUnitCommand}
-use Rattle.history_laws.proofs.ContentLemmas.{patch_piece, contents-piece, contents-same}
+use Rattle.history_laws.proofs.ContentLemmas.{contents-piece, contents-same}
 
 -- the piece of a token from low on and before high
 abbrev pub piece_at : Setup → ℕ → Request → ℕ → ℕ → Piece

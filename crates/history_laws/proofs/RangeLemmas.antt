@@ -1,26 +1,24 @@
 -- Pieces lie inside the range of their token, and that inside its view on its medium.
-use Rattle.std.proofs.Common.{◌≡◌, ◌⊎◌, ℕ, ◌+◌, ◌-◌, ◌*◌, ◌<◌, ◌≤◌, inl, inr, min, max, Bool, true, false, ◌&&◌, if◌then◌else◌, List, [], ◌∷◌, length, take, drop, Option, None, Some, option_map, refl, sym, ◌∙◌, ap, subst, arith, nat_eq, nat_lt, length-take, length-drop}
-use Rattle.std.proofs.lemmas.Bool.{cases_Bool, cases_eq, cases_lt, and_parts, lt-ltb, le-ltb, eq-eqb, ne_eqb}
-use Rattle.byte_lists.specs.Patching.{patch}
+use Rattle.std.proofs.Common.{◌≡◌, ◌⊎◌, ℕ, ◌+◌, ◌-◌, ◌*◌, ◌<◌, ◌≤◌, inl, inr, min, max, Bool, true, false, List, [], ◌∷◌, length, drop, Option, None, Some, option_map, refl, sym, ◌∙◌, ap, subst, arith, length-take, length-drop}
+use Rattle.std.proofs.lemmas.Bool.{cases_Bool, cases_eq, cases_lt, lt-ltb, le-ltb, eq-eqb, ne_eqb}
 use Rattle.byte_lists.proofs.Patched.{length-patch}
 use Rattle.history.specs.declared.entry.Kind.{Kind}
 use Rattle.history.specs.declared.entry.Kind.TheVariants.{Read, Write, Flush, Erase}
 use Rattle.history.specs.declared.entry.Command.{Command}
 use Rattle.history.specs.declared.entry.Command.TheVariants.{Fetch, Store, Put, Get, Wipe, Sync}
 use Rattle.history.specs.declared.entry.Entry.{Entry}
-use Rattle.history.specs.declared.entry.Entry.TheVariants.{Accept, Refuse, Done, Fault, Collect, Cancel, Reset, Eject, Insert, Protect}
+use Rattle.history.specs.declared.entry.Entry.TheVariants.{Done, Fault}
 use Rattle.history.specs.Setup.{Setup, IsSetup, size_of, first_of, blocks_of}
 use Rattle.history.specs.Eras.{media_id_of, is_present}
-use Rattle.history.specs.Tokens.{Request, request, request_bytes, changes_bytes, is_flush, is_write, is_erase, from_of, until_of}
+use Rattle.history.specs.Tokens.{Request, request, request_bytes, changes_bytes, from_of, until_of}
 use Rattle.history.specs.Commands.{is_change, first_block, block_count}
 use Rattle.history.specs.Marks.{IsOutstanding}
 use Rattle.history.specs.Contents.{Piece, bytes_between, piece_between, piece_in, piece_of, with_piece, pieces_of, patch_all, contents}
 use Rattle.history.specs.Rules.{StopsAt, MayCommand, MayFollow, IsLegal}
-use Rattle.history_laws.specs.Units.{is_span_command, IsUnitCommand, IsTaskCommand}
+use Rattle.history_laws.specs.Units.{is_span_command, IsTaskCommand}
 use Rattle.history_laws.specs.Ranges.{IsInView, IsPieceOf, AreInViews, AreToldWhole}
 use Rattle.history_laws.proofs.TokenLemmas.{request-stays}
 use Rattle.history_laws.proofs.EndLemmas.{command-open, open-request}
-use Rattle.history_laws.proofs.ContentLemmas.{patch_piece}
 use Rattle.history_laws.proofs.UnitLemmas.{legal-task}
 use Rattle.history_laws.proofs.HolderLemmas.{changes-moving}
 use Rattle.history_laws.proofs.MediaLemmas.{range-in-view, bytes-long, open-media}

@@ -1,33 +1,29 @@
 -- How many commands a token makes, and what each entry does to the entries that are owed.
-use Rattle.std.proofs.Common.{◌≡◌, ◌≢◌, ◌⊎◌, ℕ, zero, suc, ◌+◌, ◌-◌, ◌*◌, ◌/◌, ◌<◌, ◌≤◌, inl, inr, Bool, true, false, not, ◌&&◌, ◌||◌, if◌then◌else◌, List, [], ◌∷◌, length, slice_get, map, Option, None, Some, refl, sym, ◌∙◌, ap, subst, arith}
-use Rattle.std.specs.List.{list_any, sum_by, count_by}
-use Rattle.std.proofs.lemmas.Bool.{cases_Bool, cases_eq, cases_lt, eq-eqb, ne_eqb}
+use Rattle.std.proofs.Common.{◌≡◌, ℕ, zero, suc, ◌+◌, ◌<◌, ◌≤◌, inl, inr, Bool, true, false, not, if◌then◌else◌, List, [], ◌∷◌, length, map, Option, None, Some, refl, sym, ◌∙◌, ap, arith}
+use Rattle.std.specs.List.{sum_by, count_by}
+use Rattle.std.proofs.lemmas.Bool.{cases_Bool, cases_eq, eq-eqb, ne_eqb}
 use Rattle.std.proofs.lemmas.List.Sums.{sum_by-cons}
-use Rattle.std.proofs.lemmas.List.Folds.{fold-map}
 use Rattle.efi_status.specs.declared.Status.{Status}
 use Rattle.efi_status.specs.declared.Status.TheVariants.{DeviceError}
 use Rattle.disk_split.specs.declared.span.Span.{Span}
-use Rattle.disk_split.specs.Units.{units_of, whole_blocks}
+use Rattle.disk_split.specs.Units.{units_of}
 use Rattle.disk_split.proofs.Listing.{units-count, parts-count}
-use Rattle.history.specs.declared.entry.View.{View}
-use Rattle.history.specs.declared.entry.Asked.{Asked}
 use Rattle.history.specs.declared.entry.Kind.{Kind}
 use Rattle.history.specs.declared.entry.Kind.TheVariants.{Read, Write, Flush, Erase}
 use Rattle.history.specs.declared.entry.Command.{Command}
 use Rattle.history.specs.declared.entry.Entry.{Entry}
-use Rattle.history.specs.declared.entry.Entry.TheVariants.{Accept, Refuse, Done, Fault, Collect, Cancel, Reset, Eject, Insert, Protect}
+use Rattle.history.specs.declared.entry.Entry.TheVariants.{Accept, Done, Fault}
 use Rattle.history.specs.Setup.{Setup, IsSetup}
-use Rattle.history.specs.Eras.{ejects, inserts, is_eject, is_insert}
-use Rattle.history.specs.Tokens.{Request, is_accept, accepted, request, was_collected, is_flush, from_of, until_of}
-use Rattle.history.specs.Commands.{done_commands, has_done, is_get, is_put, is_wipe, is_sync, is_at}
-use Rattle.history.specs.Marks.{IsOutstanding, mark_of, ending, or_else, was_fetched, was_stored}
+use Rattle.history.specs.Tokens.{Request, accepted, request, was_collected, is_flush, from_of, until_of}
+use Rattle.history.specs.Commands.{done_commands, has_done, is_sync}
+use Rattle.history.specs.Marks.{IsOutstanding, mark_of, ending, or_else}
 use Rattle.history.specs.Rules.{MayCommand, MayFollow, IsLegal}
-use Rattle.history.specs.Tasks.{Task, Moves, Syncs, tasks_of}
-use Rattle.history.specs.Room.{is_command_of, part_owed, one_unless, span_owed, task_owed, commands_owed, commands_of, runs_of, AreFewCommands, owed_by, token_owed, tokens_owed, media_owed, owed_entries}
+use Rattle.history.specs.Tasks.{Moves}
+use Rattle.history.specs.Room.{one_unless, span_owed, task_owed, commands_owed, commands_of, runs_of, AreFewCommands, owed_by, token_owed, tokens_owed}
 use Rattle.history_laws.specs.Told.{Told, told, concerns}
-use Rattle.history_laws.proofs.CountLemmas.{accepted-none, accepted-more, accepted-same, commands_of-more, commands_of-same, ejects-more, ejects-same, inserts-more, inserts-same}
-use Rattle.history_laws.proofs.TokenLemmas.{told-other, is_done, done_commands-same, done_commands-other, commands_of-other, done-concerns, fault-concerns, collect-concerns, accept-concerns, request-kept, request-same, request-accepted, request-stays, request-accept, collected-collect, collected-same, mark-other}
-use Rattle.history_laws.proofs.EndLemmas.{mark-before, mark-fault, mark-stays, command-open, open-request, unaccepted, untold-done, untold-commands, untold-request, untold-collected}
+use Rattle.history_laws.proofs.CountLemmas.{accepted-none, commands_of-more, commands_of-same}
+use Rattle.history_laws.proofs.TokenLemmas.{told-other, done_commands-same, done_commands-other, request-kept, request-same, request-accepted, request-stays}
+use Rattle.history_laws.proofs.EndLemmas.{mark-fault, command-open, open-request, unaccepted, untold-done, untold-commands}
 use Rattle.history_laws.proofs.OwedLemmas.{commands-stay, commands-same, command-lowers}
 
 -- what an open token's commands owe, and nothing where it has ended

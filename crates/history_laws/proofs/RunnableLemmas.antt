@@ -1,18 +1,18 @@
 -- The first runnable unit is the one that comes next, where nothing is held and a buffer set is free.
-use Rattle.std.proofs.Common.{◌≡◌, ◌⊎◌, ℕ, zero, suc, ◌+◌, ◌<◌, ◌≤◌, inl, inr, Bool, true, false, not, ◌&&◌, ◌||◌, if◌then◌else◌, List, [], ◌∷◌, ◌++◌, map, filter, find, Option, None, Some, option_map, refl, sym, ◌∙◌, ap, arith}
+use Rattle.std.proofs.Common.{◌≡◌, ◌⊎◌, ℕ, zero, suc, ◌+◌, inl, inr, Bool, true, false, not, ◌&&◌, if◌then◌else◌, List, [], ◌∷◌, map, filter, find, Option, None, Some, option_map, refl, sym, ◌∙◌, ap, arith}
 use Rattle.std.specs.List.{list_all}
 use Rattle.std.specs.Option.{option_or}
-use Rattle.std.proofs.lemmas.Bool.{cases_Bool, not-false, both_ways, or_right}
+use Rattle.std.proofs.lemmas.Bool.{cases_Bool, or_right}
 use Rattle.std.proofs.lemmas.List.Folds.{find-append}
 use Rattle.disk_split.specs.declared.span.Span.{Span}
 use Rattle.history.specs.declared.entry.Kind.{Kind}
 use Rattle.history.specs.declared.entry.Entry.{Entry}
 use Rattle.history.specs.Setup.{Setup, IsSetup}
 use Rattle.history.specs.Tokens.{Request, accepted, request, changes_bytes}
-use Rattle.history.specs.Marks.{all_from, first_from, is_outstanding, IsOutstanding, is_complete}
+use Rattle.history.specs.Marks.{all_from, first_from, is_outstanding, IsOutstanding}
 use Rattle.history.specs.Rules.{IsLegal}
-use Rattle.history.specs.Tasks.{Task, Moves, Syncs, tasks_of, is_finished, Todo, todo_of_request, todo_of, todo_before, pending, is_clear, is_task_clear, is_runnable, first_runnable, task_command}
-use Rattle.history.specs.Next.{first_open, next_task, Turn, turn_of_request, turn_of_token, next_turn}
+use Rattle.history.specs.Tasks.{Task, Moves, Syncs, tasks_of, is_finished, Todo, todo_of, todo_before, pending, is_clear, is_task_clear, is_runnable, first_runnable}
+use Rattle.history.specs.Next.{first_open, next_task, turn_of_token, next_turn}
 use Rattle.history_laws.specs.Turns.{turn_of_todo}
 use Rattle.history_laws.proofs.TokenLemmas.{request-some}
 use Rattle.history_laws.proofs.ScanLemmas.{all_from-true}

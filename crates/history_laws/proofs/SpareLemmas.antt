@@ -1,22 +1,22 @@
 -- What each entry does to all the entries that a history must still have room for.
-use Rattle.std.proofs.Common.{◌≡◌, ◌≢◌, ◌⊎◌, ℕ, zero, suc, ◌+◌, ◌-◌, ◌<◌, ◌≤◌, inl, inr, Bool, true, false, List, [], ◌∷◌, length, Option, None, Some, refl, sym, ◌∙◌, ap, arith, is_some}
+use Rattle.std.proofs.Common.{◌≡◌, ℕ, suc, ◌+◌, ◌<◌, ◌≤◌, inl, inr, Bool, true, false, List, [], ◌∷◌, length, Option, None, Some, refl, sym, ◌∙◌, arith, is_some}
 use Rattle.std.proofs.lemmas.Bool.{cases_lt, cases_Bool, eq-eqb, eqb-true, or_right, lt-ltb}
 use Rattle.efi_status.specs.declared.Status.{Status}
-use Rattle.efi_status.specs.declared.Status.TheVariants.{Success, Aborted, NoMedia}
+use Rattle.efi_status.specs.declared.Status.TheVariants.{Aborted}
 use Rattle.history.specs.declared.entry.View.{View}
 use Rattle.history.specs.declared.entry.Asked.{Asked}
 use Rattle.history.specs.declared.entry.Command.{Command}
 use Rattle.history.specs.declared.entry.Entry.{Entry}
-use Rattle.history.specs.declared.entry.Entry.TheVariants.{Accept, Refuse, Done, Fault, Collect, Cancel, Reset, Eject, Insert, Protect}
+use Rattle.history.specs.declared.entry.Entry.TheVariants.{Accept, Refuse, Done, Fault, Collect, Cancel, Reset, Eject, Insert}
 use Rattle.history.specs.Setup.{Setup, IsSetup}
-use Rattle.history.specs.Eras.{ejects, inserts, is_eject, is_insert, media_id_of, is_present}
+use Rattle.history.specs.Eras.{ejects, inserts, is_eject, is_insert, media_id_of}
 use Rattle.history.specs.Tokens.{Request, is_accept, accepted, request, is_collect_of, was_collected}
-use Rattle.history.specs.Marks.{IsOutstanding, mark_of, ending, or_else, is_same_view, has_view, status_if}
+use Rattle.history.specs.Marks.{IsOutstanding, mark_of, ending, or_else, is_same_view}
 use Rattle.history.specs.Rules.{MayCommand, MayFollow, IsLegal}
 use Rattle.history.specs.Room.{commands_owed, owed_by, token_owed, tokens_owed, media_owed, owed_entries}
 use Rattle.history_laws.proofs.CountLemmas.{inserts-none, accepted-more, accepted-same, ejects-more, ejects-same, inserts-more, inserts-same}
 use Rattle.history_laws.proofs.TokenLemmas.{accept-concerns, request-kept, request-same, request-some, collected-collect}
-use Rattle.history_laws.proofs.EndLemmas.{mark-stays, mark-next, mark-done, mark-fault, command-open, unaccepted, untold-mark}
+use Rattle.history_laws.proofs.EndLemmas.{mark-stays, mark-next, command-open, unaccepted, untold-mark}
 use Rattle.history_laws.proofs.OwedLemmas.{commands-stay}
 use Rattle.history_laws.proofs.RoomLemmas.{ended-owed, collected-owed, ended-owed-most, owed-other, tokens-same, tokens-less, tokens-fall, done-owed, fault-owed, command-owed, end-owed}
 

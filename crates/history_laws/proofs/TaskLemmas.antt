@@ -1,10 +1,9 @@
 -- When a unit is finished, and that a token is complete exactly where all its units are.
-use Rattle.std.proofs.Common.{◌≡◌, ◌≢◌, ◌⊎◌, ℕ, zero, suc, ◌+◌, ◌-◌, ◌<◌, ◌≤◌, inl, inr, Bool, true, false, ◌&&◌, ◌||◌, if◌then◌else◌, List, [], ◌∷◌, slice_get, map, Option, None, Some, option_map, refl, sym, ◌∙◌, ap, arith}
+use Rattle.std.proofs.Common.{◌≡◌, ◌≢◌, ◌⊎◌, ℕ, zero, suc, ◌-◌, ◌<◌, inl, inr, Bool, true, false, ◌&&◌, ◌||◌, if◌then◌else◌, List, [], ◌∷◌, slice_get, Option, None, Some, option_map, refl, sym, ◌∙◌, ap, arith}
 use Rattle.std.specs.List.{list_all, list_any}
-use Rattle.std.proofs.lemmas.Bool.{cases_Bool, cases_eq, and_from, and_right, or_left, eq-eqb, both_ways, le-ltb, lt-leb, le-leb, lt-ltb}
+use Rattle.std.proofs.lemmas.Bool.{cases_Bool, cases_eq, or_left}
 use Rattle.std.proofs.lemmas.List.Folds.{list_all-map}
 use Rattle.std.proofs.lemmas.Option.{slice_get-map}
-use Rattle.efi_status.specs.declared.Status.{Status}
 use Rattle.efi_status.specs.declared.Status.TheVariants.{Success}
 use Rattle.disk_split.specs.declared.span.Span.{Span}
 use Rattle.disk_split.specs.Units.{IsUnit, units_of}
@@ -12,20 +11,19 @@ use Rattle.disk_split.proofs.Shared.{are-get, units-same}
 use Rattle.disk_split.proofs.Tiling.{tile-units}
 use Rattle.disk_split.proofs.Units.{units-are}
 use Rattle.history.specs.declared.entry.Command.{Command}
-use Rattle.history.specs.declared.entry.Command.TheVariants.{Sync}
 use Rattle.history.specs.declared.entry.Entry.{Entry}
 use Rattle.history.specs.declared.entry.Entry.TheVariants.{Accept, Done}
 use Rattle.history.specs.Setup.{Setup, IsSetup}
 use Rattle.history.specs.Tokens.{Request, accepted, request, is_flush, from_of, until_of}
 use Rattle.history.specs.Commands.{is_transfer, is_sync, moves, done_commands, has_done, is_moved}
-use Rattle.history.specs.Marks.{all_from, is_request_complete, is_complete, mark_of, status_if, IsOutstanding}
-use Rattle.history.specs.Rules.{IsLegal, MayFollow}
+use Rattle.history.specs.Marks.{all_from, is_request_complete, is_complete, mark_of, status_if}
+use Rattle.history.specs.Rules.{IsLegal}
 use Rattle.history.specs.Tasks.{Task, Moves, Syncs, tasks_of, is_finished}
 use Rattle.history_laws.specs.Units.{IsUnitCommand}
 use Rattle.history_laws.proofs.CountLemmas.{accepted-none, accepted-more, accepted-same}
 use Rattle.history_laws.proofs.TokenLemmas.{is_done, has_done-stays, done_commands-same, done_commands-other, done-concerns, request-kept, request-same}
 use Rattle.history_laws.proofs.EndLemmas.{mark-accept, mark-before, mark-done}
-use Rattle.history_laws.proofs.ScanLemmas.{all_from-tiles, all_from-true, all_from-false}
+use Rattle.history_laws.proofs.ScanLemmas.{all_from-tiles}
 use Rattle.history_laws.proofs.UnitLemmas.{is_within, within-from, within-parts, unit-inside, moved-more, moved-alike}
 
 -- a request that moves bytes is complete where each of them is moved

@@ -1,18 +1,17 @@
 -- Tickets: which fetch holds a group.
-use Rattle.std.proofs.Common.{◌≡◌, ◌≢◌, ◌⊎◌, ℕ, ◌+◌, ◌<◌, ◌≤◌, inl, inr, Bool, true, false, ◌&&◌, ◌||◌, List, [], ◌∷◌, Option, None, Some, refl, sym, ◌∙◌, ap, arith, nat_eq}
-use Rattle.std.proofs.lemmas.Bool.{cases_eq, cases_Bool, and_parts, and_right, both_ways, eq-eqb, eqb-true, ne_eqb, or_from}
+use Rattle.std.proofs.Common.{◌≡◌, ◌≢◌, ◌⊎◌, ℕ, ◌<◌, ◌≤◌, inl, inr, true, false, ◌&&◌, List, [], ◌∷◌, None, Some, refl, sym, ◌∙◌, ap, arith, nat_eq}
+use Rattle.std.proofs.lemmas.Bool.{cases_eq, cases_Bool, and_parts, both_ways, eq-eqb, eqb-true, ne_eqb}
 use Rattle.history.specs.declared.entry.Command.{Command}
 use Rattle.history.specs.declared.entry.Command.TheVariants.{Fetch, Store, Put, Get, Wipe, Sync}
 use Rattle.history.specs.declared.entry.Entry.{Entry}
-use Rattle.history.specs.declared.entry.Entry.TheVariants.{Done, Fault}
+use Rattle.history.specs.declared.entry.Entry.TheVariants.{Done}
 use Rattle.history.specs.Setup.{Setup, IsSetup}
-use Rattle.history.specs.Tokens.{accepted}
-use Rattle.history.specs.Commands.{first_block, is_fetch, is_store, is_at, done_commands, has_done}
-use Rattle.history.specs.Marks.{mark_of, is_fetch_entry, fetches, ticket_of, was_fetched, was_stored, IsOutstanding, Holds, HoldsBy}
+use Rattle.history.specs.Commands.{is_fetch, is_store, is_at, done_commands, has_done}
+use Rattle.history.specs.Marks.{mark_of, is_fetch_entry, fetches, ticket_of, was_stored, Holds, HoldsBy}
 use Rattle.history.specs.Rules.{MayCommand, MayFollow, IsLegal}
 use Rattle.history_laws.specs.Gates.{is_store_at, is_store_of}
 use Rattle.history_laws.proofs.CountLemmas.{fetches-more, fetches-same}
-use Rattle.history_laws.proofs.TokenLemmas.{has_done-done, has_done-stays, has_done-same}
+use Rattle.history_laws.proofs.TokenLemmas.{has_done-stays}
 use Rattle.history_laws.proofs.EndLemmas.{accepted-rises}
 use Rattle.history_laws.proofs.HolderLemmas.{fetch-is, holds-before, fetch-holds, fetch-unheld}
 

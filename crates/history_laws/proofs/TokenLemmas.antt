@@ -1,5 +1,5 @@
 -- What an entry tells of a token: nothing new where it does not concern it.
-use Rattle.std.proofs.Common.{◌≡◌, ◌≢◌, ℕ, ◌+◌, ◌<◌, ◌⊎◌, inl, inr, Bool, true, false, ◌||◌, List, [], ◌∷◌, Option, None, Some, refl, ap, ◌∙◌, arith, nat_eq}
+use Rattle.std.proofs.Common.{◌≡◌, ◌≢◌, ℕ, ◌<◌, inl, inr, Bool, true, false, ◌||◌, List, [], ◌∷◌, Option, None, Some, refl, ap, ◌∙◌, arith, nat_eq}
 use Rattle.std.specs.List.{list_any}
 use Rattle.std.proofs.lemmas.Bool.{cases_eq, cases_Bool, ne_eqb, eq-eqb, or_right}
 use Rattle.efi_status.specs.declared.Status.{Status}
@@ -7,7 +7,7 @@ use Rattle.history.specs.declared.entry.View.{View}
 use Rattle.history.specs.declared.entry.Asked.{Asked}
 use Rattle.history.specs.declared.entry.Command.{Command}
 use Rattle.history.specs.declared.entry.Entry.{Entry}
-use Rattle.history.specs.declared.entry.Entry.TheVariants.{Accept, Refuse, Done, Fault, Collect, Cancel, Reset, Eject, Insert, Protect}
+use Rattle.history.specs.declared.entry.Entry.TheVariants.{Accept, Refuse, Done, Fault, Collect, Insert}
 use Rattle.history.specs.Setup.{Setup}
 use Rattle.history.specs.Tokens.{Request, is_accept, accepted, request, is_collect_of, was_collected}
 use Rattle.history.specs.Commands.{done_commands, has_done}
@@ -25,16 +25,10 @@ or_else-none (Some s) = refl
 -- an entry that does not concern a token does not end it
 pub ending-other : (S : Setup) (H : List Entry) (e : Entry) (t : ℕ) → concerns H e t ≡ false → ending S H e t ≡ None
 unfolding ending
-ending-other S H (Accept tag view asked bytes) t other = rw other
 ending-other S H (Refuse tag view asked media_id status) t other = refl
-ending-other S H (Done u c) t other = rw other
-ending-other S H (Fault u c done) t other = rw other
 ending-other S H (Collect tag u) t other = refl
-ending-other S H (Cancel tag view) t other = rw other
-ending-other S H (Reset tag) t other = rw other
-ending-other S H (Eject tag) t other = rw other
 ending-other S H (Insert tag media_id) t other = refl
-ending-other S H (Protect tag on) t other = rw other
+ending-other S H e t other = rw other
 
 -- it leaves the mark
 pub mark-other : (S : Setup) (H : List Entry) (e : Entry) (t : ℕ) → concerns H e t ≡ false → mark_of S (e ∷ H) t ≡ mark_of S H t
@@ -45,15 +39,10 @@ mark-other S H e t other = rw (ending-other S H e t other) (or_else-none (mark_o
 pub told-other : (S : Setup) (H : List Entry) (e : Entry) (t : ℕ) → concerns H e t ≡ false → told S (e ∷ H) t ≡ told S H t
 unfolding told request was_collected done_commands commands_of
 told-other S H (Accept tag view asked bytes) t other = rw (other, mark-other S H (Accept tag view asked bytes) t other)
-told-other S H (Refuse tag view asked media_id status) t other = rw (mark-other S H (Refuse tag view asked media_id status) t other)
 told-other S H (Done u c) t other = rw (other, mark-other S H (Done u c) t other)
 told-other S H (Fault u c done) t other = rw (other, mark-other S H (Fault u c done) t other)
 told-other S H (Collect tag u) t other = rw (other, mark-other S H (Collect tag u) t other)
-told-other S H (Cancel tag view) t other = rw (mark-other S H (Cancel tag view) t other)
-told-other S H (Reset tag) t other = rw (mark-other S H (Reset tag) t other)
-told-other S H (Eject tag) t other = rw (mark-other S H (Eject tag) t other)
-told-other S H (Insert tag media_id) t other = rw (mark-other S H (Insert tag media_id) t other)
-told-other S H (Protect tag on) t other = rw (mark-other S H (Protect tag on) t other)
+told-other S H e t other = rw (mark-other S H e t other)
 
 pub request-other : (S : Setup) (H : List Entry) (e : Entry) (t : ℕ) → concerns H e t ≡ false → request (e ∷ H) t ≡ request H t
 unfolding told
@@ -78,30 +67,14 @@ commands_of-other S H e t other = ap (λ (s : Told). s.made) (told-other S H e t
 -- nor does it change what the token read
 pub bytes_read-other : (S : Setup) (H : List Entry) (e : Entry) (t x : ℕ) → concerns H e t ≡ false → bytes_read S (e ∷ H) t x ≡ bytes_read S H t x
 unfolding bytes_read
-bytes_read-other S H (Accept tag view asked bytes) t x other = refl
-bytes_read-other S H (Refuse tag view asked media_id status) t x other = refl
 bytes_read-other S H (Done u c) t x other = rw other
-bytes_read-other S H (Fault u c done) t x other = refl
-bytes_read-other S H (Collect tag u) t x other = refl
-bytes_read-other S H (Cancel tag view) t x other = refl
-bytes_read-other S H (Reset tag) t x other = refl
-bytes_read-other S H (Eject tag) t x other = refl
-bytes_read-other S H (Insert tag media_id) t x other = refl
-bytes_read-other S H (Protect tag on) t x other = refl
+bytes_read-other S H e t x other = refl
 
 -- nor the tickets of its fetches
 pub ticket_of-other : (H : List Entry) (e : Entry) (t b : ℕ) → concerns H e t ≡ false → ticket_of (e ∷ H) t b ≡ ticket_of H t b
 unfolding ticket_of
-ticket_of-other H (Accept tag view asked bytes) t b other = refl
-ticket_of-other H (Refuse tag view asked media_id status) t b other = refl
 ticket_of-other H (Done u c) t b other = rw other
-ticket_of-other H (Fault u c done) t b other = refl
-ticket_of-other H (Collect tag u) t b other = refl
-ticket_of-other H (Cancel tag view) t b other = refl
-ticket_of-other H (Reset tag) t b other = refl
-ticket_of-other H (Eject tag) t b other = refl
-ticket_of-other H (Insert tag media_id) t b other = refl
-ticket_of-other H (Protect tag on) t b other = refl
+ticket_of-other H e t b other = refl
 
 -- an entry of token u does not concern another
 pub done-concerns : (H : List Entry) (u t : ℕ) (c : Command) → u ≢ t → concerns H (Done u c) t ≡ false
@@ -127,29 +100,13 @@ request-accept H tag view asked bytes = rw (eq-eqb (accepted H) (accepted H) ref
 pub request-kept : (H : List Entry) (e : Entry) (t : ℕ) → t ≢ accepted H → request (e ∷ H) t ≡ request H t
 unfolding request
 request-kept H (Accept tag view asked bytes) t other = rw (ne_eqb t (accepted H) other)
-request-kept H (Refuse tag view asked media_id status) t other = refl
-request-kept H (Done u c) t other = refl
-request-kept H (Fault u c done) t other = refl
-request-kept H (Collect tag u) t other = refl
-request-kept H (Cancel tag view) t other = refl
-request-kept H (Reset tag) t other = refl
-request-kept H (Eject tag) t other = refl
-request-kept H (Insert tag media_id) t other = refl
-request-kept H (Protect tag on) t other = refl
+request-kept H e t other = refl
 
 -- an entry that is no accept names no token
 pub request-same : (H : List Entry) (e : Entry) (t : ℕ) → is_accept e ≡ false → request (e ∷ H) t ≡ request H t
 unfolding request
 request-same H (Accept tag view asked bytes) t other = cc
-request-same H (Refuse tag view asked media_id status) t other = refl
-request-same H (Done u c) t other = refl
-request-same H (Fault u c done) t other = refl
-request-same H (Collect tag u) t other = refl
-request-same H (Cancel tag view) t other = refl
-request-same H (Reset tag) t other = refl
-request-same H (Eject tag) t other = refl
-request-same H (Insert tag media_id) t other = refl
-request-same H (Protect tag on) t other = refl
+request-same H e t other = refl
 
 -- a token with a request was accepted
 pub request-accepted : (H : List Entry) (t : ℕ) (r : Request) → request H t ≡ Some r → t < accepted H
@@ -161,15 +118,7 @@ request-accepted (Accept tag view asked bytes ∷ H) t r named = elim (cases_eq 
       let before : request H t ≡ Some r = rw (ne_eqb t (accepted H) other) at named in
       omega (arith, accepted-more H (Accept tag view asked bytes) refl, request-accepted H t r before)
 ]
-request-accepted (Refuse a b c d e ∷ H) t r named = omega (arith, accepted-same H (Refuse a b c d e) refl, request-accepted H t r named)
-request-accepted (Done a b ∷ H) t r named = omega (arith, accepted-same H (Done a b) refl, request-accepted H t r named)
-request-accepted (Fault a b c ∷ H) t r named = omega (arith, accepted-same H (Fault a b c) refl, request-accepted H t r named)
-request-accepted (Collect a b ∷ H) t r named = omega (arith, accepted-same H (Collect a b) refl, request-accepted H t r named)
-request-accepted (Cancel a b ∷ H) t r named = omega (arith, accepted-same H (Cancel a b) refl, request-accepted H t r named)
-request-accepted (Reset a ∷ H) t r named = omega (arith, accepted-same H (Reset a) refl, request-accepted H t r named)
-request-accepted (Eject a ∷ H) t r named = omega (arith, accepted-same H (Eject a) refl, request-accepted H t r named)
-request-accepted (Insert a b ∷ H) t r named = omega (arith, accepted-same H (Insert a b) refl, request-accepted H t r named)
-request-accepted (Protect a b ∷ H) t r named = omega (arith, accepted-same H (Protect a b) refl, request-accepted H t r named)
+request-accepted (e ∷ H) t r named = omega (arith, accepted-same H e refl, request-accepted H t r named)
 
 -- it keeps it
 pub request-stays : (H : List Entry) (e : Entry) (t : ℕ) (r : Request) → request H t ≡ Some r → request (e ∷ H) t ≡ Some r
@@ -177,15 +126,7 @@ request-stays H e t r named = request-kept H e t (λ same. absurd (omega (arith,
 
 newest-request : (H : List Entry) (e : Entry) → is_accept e ≡ true → (r : Request) × (request (e ∷ H) (accepted H) ≡ Some r)
 newest-request H (Accept tag view asked bytes) is = (record { tag = tag; view = view; asked = asked; bytes = bytes }, request-accept H tag view asked bytes)
-newest-request H (Refuse a b c d f) is = cc
-newest-request H (Done a b) is = cc
-newest-request H (Fault a b c) is = cc
-newest-request H (Collect a b) is = cc
-newest-request H (Cancel a b) is = cc
-newest-request H (Reset a) is = cc
-newest-request H (Eject a) is = cc
-newest-request H (Insert a b) is = cc
-newest-request H (Protect a b) is = cc
+newest-request H e is = cc
 
 older-request : (H : List Entry) (e : Entry) (t : ℕ) → (r : Request) × (request H t ≡ Some r) → (r : Request) × (request (e ∷ H) t ≡ Some r)
 older-request H e t (r, named) = (r, request-stays H e t r named)
@@ -218,16 +159,8 @@ is_done e = false
 -- another entry leaves the done commands of every token
 pub done_commands-same : (H : List Entry) (e : Entry) (t : ℕ) → is_done e ≡ false → done_commands (e ∷ H) t ≡ done_commands H t
 unfolding done_commands
-done_commands-same H (Accept a b c d) t isnt = refl
-done_commands-same H (Refuse a b c d e) t isnt = refl
 done_commands-same H (Done a b) t isnt = cc
-done_commands-same H (Fault a b c) t isnt = refl
-done_commands-same H (Collect a b) t isnt = refl
-done_commands-same H (Cancel a b) t isnt = refl
-done_commands-same H (Reset a) t isnt = refl
-done_commands-same H (Eject a) t isnt = refl
-done_commands-same H (Insert a b) t isnt = refl
-done_commands-same H (Protect a b) t isnt = refl
+done_commands-same H e t isnt = refl
 
 pub has_done-same : (test : Command → Bool) (H : List Entry) (e : Entry) (t : ℕ) → is_done e ≡ false → has_done test (e ∷ H) t ≡ has_done test H t
 unfolding has_done
@@ -243,15 +176,7 @@ has_done-stays test H (Done u c) t was = elim (cases_eq u t) [
   | inl same ↦ rw (← same) (has_done-done test H u c ∙ or_right (test c) (has_done test H u) (rw (← same) at was))
   | inr other ↦ has_done-unmatched test H u t c (ne_eqb u t other) ∙ was
 ]
-has_done-stays test H (Accept a b c d) t was = has_done-same test H (Accept a b c d) t refl ∙ was
-has_done-stays test H (Refuse a b c d e) t was = has_done-same test H (Refuse a b c d e) t refl ∙ was
-has_done-stays test H (Fault a b c) t was = has_done-same test H (Fault a b c) t refl ∙ was
-has_done-stays test H (Collect a b) t was = has_done-same test H (Collect a b) t refl ∙ was
-has_done-stays test H (Cancel a b) t was = has_done-same test H (Cancel a b) t refl ∙ was
-has_done-stays test H (Reset a) t was = has_done-same test H (Reset a) t refl ∙ was
-has_done-stays test H (Eject a) t was = has_done-same test H (Eject a) t refl ∙ was
-has_done-stays test H (Insert a b) t was = has_done-same test H (Insert a b) t refl ∙ was
-has_done-stays test H (Protect a b) t was = has_done-same test H (Protect a b) t refl ∙ was
+has_done-stays test H e t was = has_done-same test H e t refl ∙ was
 
 -- a token that is handed back was
 pub collected-collect : (H : List Entry) (tag t : ℕ) → was_collected (Collect tag t ∷ H) t ≡ true

@@ -1,23 +1,22 @@
 -- Each done command of a token is of one of its units, and moves the bytes of that unit and no others of the token.
-use Rattle.std.proofs.Common.{◌≡◌, ℕ, ◌+◌, ◌*◌, ◌<◌, ◌≤◌, ◌⊎◌, inl, inr, min, max, Bool, true, false, not, ◌&&◌, ◌||◌, List, [], ◌∷◌, slice_get, Option, None, Some, refl, sym, ◌∙◌, ap, subst, arith, nat_eq, nat_lt, nat_le}
+use Rattle.std.proofs.Common.{◌≡◌, ℕ, ◌+◌, ◌*◌, ◌<◌, ◌≤◌, ◌⊎◌, inl, inr, min, max, Bool, true, false, ◌&&◌, ◌||◌, List, [], ◌∷◌, Some, refl, sym, ◌∙◌, ap, subst, arith, nat_eq, nat_lt, nat_le}
 use Rattle.std.specs.List.{list_any}
-use Rattle.std.proofs.lemmas.Bool.{cases_eq, cases_lt, cases_Bool, and_parts, and_from, and_left, or_cases, both_ways, eqb-true, eq-eqb, lt-ltb, le-ltb, le-leb, lt-leb, leb-true, ltb-true, false_from_ne_true, ne_eqb, or_parts, or_from}
+use Rattle.std.proofs.lemmas.Bool.{cases_eq, cases_lt, cases_Bool, and_parts, and_from, or_cases, both_ways, eqb-true, eq-eqb, lt-ltb, le-ltb, le-leb, lt-leb, leb-true, ltb-true, false_from_ne_true, ne_eqb, or_parts, or_from}
 use Rattle.std.proofs.Math.Nat.{add-mul}
 use Rattle.disk_split.specs.declared.geometry.Geometry.{Geometry}
 use Rattle.disk_split.specs.declared.span.Span.{Span}
 use Rattle.disk_split.specs.Units.{IsGeometry, IsGroupPart, IsUnit, group_size}
 use Rattle.disk_split.proofs.Shared.{part-bytes, run-unit, units-same}
-use Rattle.history.specs.declared.entry.Kind.{Kind}
 use Rattle.history.specs.declared.entry.Command.{Command}
 use Rattle.history.specs.declared.entry.Command.TheVariants.{Fetch, Store, Put, Get, Wipe, Sync}
 use Rattle.history.specs.declared.entry.Entry.{Entry}
 use Rattle.history.specs.declared.entry.Entry.TheVariants.{Accept, Done}
 use Rattle.history.specs.Setup.{Setup, size_of, per_of, IsSetup}
-use Rattle.history.specs.Tokens.{Request, accepted, request, is_read, is_write, is_erase, changes_bytes, from_of, until_of}
+use Rattle.history.specs.Tokens.{Request, accepted, request, is_write, is_erase, changes_bytes, from_of, until_of}
 use Rattle.history.specs.Commands.{first_block, block_count, is_fetch, is_store, is_put, is_get, is_wipe, is_transfer, lies_in, moves, is_at, done_commands, has_done, is_moved}
-use Rattle.history.specs.Rules.{HasPart, HasRun, MayFetch, MayCover, MayGet, MayCommand, MayFollow, IsLegal}
+use Rattle.history.specs.Rules.{HasPart, HasRun, MayCommand, MayFollow, IsLegal}
 use Rattle.history_laws.specs.Units.{is_span_command, IsUnitCommand, IsTaskCommand, AreTaskCommands}
-use Rattle.history_laws.proofs.TokenLemmas.{done_commands-done, done_commands-other, has_done-done}
+use Rattle.history_laws.proofs.TokenLemmas.{has_done-done}
 use Rattle.history_laws.proofs.EndLemmas.{unaccepted, untold-done}
 
 -- the part of a range in one group, as a unit
@@ -55,11 +54,7 @@ find-command S r test (c ∷ cs) (one, others) some = elim (or_cases (test c) (l
 fetch-store : (S : Setup) (r : Request) (b : ℕ) (c : Command) → is_at is_fetch b c ≡ true → IsTaskCommand S r c → IsTaskCommand S r (Store b)
 fetch-store S r b (Fetch d) at (inl (u, is)) = let same : d ≡ b = eqb-true d b at in inl (u, record { unit = is.unit; block = sym same ∙ is.block; count = is.count; kind = is.kind })
 fetch-store S r b (Fetch d) at (inr (sync, flush)) = cc
-fetch-store S r b (Store d) at is = cc
-fetch-store S r b (Put d n) at is = cc
-fetch-store S r b (Get d n) at is = cc
-fetch-store S r b (Wipe d n) at is = cc
-fetch-store S r b Sync at is = cc
+fetch-store S r b c at is = cc
 
 -- a command that may be made is of a unit of its token
 pub may-task : (S : Setup) (H : List Entry) (t : ℕ) (c : Command) (r : Request) → IsSetup S → AreTaskCommands S r (done_commands H t) → request H t ≡ Some r → MayCommand S H t c → IsTaskCommand S r c
@@ -149,10 +144,10 @@ unit-alike G a z x u v is first second from until = elim (cases_Bool (is_within 
   | inr outside ↦
       outside
       ∙ sym (
-        false_from_ne_true (is_within u v.low) (λ low.
-        let (lo, hi) = within-parts u v.low low in
-        let same : u ≡ v = units-same G a z v.low u v is first second lo hi (omega arith) (omega (arith, second.some)) in
-        both_ways (is_within u x) outside (rw same (within-from v x from until)))
+      false_from_ne_true (is_within u v.low) (λ low.
+      let (lo, hi) = within-parts u v.low low in
+      let same : u ≡ v = units-same G a z v.low u v is first second lo hi (omega arith) (omega (arith, second.some)) in
+      both_ways (is_within u x) outside (rw same (within-from v x from until)))
       )
 ]
 
@@ -218,32 +213,16 @@ unmoved-undone S H t r test v is legal named unit only unmoved = none-at S r tes
 
 pub store-transfers : (c : Command) → is_store c ≡ true → is_transfer c ≡ true
 store-transfers (Store b) is = refl
-store-transfers (Fetch b) is = cc
-store-transfers (Put b n) is = cc
-store-transfers (Get b n) is = cc
-store-transfers (Wipe b n) is = cc
-store-transfers Sync is = cc
+store-transfers c is = cc
 
 pub put-transfers : (c : Command) → is_put c ≡ true → is_transfer c ≡ true
 put-transfers (Put b n) is = refl
-put-transfers (Fetch b) is = cc
-put-transfers (Store b) is = cc
-put-transfers (Get b n) is = cc
-put-transfers (Wipe b n) is = cc
-put-transfers Sync is = cc
+put-transfers c is = cc
 
 pub get-transfers : (c : Command) → is_get c ≡ true → is_transfer c ≡ true
 get-transfers (Get b n) is = refl
-get-transfers (Fetch b) is = cc
-get-transfers (Store b) is = cc
-get-transfers (Put b n) is = cc
-get-transfers (Wipe b n) is = cc
-get-transfers Sync is = cc
+get-transfers c is = cc
 
 pub wipe-transfers : (c : Command) → is_wipe c ≡ true → is_transfer c ≡ true
 wipe-transfers (Wipe b n) is = refl
-wipe-transfers (Fetch b) is = cc
-wipe-transfers (Store b) is = cc
-wipe-transfers (Put b n) is = cc
-wipe-transfers (Get b n) is = cc
-wipe-transfers Sync is = cc
+wipe-transfers c is = cc

@@ -1,28 +1,24 @@
 -- Worked histories: what the words say of them, as the rows of the model do. Each closes by computation.
 use Rattle.std.proofs.Common.{◌≡◌, ℕ, Bool, true, false, List, [], ◌∷◌, Option, None, Some, option_map, replicate, refl}
-use Rattle.std.specs.List.{list_any, count_by}
-use Rattle.efi_status.specs.declared.Status.{Status}
 use Rattle.efi_status.specs.declared.Status.TheVariants.{Success, DeviceError, WriteProtected, NoMedia, MediaChanged, Aborted, InvalidParameter, BadBufferSize}
-use Rattle.disk_split.specs.declared.geometry.Geometry.{Geometry}
 use Rattle.disk_split.specs.Units.{units_of, runs_from}
 use Rattle.history.specs.declared.entry.View.{View}
 use Rattle.history.specs.declared.entry.Kind.{Kind}
 use Rattle.history.specs.declared.entry.Kind.TheVariants.{Read, Write, Flush, Erase}
-use Rattle.history.specs.declared.entry.UnitKind.{UnitKind}
 use Rattle.history.specs.declared.entry.UnitKind.TheVariants.{Bytes, Blocks}
 use Rattle.history.specs.declared.entry.Asked.{Asked}
 use Rattle.history.specs.declared.entry.Command.{Command}
 use Rattle.history.specs.declared.entry.Command.TheVariants.{Fetch, Store, Put, Get, Wipe, Sync}
 use Rattle.history.specs.declared.entry.Entry.{Entry}
-use Rattle.history.specs.declared.entry.Entry.TheVariants.{Accept, Refuse, Done, Fault, Collect, Cancel, Reset, Eject, Insert, Protect}
-use Rattle.history.specs.Setup.{Setup, Opening}
-use Rattle.history.specs.Eras.{ejects, inserts, media_id_of, is_present, is_protected, era_count, era_commands, era_faults}
-use Rattle.history.specs.Tokens.{Request, accepted, request, was_collected}
+use Rattle.history.specs.declared.entry.Entry.TheVariants.{Accept, Done, Fault, Collect, Cancel, Reset, Eject, Insert, Protect}
+use Rattle.history.specs.Setup.{Setup}
+use Rattle.history.specs.Eras.{ejects, inserts, media_id_of, is_present, is_protected}
+use Rattle.history.specs.Tokens.{accepted, request, was_collected}
 use Rattle.history.specs.Commands.{done_commands, has_done}
 use Rattle.history.specs.Contents.{Piece, piece_in, piece_of, pieces_of, patch_all, contents, flushed_contents, kept_contents, byte_at, bytes_read}
 use Rattle.history.specs.Marks.{all_from, first_from, is_complete, ending, mark_of, is_held, fetches, ticket_of}
 use Rattle.history.specs.Rules.{refusal_of}
-use Rattle.history.specs.Tasks.{Todo, todo_of, todo_before, first_runnable}
+use Rattle.history.specs.Tasks.{todo_of, todo_before, first_runnable}
 use Rattle.history.specs.Next.{first_open, next_task, Turn, next_turn}
 use Rattle.history.specs.Room.{commands_owed, token_owed, tokens_owed, owed_entries}
 use Rattle.history_laws.specs.Turns.{turn_of_todo}

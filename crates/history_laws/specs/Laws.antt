@@ -1,5 +1,5 @@
 -- The laws of a history (own profile).
-use Rattle.std.specs.Prelude.{◌≡◌, ℕ, ◌+◌, ◌*◌, ◌<◌, ◌≤◌, Bool, true, false, not, ◌&&◌, List, ◌∷◌, length, Option, None, Some, option_map, ◌++◌, ◌⊎◌, filter}
+use Rattle.std.specs.Prelude.{◌≡◌, ℕ, ◌+◌, ◌*◌, ◌<◌, ◌≤◌, Bool, true, false, not, ◌&&◌, List, ◌∷◌, length, None, Some, option_map, ◌++◌, ◌⊎◌, filter}
 use Rattle.std.specs.List.{list_all}
 use Rattle.efi_status.specs.declared.Status.{Status}
 use Rattle.disk_split.specs.declared.span.Span.{Span}
@@ -9,7 +9,7 @@ use Rattle.history.specs.declared.entry.Asked.{Asked}
 use Rattle.history.specs.declared.entry.Command.{Command}
 use Rattle.history.specs.declared.entry.Command.TheVariants.{Fetch}
 use Rattle.history.specs.declared.entry.Entry.{Entry}
-use Rattle.history.specs.declared.entry.Entry.TheVariants.{Accept, Done, Fault, Collect, Cancel, Reset, Eject, Insert, Protect}
+use Rattle.history.specs.declared.entry.Entry.TheVariants.{Accept, Done, Fault, Collect, Cancel, Reset, Eject, Protect}
 use Rattle.history.specs.Setup.{Setup, IsSetup, size_of, per_of, first_of}
 use Rattle.history.specs.Eras.{ejects, inserts, media_id_of, era_commands, era_faults}
 use Rattle.history.specs.Tokens.{Request, is_accept, accepted, request, from_of, until_of}

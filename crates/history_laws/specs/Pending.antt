@@ -1,5 +1,5 @@
 -- Which units are left after an entry (own profile).
-use Rattle.std.specs.Prelude.{◌≡◌, ℕ, ◌<◌, ◌⊎◌, Bool, true, false, not, nat_eq, ◌&&◌, List, [], ◌∷◌, slice_get, map, Some}
+use Rattle.std.specs.Prelude.{◌≡◌, ℕ, ◌<◌, ◌⊎◌, Bool, false, not, nat_eq, ◌&&◌, List, [], ◌∷◌, slice_get, map, Some}
 use Rattle.disk_split.specs.declared.span.Span.{Span}
 use Rattle.history.specs.declared.entry.Entry.{Entry}
 use Rattle.history.specs.Setup.{Setup}

@@ -1,5 +1,5 @@
 -- Where the range of a request lies, and where its pieces do (UEFI 2.10, 13.7; own profile).
-use Rattle.std.specs.Prelude.{◌≡◌, ℕ, ◌+◌, ◌*◌, ◌<◌, ◌≤◌, true, List, [], ◌∷◌, length, Option, Some}
+use Rattle.std.specs.Prelude.{◌≡◌, ℕ, ◌+◌, ◌*◌, ◌<◌, ◌≤◌, true, List, [], ◌∷◌, length, Some}
 use Rattle.history.specs.declared.entry.Entry.{Entry}
 use Rattle.history.specs.Setup.{Setup, size_of, blocks_of, first_of}
 use Rattle.history.specs.Tokens.{Request, request, changes_bytes, from_of, until_of}
