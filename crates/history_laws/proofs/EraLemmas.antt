@@ -35,7 +35,8 @@ unfolding mark_of
 outstanding-next S H e t old =
     rw (accepted-same H e old) (ap (λ ended. nat_lt t (accepted H) && ended) (none-or (mark_of S H t) (ending S H e t)) ∙ and-assoc (nat_lt t (accepted H)) (is_none (mark_of S H t)) (is_none (ending S H e t)))
 
-none-if : (b : Bool) (status : Status) → is_none (status_if b status) ≡ not b
+-- whether an end comes
+pub none-if : (b : Bool) (status : Status) → is_none (status_if b status) ≡ not b
 none-if true status = refl
 none-if false status = refl
 

@@ -186,22 +186,6 @@ pending-finish S H t c r u is legal named of transfer =
     pending-keeps S H (Done t c) refl
     ∙ filter-alike (is_todo S (Done t c ∷ H)) (λ todo. not (is_todo_of t u todo)) (pending S H) (λ k todo there. let (q, left) = pending-is S H k todo there in finish-test S H t c r u todo q is legal named of transfer left)
 
--- an end of a token takes all its units away, and no other: a failed command
-pub pending-fault : (S : Setup) (H : List Entry) (t : ℕ) (c : Command) (done : ℕ) → mark_of S H t ≡ None → pending S (Fault t c done ∷ H) ≡ filter (λ todo. not (nat_eq todo.token t)) (pending S H)
-pending-fault S H t c done unmarked =
-    pending-keeps S H e refl
-    ∙ filter-alike (is_todo S (e ∷ H)) (λ todo. not (nat_eq todo.token t)) (pending S H) (λ k todo there. let (r, left) = pending-is S H k todo there in by todo r left (cases_eq todo.token t))
-  where
-    e : Entry
-    e = Fault t c done
-
-    by : (todo : Todo) (r : Request) → IsPending S H todo r → (todo.token ≡ t) ⊎ (todo.token ≡ t → ⊥) → is_todo S (e ∷ H) todo ≡ not (nat_eq todo.token t)
-    by todo r left (inl same) =
-        rw (eq-eqb todo.token t same) (and_left (is_outstanding S (e ∷ H) todo.token) (not (is_finished S (e ∷ H) todo.token todo.task)) (ended-test S (e ∷ H) todo.token (λ still. some-none DeviceError (sym (mark-fault S H t c done unmarked) ∙ rw same at still))))
-    by todo r left (inr other) =
-        let quiet : concerns H e todo.token ≡ false = fault-concerns H t todo.token c done (λ same. other (sym same)) in
-        rw (ne_eqb todo.token t other) (todo-stays S H e todo r left (mark-other S H e todo.token quiet ∙ left.outstanding.unmarked) (done_commands-same H e todo.token refl))
-
 -- no unit is left exactly where no token is open
 pub pending-none : (S : Setup) (H : List Entry) → IsSetup S → IsLegal S H → first_open S H ≡ None → pending S H ≡ []
 unfolding first_open

@@ -19,6 +19,7 @@ pub mod LengthLemmas
 pub mod RunnableLemmas
 pub mod PendingLemmas
 pub mod FinishLemmas
+pub mod PendingEndLemmas
 pub mod OrderLemmas
 pub mod MayLemmas
 pub mod TicketLemmas

@@ -160,7 +160,8 @@ pub pending-todo : (S : Setup) (H : List Entry) (todo : Todo) (r : Request) → 
 pending-todo S H todo r is =
     and_from (is_outstanding S H todo.token) (not (is_finished S H todo.token todo.task)) (outstanding-test S H todo.token is.outstanding) (not_from_false (is_finished S H todo.token todo.task) is.unfinished)
 
-finished-same : (S : Setup) (H H' : List Entry) (t : ℕ) (task : Task) → done_commands H' t ≡ done_commands H t → is_finished S H' t task ≡ is_finished S H t task
+-- histories that tell the same done commands of a token tell the same of its units
+pub finished-same : (S : Setup) (H H' : List Entry) (t : ℕ) (task : Task) → done_commands H' t ≡ done_commands H t → is_finished S H' t task ≡ is_finished S H t task
 unfolding has_done
 finished-same S H H' t (Moves u) same = ap (list_any (moves S u.low)) same
 finished-same S H H' t Syncs same = ap (list_any is_sync) same

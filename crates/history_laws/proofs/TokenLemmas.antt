@@ -1,5 +1,5 @@
 -- What an entry tells of a token: nothing new where it does not concern it.
-use Rattle.std.proofs.Common.{◌≡◌, ◌≢◌, ℕ, ◌<◌, inl, inr, Bool, true, false, ◌||◌, List, [], ◌∷◌, Option, None, Some, refl, ap, ◌∙◌, arith, nat_eq}
+use Rattle.std.proofs.Common.{◌≡◌, ◌≢◌, ℕ, ◌<◌, inl, inr, Bool, true, false, ◌&&◌, ◌||◌, List, [], ◌∷◌, Option, None, Some, refl, ap, ◌∙◌, arith, nat_eq}
 use Rattle.std.specs.List.{list_any}
 use Rattle.std.proofs.lemmas.Bool.{cases_eq, cases_Bool, ne_eqb, eq-eqb, or_right}
 use Rattle.efi_status.specs.declared.Status.{Status}
@@ -9,9 +9,10 @@ use Rattle.history.specs.declared.entry.Command.{Command}
 use Rattle.history.specs.declared.entry.Entry.{Entry}
 use Rattle.history.specs.declared.entry.Entry.TheVariants.{Accept, Refuse, Done, Fault, Collect, Insert}
 use Rattle.history.specs.Setup.{Setup}
+use Rattle.history.specs.Eras.{media_id_of}
 use Rattle.history.specs.Tokens.{Request, is_accept, accepted, request, is_collect_of, was_collected}
-use Rattle.history.specs.Commands.{done_commands, has_done}
-use Rattle.history.specs.Contents.{bytes_read}
+use Rattle.history.specs.Commands.{first_block, block_count, is_get, lies_in, done_commands, has_done}
+use Rattle.history.specs.Contents.{contents, byte_at, bytes_read}
 use Rattle.history.specs.Marks.{mark_of, ending, or_else, ticket_of}
 use Rattle.history.specs.Room.{commands_of}
 use Rattle.history_laws.specs.Told.{Told, told, concerns}
@@ -187,3 +188,14 @@ collected-collect H tag t = rw (eq-eqb t t refl)
 pub collected-same : (H : List Entry) (e : Entry) (t : ℕ) → is_collect_of t e ≡ false → was_collected (e ∷ H) t ≡ was_collected H t
 unfolding was_collected
 collected-same H e t isnt = rw isnt
+
+-- a done get of the token reads what its medium holds in its blocks
+pub bytes_read-get : (S : Setup) (H : List Entry) (t x : ℕ) (c : Command) → is_get c ≡ true → lies_in S (first_block c) (block_count S c) x ≡ true
+    → bytes_read S (Done t c ∷ H) t x ≡ byte_at (contents S (media_id_of H) H) x
+unfolding bytes_read
+bytes_read-get S H t x c get inside = rw (eq-eqb t t refl, get, inside)
+
+-- and nothing elsewhere, as every other command
+pub bytes_read-kept : (S : Setup) (H : List Entry) (t x : ℕ) (c : Command) → (is_get c && lies_in S (first_block c) (block_count S c) x) ≡ false → bytes_read S (Done t c ∷ H) t x ≡ bytes_read S H t x
+unfolding bytes_read
+bytes_read-kept S H t x c outside = rw (eq-eqb t t refl, outside)
