@@ -3,11 +3,11 @@ use Rattle.std.specs.Prelude.{◌≡◌, ℕ, ◌^◌, ◌<◌, List, []}
 use Rattle.hex.specs.Hex.{IsBytes}
 use Rattle.history.specs.declared.entry.View.{View}
 use Rattle.history.specs.declared.entry.Kind.{Kind}
-use Rattle.history.specs.declared.entry.Kind.TheVariants.{Read, Write, Flush}
+use Rattle.history.specs.declared.entry.Kind.TheVariants.{Read, Write, Flush, Erase}
 use Rattle.history.specs.declared.entry.UnitKind.TheVariants as unit
 use Rattle.history.specs.declared.entry.Asked.{Asked}
 use Rattle.history.specs.declared.entry.Command.{Command}
-use Rattle.history.specs.declared.entry.Command.TheVariants.{Fetch, Store, Put, Get, Sync}
+use Rattle.history.specs.declared.entry.Command.TheVariants.{Fetch, Store, Put, Get, Wipe, Sync}
 use Rattle.history.specs.declared.entry.Entry.{Entry}
 use Rattle.history.specs.declared.entry.Entry.TheVariants.{Accept, Refuse, Done, Fault, Collect, Cancel, Reset, Eject, Insert, Protect}
 use Rattle.script_text.specs.Entries.{line_text}
@@ -30,6 +30,7 @@ pub record IsShortAsked (a : Asked) : Type 0 where
 abbrev pub AsksWell : Kind → Asked → List ℕ → Type 0
 AsksWell Read asked bytes = bytes ≡ []
 AsksWell Write asked bytes = IsBytes bytes
+AsksWell Erase asked bytes = bytes ≡ []
 AsksWell Flush asked bytes = (asked.unit ≡ unit.Bytes) × (asked.at ≡ 0) × (asked.length ≡ 0) × (bytes ≡ [])
 
 abbrev pub IsShortCommand : Command → Type 0
@@ -37,6 +38,7 @@ IsShortCommand (Fetch block) = IsShort block
 IsShortCommand (Store block) = IsShort block
 IsShortCommand (Put block count) = IsShort block × IsShort count
 IsShortCommand (Get block count) = IsShort block × IsShort count
+IsShortCommand (Wipe block count) = IsShort block × IsShort count
 IsShortCommand Sync = Unit {0}
 
 -- an entry as it can be: its numbers have 64 bits, and what it accepted was asked well
@@ -52,6 +54,6 @@ IsWell (Eject tag) = IsShort tag
 IsWell (Insert tag media_id) = IsShort tag × IsShort media_id
 IsWell (Protect tag on) = IsShort tag
 
--- two entries with one line at one place are equal
+-- two entries of a disk with one line at one place are equal; its groups have so many blocks
 abbrev pub LinesTellEntries : Type 0
-LinesTellEntries = (place : ℕ) (e f : Entry) → IsShort place → IsWell e → IsWell f → line_text place e ≡ line_text place f → e ≡ f
+LinesTellEntries = (per place : ℕ) (e f : Entry) → IsShort per → IsShort place → IsWell e → IsWell f → line_text per place e ≡ line_text per place f → e ≡ f

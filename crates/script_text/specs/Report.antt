@@ -4,7 +4,7 @@ use Rattle.efi_status.specs.declared.Status.{Status}
 use Rattle.efi_status.specs.declared.Status.TheVariants.{Success}
 use Rattle.efi_status.specs.StatusTable.{name_of}
 use Rattle.history.specs.declared.entry.Entry.{Entry}
-use Rattle.history.specs.Setup.{Setup}
+use Rattle.history.specs.Setup.{Setup, size_of, per_of}
 use Rattle.history.specs.Tokens.{Request, accepted, request, is_read, from_of}
 use Rattle.history.specs.Marks.{mark_of}
 use Rattle.history.specs.Contents.{bytes_read}
@@ -32,8 +32,8 @@ unfoldable pub token_text : ℕ → Option Status → Option (List ℕ) → List
 token_text token mark given = line_of (codes "token" ∷ decimal token ∷ mark_words mark (given_words given))
 
 -- the lines of the tokens in order, with what each gave back
-abbrev pub tokens_text : ℕ → List Entry → List (Option (List ℕ)) → List ℕ
-tokens_text size H given = lines_text (λ t. token_text t (mark_of size H t)) 0 given
+abbrev pub tokens_text : Setup → List Entry → List (Option (List ℕ)) → List ℕ
+tokens_text S H given = lines_text (λ t. token_text t (mark_of S H t)) 0 given
 
 -- a medium that was kept: its id, its name, and its bytes in whole blocks
 unfoldable pub medium_text : ℕ → KeptMedium → List ℕ
@@ -44,21 +44,29 @@ abbrev pub media_text : List KeptMedium → List ℕ
 media_text media = lines_text medium_text 1 media
 
 -- the lines behind the first: entries from the oldest on, tokens, and media from id 1 on
-unfoldable pub body_text : ℕ → List Entry → List (Option (List ℕ)) → List KeptMedium → List ℕ
-body_text size H given media = entries_text (reverse H) ++ (tokens_text size H given ++ media_text media)
+unfoldable pub body_text : Setup → List Entry → List (Option (List ℕ)) → List KeptMedium → List ℕ
+body_text S H given media = entries_text (per_of S) (reverse H) ++ (tokens_text S H given ++ media_text media)
+
+-- the lines of tokens that ended so
+abbrev pub ends_text : List TokenLine → List ℕ
+ends_text ends = lines_text (λ t end. token_text t (Some end.status) end.given) 0 ends
+
+-- the lines behind the first, with groups of so many blocks
+unfoldable pub ended_text : ℕ → List Entry → List TokenLine → List KeptMedium → List ℕ
+ended_text per H ends media = entries_text per (reverse H) ++ (ends_text ends ++ media_text media)
 
 -- the report of a disk
-unfoldable pub report_text : ℕ → List ℕ → ℕ → ℕ → List Entry → List (Option (List ℕ)) → List KeptMedium → List ℕ
-report_text number image size blocks H given media = head_text number image size blocks ++ body_text size H given media
+unfoldable pub report_text : ℕ → List ℕ → Setup → ℕ → List Entry → List (Option (List ℕ)) → List KeptMedium → List ℕ
+report_text number image S blocks H given media = head_text number image (size_of S) blocks ++ body_text S H given media
 
 -- what the lines of tokens give back
 abbrev pub givens_of : List TokenLine → List (Option (List ℕ))
 givens_of tokens = map (λ line. line.given) tokens
 
 -- the lines say how the tokens ended, one for each token in order
-pub record AreEnds (size : ℕ) (H : List Entry) (tokens : List TokenLine) : Type 0 where
+pub record AreEnds (S : Setup) (H : List Entry) (tokens : List TokenLine) : Type 0 where
   pub count : length tokens ≡ accepted H
-  pub each : (t : ℕ) → IfSome (slice_get tokens t) (λ line. mark_of size H t ≡ Some line.status)
+  pub each : (t : ℕ) → IfSome (slice_get tokens t) (λ line. mark_of S H t ≡ Some line.status)
 
 abbrev pub is_success : Option Status → Bool
 is_success (Some Success) = true
@@ -69,17 +77,17 @@ is_tagged_read None = false
 is_tagged_read (Some r) = is_read r.asked.kind && not (nat_eq r.tag 0)
 
 -- the token gives its bytes back in the report: a successful read whose tag is not 0
-unfoldable pub gives_bytes : ℕ → List Entry → ℕ → Bool
-gives_bytes size H t = is_tagged_read (request H t) && is_success (mark_of size H t)
+unfoldable pub gives_bytes : Setup → List Entry → ℕ → Bool
+gives_bytes S H t = is_tagged_read (request H t) && is_success (mark_of S H t)
 
 -- these are the bytes that the token read, as far as its medium tells them
 pub record AreBytesRead (S : Setup) (H : List Entry) (t : ℕ) (r : Request) (bytes : List ℕ) : Type 0 where
   pub all : length bytes ≡ r.asked.length
-  pub each : (i : ℕ) → i < length bytes → IfSome (bytes_read S H t (from_of S.size r + i)) (λ b. slice_index bytes i ≡ b)
+  pub each : (i : ℕ) → i < length bytes → IfSome (bytes_read S H t (from_of S r + i)) (λ b. slice_index bytes i ≡ b)
 
 -- what a token gives back
 pub record IsGiven (S : Setup) (H : List Entry) (t : ℕ) (given : Option (List ℕ)) : Type 0 where
-  pub where_read : is_some given ≡ gives_bytes S.size H t
+  pub where_read : is_some given ≡ gives_bytes S H t
   pub bytes : IfSome (request H t) (λ r. IfSome given (AreBytesRead S H t r))
 
 -- one for each token in order

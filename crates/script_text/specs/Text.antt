@@ -4,7 +4,7 @@ use Rattle.hex.specs.Hex.{encode_lower}
 use Rattle.history.specs.declared.entry.View.{View}
 use Rattle.history.specs.declared.entry.Asked.{Asked}
 use Rattle.history.specs.declared.entry.Kind.{Kind}
-use Rattle.history.specs.declared.entry.Kind.TheVariants.{Read, Write, Flush}
+use Rattle.history.specs.declared.entry.Kind.TheVariants.{Read, Write, Flush, Erase}
 use Rattle.history.specs.declared.entry.UnitKind.{UnitKind}
 use Rattle.history.specs.declared.entry.UnitKind.TheVariants.{Bytes, Blocks}
 
@@ -28,6 +28,7 @@ unfoldable pub kind_text : Kind → List ℕ
 kind_text Read = codes "read"
 kind_text Write = codes "write"
 kind_text Flush = codes "flush"
+kind_text Erase = codes "erase"
 
 unfoldable pub unit_text : UnitKind → List ℕ
 unit_text Bytes = codes "bytes"

@@ -60,6 +60,7 @@ fn kind_word(kind: Kind) -> &'static str
         Kind::Read => "read",
         Kind::Write => "write",
         Kind::Flush => "flush",
+        Kind::Erase => "erase",
     }
 }
 
@@ -83,8 +84,8 @@ pub fn hex_text(alloc: Global, bytes: &[u8]) -> Result<String, AllocError>
 }
 
 /// The line of an entry. The error is want of memory.
-pub fn entry_line(alloc: Global, place: u64, entry: &Entry) -> Result<String, AllocError>
-    ensures { IfOk result (λ text. string_bytes text ≡ line_text place entry.now) }
+pub fn entry_line(alloc: Global, per: u32, place: u64, entry: &Entry) -> Result<String, AllocError>
+    ensures { IfOk result (λ text. string_bytes text ≡ line_text per place entry.now) }
 {
     match entry {
         Entry::Accept {
@@ -92,20 +93,20 @@ pub fn entry_line(alloc: Global, place: u64, entry: &Entry) -> Result<String, Al
             view,
             asked,
             bytes,
-        } => { accept_line(alloc, place, *tag, *view, *asked, bytes.as_slice()) }
+        } => { accept_line(alloc, per, place, *tag, *view, *asked, bytes.as_slice()) }
         Entry::Refuse {
             tag,
             view,
             asked,
             media_id,
             status,
-        } => { refuse_line(alloc, place, *tag, *view, *asked, *media_id, *status) }
-        Entry::Done { token, command } => done_line(alloc, place, *token, *command),
+        } => { refuse_line(alloc, per, place, *tag, *view, *asked, *media_id, *status) }
+        Entry::Done { token, command } => done_line(alloc, per, place, *token, *command),
         Entry::Fault {
             token,
             command,
             done,
-        } => fault_line(alloc, place, *token, *command, *done),
+        } => fault_line(alloc, per, place, *token, *command, *done),
         Entry::Collect { tag, token } => format!(in alloc; "{place} collect {tag} {token}\n"),
         Entry::Cancel { tag, view } => {
             let view = ViewText { view: *view };
@@ -114,12 +115,18 @@ pub fn entry_line(alloc: Global, place: u64, entry: &Entry) -> Result<String, Al
         Entry::Reset { tag } => format!(in alloc; "{place} reset {tag}\n"),
         Entry::Eject { tag } => format!(in alloc; "{place} eject {tag}\n"),
         Entry::Insert { tag, media_id } => format!(in alloc; "{place} insert {tag} {media_id}\n"),
-        Entry::Protect { tag, on } => protect_line(alloc, place, *tag, *on),
+        Entry::Protect { tag, on } => protect_line(alloc, per, place, *tag, *on),
     }
 }
 
-fn protect_line(alloc: Global, place: u64, tag: u32, on: bool) -> Result<String, AllocError>
-    ensures { IfOk result (λ text. string_bytes text ≡ line_text place (Protect tag on)) }
+fn protect_line(
+    alloc: Global,
+    per: u32,
+    place: u64,
+    tag: u32,
+    on: bool,
+) -> Result<String, AllocError>
+    ensures { IfOk result (λ text. string_bytes text ≡ line_text per place (Protect tag on)) }
 {
     if on {
         format!(in alloc; "{place} protect {tag} on\n")
@@ -130,19 +137,20 @@ fn protect_line(alloc: Global, place: u64, tag: u32, on: bool) -> Result<String,
 
 fn accept_line(
     alloc: Global,
+    per: u32,
     place: u64,
     tag: u32,
     view: View,
     asked: Asked,
     bytes: &[u8],
 ) -> Result<String, AllocError>
-    ensures { IfOk result (λ text. string_bytes text ≡ line_text place (Accept tag view asked bytes.now)) }
+    ensures { IfOk result (λ text. string_bytes text ≡ line_text per place (Accept tag view asked bytes.now)) }
 {
     let view = ViewText { view };
     let kind = asked.kind;
     let asked = AskedText { asked };
     match kind {
-        Kind::Read => format!(in alloc; "{place} accept {tag} {view} {asked}\n"),
+        Kind::Read | Kind::Erase => format!(in alloc; "{place} accept {tag} {view} {asked}\n"),
         Kind::Write => {
             let bytes = hex_text(alloc, bytes)?;
             format!(in alloc; "{place} accept {tag} {view} {asked} {bytes}\n")
@@ -153,6 +161,7 @@ fn accept_line(
 
 fn refuse_line(
     alloc: Global,
+    per: u32,
     place: u64,
     tag: u32,
     view: View,
@@ -160,7 +169,7 @@ fn refuse_line(
     media_id: u32,
     status: Status,
 ) -> Result<String, AllocError>
-    ensures { IfOk result (λ text. string_bytes text ≡ line_text place (Refuse tag view asked media_id status)) }
+    ensures { IfOk result (λ text. string_bytes text ≡ line_text per place (Refuse tag view asked media_id status)) }
 {
     let view = ViewText { view };
     let asked = AskedText { asked };
@@ -168,39 +177,52 @@ fn refuse_line(
     format!(in alloc; "{place} refuse {tag} {view} {asked} {media_id} {status}\n")
 }
 
-fn done_line(alloc: Global, place: u64, token: u64, command: Command) -> Result<String, AllocError>
-    ensures { IfOk result (λ text. string_bytes text ≡ line_text place (Done token command)) }
+fn done_line(
+    alloc: Global,
+    per: u32,
+    place: u64,
+    token: u64,
+    command: Command,
+) -> Result<String, AllocError>
+    ensures { IfOk result (λ text. string_bytes text ≡ line_text per place (Done token command)) }
 {
     match command {
         Command::Fetch { block } => format!(in alloc; "{place} fetch {token} {block}\n"),
         Command::Store { block } => format!(in alloc; "{place} store {token} {block}\n"),
         Command::Put { block, count } => format!(in alloc; "{place} put {token} {block} {count}\n"),
         Command::Get { block, count } => format!(in alloc; "{place} get {token} {block} {count}\n"),
+        Command::Wipe { block, count } => {
+            format!(in alloc; "{place} wipe {token} {block} {count}\n")
+        }
         Command::Sync => format!(in alloc; "{place} sync {token}\n"),
     }
 }
 
 fn fault_line(
     alloc: Global,
+    per: u32,
     place: u64,
     token: u64,
     command: Command,
     done: u32,
 ) -> Result<String, AllocError>
-    ensures { IfOk result (λ text. string_bytes text ≡ line_text place (Fault token command done)) }
+    ensures { IfOk result (λ text. string_bytes text ≡ line_text per place (Fault token command done)) }
 {
     match command {
         Command::Fetch { block } => {
-            format!(in alloc; "{place} fault {token} fetch {block} 1 {done}\n")
+            format!(in alloc; "{place} fault {token} fetch {block} {per} {done}\n")
         }
         Command::Store { block } => {
-            format!(in alloc; "{place} fault {token} store {block} 1 {done}\n")
+            format!(in alloc; "{place} fault {token} store {block} {per} {done}\n")
         }
         Command::Put { block, count } => {
             format!(in alloc; "{place} fault {token} put {block} {count} {done}\n")
         }
         Command::Get { block, count } => {
             format!(in alloc; "{place} fault {token} get {block} {count} {done}\n")
+        }
+        Command::Wipe { block, count } => {
+            format!(in alloc; "{place} fault {token} wipe {block} {count} {done}\n")
         }
         Command::Sync => format!(in alloc; "{place} fault {token} sync 0 0 {done}\n"),
     }

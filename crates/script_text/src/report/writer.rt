@@ -1,8 +1,9 @@
-ghost use Rattle.std.specs.Prelude.{string_bytes};
+ghost use Rattle.std.specs.Prelude.{◌≡◌, string_bytes};
 ghost use Rattle.image_store.specs.Edge.{PutsText, HasCauseOf};
+ghost use Rattle.history.specs.Setup.{Setup, per_of};
 ghost use Rattle.script_text.specs.Held.{Adds};
 ghost use Rattle.script_text.specs.Entries.{entries_text};
-ghost use Rattle.script_text.specs.Report.{head_text, body_text, tokens_text, media_text, givens_of, AreEnds};
+ghost use Rattle.script_text.specs.Report.{head_text, body_text, ended_text, ends_text, media_text, givens_of, AreEnds};
 
 use crate::grammar::plans::DiskPlan;
 use crate::report::entries::entry_line;
@@ -32,25 +33,40 @@ pub fn report_head<O: Sink>(
 }
 
 /// Writes the lines behind the first: entries, tokens and media (own profile). The token lines say how the history's
-/// tokens ended. After a fault a front of the text was written. `Failed` comes only where the sink's faults rose.
+/// tokens ended, and a group of the disk has so many blocks. After a fault a front of the text was written. `Failed`
+/// comes only where the sink's faults rose.
 pub fn report_body<O: Sink>(
     alloc: Global,
-    plan: &DiskPlan,
+    per: u32,
     history: &History,
     ends: &[TokenLine],
     media: &[KeptMedium],
     out: &mut O,
 ) -> Result<(), ReportFault>
-    requires { AreEnds plan.now.size history.now.entries ends.now }
-    ensures text { PutsText (O.wrote out.old) (O.wrote out.new) result (body_text plan.now.size history.now.entries (givens_of ends.now) media.now) }
+    ensures text { (S : Setup) → per_of S ≡ per → AreEnds S history.now.entries ends.now
+        → PutsText (O.wrote out.old) (O.wrote out.new) result (body_text S history.now.entries (givens_of ends.now) media.now) }
+    ensures cause { HasCauseOf ReportFault.Failed (O.faults out.old) (O.faults out.new) result }
+{
+    put_body(alloc, per, history, ends, media, out)
+}
+
+fn put_body<O: Sink>(
+    alloc: Global,
+    per: u32,
+    history: &History,
+    ends: &[TokenLine],
+    media: &[KeptMedium],
+    out: &mut O,
+) -> Result<(), ReportFault>
+    ensures text { PutsText (O.wrote out.old) (O.wrote out.new) result (ended_text per history.now.entries ends.now media.now) }
     ensures cause { HasCauseOf ReportFault.Failed (O.faults out.old) (O.faults out.new) result }
 {
     let mut held = String::new(alloc);
-    match add_entries(alloc, history.entries(), &mut held, out) {
+    match add_entries(alloc, per, history.entries(), &mut held, out) {
         Ok(()) => {}
         Err(fault) => return Err(fault),
     }
-    match add_tokens(alloc, plan.size, history, ends, &mut held, out) {
+    match add_tokens(alloc, ends, &mut held, out) {
         Ok(()) => {}
         Err(fault) => return Err(fault),
     }
@@ -62,15 +78,16 @@ pub fn report_body<O: Sink>(
 
 pub fn add_entries<O: Sink>(
     alloc: Global,
+    per: u32,
     entries: &[Entry],
     held: &mut String,
     out: &mut O,
 ) -> Result<(), ReportFault>
-    ensures text { Adds (O.wrote out.old) (string_bytes held.old) result (O.wrote out.new) (string_bytes held.new) (entries_text entries.now) }
+    ensures text { Adds (O.wrote out.old) (string_bytes held.old) result (O.wrote out.new) (string_bytes held.new) (entries_text per entries.now) }
     ensures cause { HasCauseOf ReportFault.Failed (O.faults out.old) (O.faults out.new) result }
 {
     for (place, entry) in entries.iter().enumerate() {
-        match pieces::add_made(held, out, entry_line(alloc, place as u64, entry)) {
+        match pieces::add_made(held, out, entry_line(alloc, per, place as u64, entry)) {
             Ok(()) => {}
             Err(fault) => return Err(fault),
         }
@@ -80,14 +97,11 @@ pub fn add_entries<O: Sink>(
 
 fn add_tokens<O: Sink>(
     alloc: Global,
-    size: u32,
-    history: &History,
     ends: &[TokenLine],
     held: &mut String,
     out: &mut O,
 ) -> Result<(), ReportFault>
-    requires { AreEnds size history.now.entries ends.now }
-    ensures text { Adds (O.wrote out.old) (string_bytes held.old) result (O.wrote out.new) (string_bytes held.new) (tokens_text size history.now.entries (givens_of ends.now)) }
+    ensures text { Adds (O.wrote out.old) (string_bytes held.old) result (O.wrote out.new) (string_bytes held.new) (ends_text ends.now) }
     ensures cause { HasCauseOf ReportFault.Failed (O.faults out.old) (O.faults out.new) result }
 {
     for (token, end) in ends.iter().enumerate() {

@@ -1,4 +1,4 @@
-ghost use Rattle.std.specs.Prelude.{◌≡◌, reverse, IfOk};
+ghost use Rattle.std.specs.Prelude.{◌≡◌, false, [], reverse, IfOk};
 ghost use Rattle.script_text.specs.Report.{AreEnds};
 
 use super::NAME_OF_255;
@@ -71,6 +71,13 @@ const FLUSH: Asked = Asked {
     length: 0,
 };
 
+const ERASED: Asked = Asked {
+    kind: Kind::Erase,
+    unit: UnitKind::Blocks,
+    at: 1,
+    length: 512,
+};
+
 const FAILED: Asked = Asked {
     kind: Kind::Write,
     unit: UnitKind::Bytes,
@@ -98,7 +105,7 @@ struct Sample {
 
 // Entries and tokens of every kind.
 fn make_sample(alloc: Global) -> Result<Sample, AllocError>
-    ensures { IfOk result (λ sample. AreEnds 512 sample.history.entries sample.ends.items) }
+    ensures { IfOk result (λ sample. AreEnds (record { geometry = record { size = 512; per = 1 }; cached = false; protected = false; media = [] }) sample.history.entries sample.ends.items) }
 {
     let written = Bytes::copy_of(alloc, &[0xAA, 0xBB, 0x0C, 0xDD])?;
     let failed = Bytes::copy_of(alloc, &[0x5E])?;
@@ -221,6 +228,28 @@ fn make_sample(alloc: Global) -> Result<Sample, AllocError>
         },
         Entry::Protect { tag: 10, on: true },
         Entry::Protect { tag: 11, on: false },
+        Entry::Accept {
+            tag: 5,
+            view: WHOLE,
+            asked: ERASED,
+            bytes: Bytes::from_vec(Vec::new(alloc))
+        },
+        Entry::Done {
+            token: 7,
+            command: Command::Wipe { block: 1, count: 1 }
+        },
+        Entry::Fault {
+            token: 6,
+            command: Command::Wipe { block: 1, count: 4 },
+            done: 2
+        },
+        Entry::Refuse {
+            tag: 5,
+            view: WHOLE,
+            asked: ERASED,
+            media_id: 3,
+            status: Status::WriteProtected
+        },
     ]?;
     let given = Bytes::copy_of(alloc, &[0, 0, 0xAA, 0xBB, 0x0C, 0xDD, 0, 0])?;
     let ends = vec![in alloc;
@@ -250,6 +279,10 @@ fn make_sample(alloc: Global) -> Result<Sample, AllocError>
         },
         TokenLine {
             status: Status::DeviceError,
+            given: None
+        },
+        TokenLine {
+            status: Status::Success,
             given: None
         },
     ]?;
@@ -284,6 +317,10 @@ const LINES: &str = "0 accept 1 0+1024@1/0 write bytes 510 4 aabb0cdd
 24 insert 9 2
 25 protect 10 on
 26 protect 11 off
+27 accept 5 0+1024@1/0 erase blocks 1 512
+28 wipe 7 1 1
+29 fault 6 wipe 1 4 2
+30 refuse 5 0+1024@1/0 erase blocks 1 512 3 EFI_WRITE_PROTECTED
 token 0 EFI_SUCCESS
 token 1 EFI_SUCCESS
 token 2 EFI_SUCCESS 0000aabb0cdd0000
@@ -291,6 +328,7 @@ token 3 EFI_SUCCESS -
 token 4 EFI_ABORTED
 token 5 EFI_SUCCESS
 token 6 EFI_DEVICE_ERROR
+token 7 EFI_SUCCESS
 ";
 
 #[test]
@@ -316,13 +354,33 @@ fn whole_report(rt: HostRuntime) -> Result<(), Fail> {
     let mut out = MemSink::make(alloc, Vec::new(alloc));
     assert_eq!(rt; report_head(alloc, 3, &plan, 2, &mut out), Ok(()));
     assert_eq!(rt;
-        report_body(alloc, &plan, &history, &ends, &media, &mut out),
+        report_body(alloc, 1, &history, &ends, &media, &mut out),
         Ok(())
     );
     let expected = format!(in alloc;
         "disk 3 {NAME_OF_255} size 512 blocks 2\n{LINES}medium 1 {NAME_OF_255} kept 1024\nmedium 2 b.img kept 512\n"
     )?;
     assert_eq!(rt; out.bytes(), expected.as_bytes());
+    Ok(())
+}
+
+// A fault of a fetch or a store has the blocks of a group.
+#[test]
+fn faults_of_groups(rt: HostRuntime) -> Result<(), Fail> {
+    let alloc = rt.alloc();
+    let rows = [
+        (Command::Fetch { block: 8 }, 0, "3 fault 2 fetch 8 8 0\n"),
+        (Command::Store { block: 16 }, 1, "3 fault 2 store 16 8 1\n"),
+    ];
+    for (command, done, expected) in rows {
+        let fault = Entry::Fault {
+            token: 2,
+            command,
+            done,
+        };
+        let line = entry_line(alloc, 8, 3, &fault)?;
+        assert_eq!(rt; line.as_str(), expected);
+    }
     Ok(())
 }
 
@@ -336,7 +394,7 @@ fn sink_that_fails(rt: HostRuntime) -> Result<(), Fail> {
     for failing in 0..4 {
         let mut held = String::new(alloc);
         let mut out = MemSink::make(alloc, vec![in alloc; failing]?);
-        let added = add_entries(alloc, &entries, &mut held, &mut out);
+        let added = add_entries(alloc, 1, &entries, &mut held, &mut out);
         let put = match added {
             Ok(()) => pieces::put(&mut out, held.as_str()),
             Err(fault) => Err(fault),
@@ -349,7 +407,7 @@ fn sink_that_fails(rt: HostRuntime) -> Result<(), Fail> {
                 Ok(())
             }
         );
-        let first = entry_line(alloc, 0, &Entry::Reset { tag: 0 })?;
+        let first = entry_line(alloc, 1, 0, &Entry::Reset { tag: 0 })?;
         assert_eq!(rt; out.bytes().starts_with(first.as_bytes()), failing > 0);
     }
     Ok(())

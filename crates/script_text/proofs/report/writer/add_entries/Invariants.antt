@@ -5,6 +5,6 @@ use Rattle.script_text.proofs.report.writer.add_entries.Given as goal
 
 abbrev pub invariant-loop-place : goal.invariant-loop-place
 invariant-loop-place g l = record {
-  added : HasAdded line_text 0 l.entries l.place (g.O.Sink.wrote l.initial.out) (g.O.Sink.wrote l.out) (string_bytes l.initial.held) (string_bytes l.held);
+  added : HasAdded (line_text l.per) 0 l.entries l.place (g.O.Sink.wrote l.initial.out) (g.O.Sink.wrote l.out) (string_bytes l.initial.held) (string_bytes l.held);
   later : g.O.Sink.faults l.initial.out ≤ g.O.Sink.faults l.out;
 }

@@ -1,7 +1,6 @@
-use Rattle.std.proofs.Common.{string_bytes, arith}
+use Rattle.std.proofs.Common.{arith}
 use Rattle.script_text.specs.Held.{Adds}
 use Rattle.script_text.proofs.LineLoops.{none_added, one_added, stopped_in, all_added}
-use Rattle.script_text.proofs.Tokens.{of_givens, front_of_givens, line_of_end}
 use Rattle.script_text.proofs.Causes.{earlier_cause}
 use Rattle.script_text.proofs.report.writer.add_tokens.Goals as goal
 
@@ -11,9 +10,7 @@ loop-token-init g c = record { added = none_added _ _ _ _ _; later = omega arith
 pub returns-in-Err-clause-text : goal.returns-in-Err-clause-text
 unfolding Adds
 returns-in-Err-clause-text g c =
-    front_of_givens _ _ _ _ _ _
-    (stopped_in _ _ _ _ _ _ _ _ _ _ _ c.loop-token.invariant.added c.loop-token-test.true c.index-ends-token.is (omega arith)
-    (c.in-Err.ensures.text _ (line_of_end string_bytes _ _ _ _ _ _ c.requires c.loop-token-test.true c.index-ends-token.is c.token_line.ensures)))
+    stopped_in _ _ _ _ _ _ _ _ _ _ _ c.loop-token.invariant.added c.loop-token-test.true c.index-ends-token.is (omega arith) (c.in-Err.ensures.text _ c.token_line.ensures)
 
 pub returns-in-Err-clause-cause : goal.returns-in-Err-clause-cause
 returns-in-Err-clause-cause g c = earlier_cause _ _ _ _ _ c.loop-token.invariant.later c.in-Err.ensures.cause
@@ -21,12 +18,10 @@ returns-in-Err-clause-cause g c = earlier_cause _ _ _ _ _ c.loop-token.invariant
 pub loop-token-preserved : goal.loop-token-preserved
 unfolding Adds
 loop-token-preserved g c = record {
-  added =
-      one_added _ _ _ _ _ _ _ _ _ _ _ _ c.loop-token.invariant.added c.loop-token-test.true c.index-ends-token.is (omega arith)
-      (c.in-Ok.ensures.text _ (line_of_end string_bytes _ _ _ _ _ _ c.requires c.loop-token-test.true c.index-ends-token.is c.token_line.ensures));
+  added = one_added _ _ _ _ _ _ _ _ _ _ _ _ c.loop-token.invariant.added c.loop-token-test.true c.index-ends-token.is (omega arith) (c.in-Ok.ensures.text _ c.token_line.ensures);
   later = omega (arith, c.in-Ok.ensures.cause.later);
 }
 
 pub returns-clause-text : goal.returns-clause-text
 unfolding Adds
-returns-clause-text g c = of_givens _ _ _ _ _ _ _ (all_added _ _ _ _ _ _ _ _ c.loop-token.invariant.added c.loop-token-test.false)
+returns-clause-text g c = all_added _ _ _ _ _ _ _ _ c.loop-token.invariant.added c.loop-token-test.false
