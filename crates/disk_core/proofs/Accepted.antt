@@ -8,26 +8,30 @@ use Rattle.history.specs.declared.entry.Asked.{Asked}
 use Rattle.history.specs.declared.entry.UnitKind.TheVariants.{Bytes}
 use Rattle.history.specs.declared.entry.Entry.{Entry}
 use Rattle.history.specs.declared.entry.Entry.TheVariants.{Accept}
-use Rattle.history.specs.Setup.{Setup, blocks_of}
-use Rattle.history.specs.Tokens.{accepted, request, is_flush, is_write, from_of}
-use Rattle.history.specs.Marks.{mark_of, ending, status_if, is_moved, is_complete, all_from}
+use Rattle.history.specs.Setup.{Setup, size_of, blocks_of}
+use Rattle.history.specs.Tokens.{accepted, changes_bytes, from_of}
+use Rattle.history.specs.Commands.{moves, is_moved}
+use Rattle.history.specs.Marks.{mark_of, status_if, is_complete, all_from}
 use Rattle.history.specs.Rules.{IsLegal, refusal_of}
+use Rattle.history_laws.proofs.TokenLemmas.{request-accept, has_done-same}
+use Rattle.history_laws.proofs.EndLemmas.{mark-accept, unaccepted, untold-has_done}
+use Rattle.history_laws.proofs.ScanLemmas.{all_from-false}
+use Rattle.history_laws.proofs.TaskLemmas.{complete-moved}
 use Rattle.disk_core.specs.declared.record.Record.{Record}
 use Rattle.disk_core.specs.Sound.{IsPlain}
-use Rattle.disk_core.specs.Submitting.{plain_refusal, is_beyond, IsMoving}
-use Rattle.disk_core.proofs.Born.{IsUnborn, unborn}
-use Rattle.disk_core.proofs.Moved.{all_from-false}
+use Rattle.disk_core.specs.Submitting.{has_buffer, plain_refusal, is_beyond, IsMoving}
+use Rattle.disk_core.proofs.Tracked.{buffered}
 
 -- where medium 1 is in and not protected, a request for bytes is refused by its medium id and its range
-pub refusal-is : (S : Setup) (H : List Entry) (view : View) (media_id : ℕ) (asked : Asked) → IsPlain S H → is_flush asked.kind ≡ false → asked.unit ≡ Bytes
-    → refusal_of S H view asked media_id ≡ plain_refusal (blocks_of S 1 * S.size) view media_id asked.at asked.length
+pub refusal-is : (S : Setup) (H : List Entry) (view : View) (media_id : ℕ) (asked : Asked) → IsPlain S H → has_buffer asked.kind ≡ true → asked.unit ≡ Bytes
+    → refusal_of S H view asked media_id ≡ plain_refusal (blocks_of S 1 * size_of S) view media_id asked.at asked.length
 unfolding refusal_of
 refusal-is S H view media_id asked plain moving bytes =
-    rw (plain.ejects, plain.inserts, plain.unprotected, moving, bytes) (by (is_write asked.kind))
+    rw (plain.ejects, plain.inserts, plain.unprotected, buffered asked.kind moving, bytes) (by (changes_bytes asked.kind))
   where
     by : (w : Bool)
-        → (if not (nat_eq media_id 1 && nat_eq view.media_id 1) then Some MediaChanged else (if w && false then Some WriteProtected else (if is_beyond (blocks_of S 1 * S.size) view asked.at asked.length then Some InvalidParameter else None)))
-        ≡ plain_refusal (blocks_of S 1 * S.size) view media_id asked.at asked.length
+        → (if not (nat_eq media_id 1 && nat_eq view.media_id 1) then Some MediaChanged else (if w && false then Some WriteProtected else (if is_beyond (blocks_of S 1 * size_of S) view asked.at asked.length then Some InvalidParameter else None)))
+        ≡ plain_refusal (blocks_of S 1 * size_of S) view media_id asked.at asked.length
     by true = refl
     by false = refl
 
@@ -62,8 +66,8 @@ within-range total view media_id at n is =
     omega (arith, ltb-false total (view.start + view.length) second.0, ltb-false view.length at second.1, ltb-false (view.length - at) n first.1)
 
 -- the medium id of the view does as well as the one given
-pub view-refusal : (S : Setup) (H : List Entry) (view : View) (media_id : ℕ) (asked : Asked) → IsPlain S H → is_flush asked.kind ≡ false → asked.unit ≡ Bytes
-    → IsWithin (blocks_of S 1 * S.size) view media_id asked.at asked.length → refusal_of S H view asked view.media_id ≡ None
+pub view-refusal : (S : Setup) (H : List Entry) (view : View) (media_id : ℕ) (asked : Asked) → IsPlain S H → has_buffer asked.kind ≡ true → asked.unit ≡ Bytes
+    → IsWithin (blocks_of S 1 * size_of S) view media_id asked.at asked.length → refusal_of S H view asked view.media_id ≡ None
 view-refusal S H view media_id asked plain moving bytes is =
     refusal-is S H view view.media_id asked plain moving bytes ∙ (rw (is.view_is, is.beyond) refl)
 
@@ -80,37 +84,30 @@ last-or (y ∷ records) r x (suc t) is = elim (last-or records r x t is) [
 pub record IsNew (S : Setup) (asked : Asked) (view : View) (buffer : List ℕ) (r : Record) : Type 0 where
   pub kind : r.kind ≡ asked.kind
   pub from : r.from ≡ view.start + asked.at
-  pub units : r.units.items ≡ units_of S.size (view.start + asked.at) (view.start + asked.at + length buffer)
+  pub units : r.units.items ≡ units_of S.geometry (view.start + asked.at) (view.start + asked.at + length buffer)
   pub finished : r.finished ≡ 0
   pub status : r.status ≡ (if nat_eq (length buffer) 0 then Some Success else None)
   pub collected : r.collected ≡ false
   pub bytes : r.buffer.items ≡ buffer
 
-pub request-new : (H : List Entry) (tag : ℕ) (view : View) (asked : Asked) (bytes : List ℕ) → request (Accept tag view asked bytes ∷ H) (accepted H) ≡ Some (record { tag = tag; view = view; asked = asked; bytes = bytes })
-unfolding request
-request-new H tag view asked bytes = rw (eq-eqb (accepted H) (accepted H) refl)
+complete-new : (S : Setup) (H : List Entry) (tag : ℕ) (view : View) (asked : Asked) (bytes : List ℕ) → has_buffer asked.kind ≡ true
+    → is_complete S (Accept tag view asked bytes ∷ H) (accepted H) ≡ all_from (is_moved S (Accept tag view asked bytes ∷ H) (accepted H)) (from_of S (record { tag = tag; view = view; asked = asked; bytes = bytes })) asked.length
+complete-new S H tag view asked bytes moving = complete-moved S (Accept tag view asked bytes ∷ H) (accepted H) (record { tag = tag; view = view; asked = asked; bytes = bytes }) (request-accept H tag view asked bytes) (buffered asked.kind moving)
 
-same-marks : (S : Setup) (H : List Entry) (tag : ℕ) (view : View) (asked : Asked) (bytes : List ℕ) (x : ℕ) → is_moved S.size (Accept tag view asked bytes ∷ H) (accepted H) x ≡ is_moved S.size H (accepted H) x
-unfolding is_moved
-same-marks S H tag view asked bytes x = refl
-
-empty : (test : ℕ → Bool) (a : ℕ) → status_if (all_from test a 0) Success ≡ Some Success
+-- the status of as many bytes of which the first is not moved
+first-status : (test : ℕ → Bool) (first n m : ℕ) → n ≡ m → test first ≡ false → status_if (all_from test first n) Success ≡ (if nat_eq m 0 then Some Success else None)
 unfolding all_from
-empty test a = refl
+first-status test first n m same unmoved = elim (cases_eq n 0) [
+  | inl none ↦ rw (none, eq-eqb m 0 (sym same ∙ none)) refl
+  | inr some ↦ rw (ne_eqb m 0 (λ e. some (same ∙ e)), all_from-false test first n first (omega arith) (omega (arith, some)) unmoved) refl
+]
 
+-- a new token of a request of no bytes has ended, and another is open
 pub mark-new : (S : Setup) (H : List Entry) (tag : ℕ) (view : View) (asked : Asked) (bytes : List ℕ) (buffer : List ℕ) → IsLegal S H → IsMoving asked buffer
-    → mark_of S.size (Accept tag view asked bytes ∷ H) (accepted H) ≡ (if nat_eq (length buffer) 0 then Some Success else None)
-unfolding mark_of ending is_complete is_moved
+    → mark_of S (Accept tag view asked bytes ∷ H) (accepted H) ≡ (if nat_eq (length buffer) 0 then Some Success else None)
 mark-new S H tag view asked bytes buffer legal is =
-    let born : IsUnborn S H (accepted H) = unborn S H (accepted H) legal (omega arith) in
-    rw (born.unmarked, eq-eqb (accepted H) (accepted H) refl, request-new H tag view asked bytes, is.moving) (by (cases_eq asked.length 0) born)
-  where
-    by : (asked.length ≡ 0) ⊎ (asked.length ≡ 0 → ⊥) → IsUnborn S H (accepted H)
-        → status_if (all_from (is_moved S.size (Accept tag view asked bytes ∷ H) (accepted H)) (from_of S.size (record { tag = tag; view = view; asked = asked; bytes = bytes })) asked.length) Success
-        ≡ (if nat_eq (length buffer) 0 then Some Success else None)
-    by (inl none) born = rw (none, eq-eqb (length buffer) 0 (sym is.long ∙ none)) (empty (is_moved S.size (Accept tag view asked bytes ∷ H) (accepted H)) (from_of S.size (record { tag = tag; view = view; asked = asked; bytes = bytes })))
-    by (inr some) born =
-        let first : ℕ = from_of S.size (record { tag = tag; view = view; asked = asked; bytes = bytes }) in
-        rw (ne_eqb (length buffer) 0 (λ e. some (is.long ∙ e)))
-        (ap (λ b. status_if b Success)
-        (all_from-false (is_moved S.size (Accept tag view asked bytes ∷ H) (accepted H)) first asked.length first (omega arith) (omega (arith, some)) (same-marks S H tag view asked bytes first ∙ born.unmoved first)))
+    let first : ℕ = from_of S (record { tag = tag; view = view; asked = asked; bytes = bytes }) in
+    mark-accept S H tag view asked bytes legal
+    ∙ (ap (λ b. status_if b Success) (complete-new S H tag view asked bytes is.moving)
+    ∙ first-status (is_moved S (Accept tag view asked bytes ∷ H) (accepted H)) first asked.length (length buffer) is.long
+    (has_done-same (moves S first) H (Accept tag view asked bytes) (accepted H) refl ∙ untold-has_done S (moves S first) H (accepted H) (unaccepted S H (accepted H) legal (omega arith))))

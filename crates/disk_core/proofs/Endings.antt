@@ -1,39 +1,42 @@
 -- How a command ends: what its end leaves, a failed command, and a done one of a write.
-use Rattle.std.proofs.Common.{inr, ◌≡◌, ℕ, ◌+◌, ◌^◌, ◌<◌, ◌≤◌, Bool, true, false, List, ◌∷◌, slice_get, set, length, Option, None, Some, Ok, Err, refl, sym, ◌∙◌, ap, arith, if◌then◌else◌, get_or}
+use Rattle.std.proofs.Common.{inl, inr, ◌≡◌, ℕ, zero, suc, ◌+◌, ◌^◌, ◌<◌, ◌≤◌, Bool, true, false, List, ◌∷◌, slice_get, set, length, Option, None, Some, Ok, Err, refl, sym, ◌∙◌, ap, arith, if◌then◌else◌, get_or, nat_eq}
+use Rattle.std.proofs.lemmas.Bool.{cases_eq}
+use Rattle.efi_status.specs.declared.Status.TheVariants.{Success}
 use Rattle.disk_split.specs.declared.span.Span.{Span}
 use Rattle.medium.specs.declared.block_failed.BlockFailed.{BlockFailed}
 use Rattle.medium.specs.Device.{Device, IsShaped, IsCommand, StayPrepared}
 use Rattle.history.specs.declared.entry.Kind.{Kind}
-use Rattle.history.specs.declared.entry.Kind.TheVariants.{Read, Write, Flush}
+use Rattle.history.specs.declared.entry.Kind.TheVariants.{Read, Write, Flush, Erase}
 use Rattle.history.specs.declared.entry.Command.{Command}
-use Rattle.history.specs.declared.entry.Command.TheVariants.{Fetch, Store, Put, Get, Sync}
+use Rattle.history.specs.declared.entry.Command.TheVariants.{Fetch, Store, Put, Get, Wipe, Sync}
 use Rattle.history.specs.declared.entry.Entry.{Entry}
 use Rattle.history.specs.declared.entry.Entry.TheVariants.{Done, Fault}
-use Rattle.history.specs.Setup.{Setup}
-use Rattle.history.specs.Tokens.{Request}
+use Rattle.history.specs.Setup.{Setup, IsSetup}
+use Rattle.history.specs.Tokens.{Request, accepted}
 use Rattle.history.specs.Contents.{contents}
-use Rattle.history.specs.Contents.{lies_in}
-use Rattle.history.specs.Marks.{moves}
-use Rattle.history.specs.Room.{span_owed}
-use Rattle.history.specs.Rules.{MayFollow, MayCommand, StopsAt}
+use Rattle.history.specs.Commands.{is_sync}
+use Rattle.history.specs.Marks.{mark_of}
+use Rattle.history.specs.Room.{token_owed, tokens_owed, owed_entries}
+use Rattle.history.specs.Rules.{IsLegal, MayFollow, MayCommand, StopsAt}
 use Rattle.history.specs.Next.{next_turn, Made, Failed}
+use Rattle.history_laws.proofs.RoomLemmas.{open-owed}
+use Rattle.history_laws.proofs.SpareLemmas.{entries-done, entries-done-end, entries-fault}
 use Rattle.disk_core.specs.declared.answers.Step.TheVariants as step
 use Rattle.disk_core.specs.declared.record.Record.{Record}
 use Rattle.disk_core.specs.declared.record.Core.{Core}
 use Rattle.disk_core.specs.Bookkeeping.{finished_record, failed_record, end_paid}
 use Rattle.disk_core.specs.Sound.{IsSound, Tracks}
 use Rattle.disk_core.specs.Calls.{Fills, is_fetched}
+use Rattle.disk_core.specs.Submitting.{has_buffer}
 use Rattle.disk_core.specs.Stepping.{NextUnit, SameButBuffer, Stepped, buffers_of}
 use Rattle.disk_core.proofs.Facts.{next-of}
-use Rattle.disk_core.proofs.Followed.{meets-command, is_fault, IsCommandEntry}
+use Rattle.disk_core.proofs.Followed.{meets-command, done-command, fault-command}
 use Rattle.disk_core.proofs.Gates.{NoneHeld, gate-none, none-after-fault}
 use Rattle.disk_core.proofs.May.{IsNext}
-use Rattle.disk_core.proofs.Own.{done-owed, finish-owed, fault-owed}
 use Rattle.disk_core.proofs.Places.{get-set-same}
-use Rattle.disk_core.proofs.Spent.{next-owes}
-use Rattle.disk_core.proofs.Stepped.{done-own, fault-own, owed-falls}
+use Rattle.disk_core.proofs.Stepped.{done-own, fault-own}
 use Rattle.std.proofs.lemmas.Option.{get_or_from_slice_get, slice_get_read}
-use Rattle.disk_core.proofs.Tracked.{Finishes, tracks-unit, tracks-fault}
+use Rattle.disk_core.proofs.Tracked.{MovesUnit, Finishes, tracks-unit, tracks-fault}
 use Rattle.disk_core.proofs.Turned.{did, buffers-same}
 
 -- what the end of a command leaves of the disk, beside its medium, where so many entries more than its own are owed no longer
@@ -88,7 +91,7 @@ pub may-done : (S : Setup) (H : List Entry) (t : ℕ) (command : Command) → Ma
 unfolding MayFollow
 may-done S H t command may = may
 
-pub may-fault : (S : Setup) (H : List Entry) (t : ℕ) (command : Command) (done : ℕ) → MayCommand S H t command → StopsAt command done → MayFollow S H (Fault t command done)
+pub may-fault : (S : Setup) (H : List Entry) (t : ℕ) (command : Command) (done : ℕ) → MayCommand S H t command → StopsAt S command done → MayFollow S H (Fault t command done)
 unfolding MayFollow
 may-fault S H t command done may stops = (may, stops)
 
@@ -97,6 +100,7 @@ fills-failed S H t (Fetch b) done old new same = same
 fills-failed S H t (Store b) done old new same = same
 fills-failed S H t (Put b n) done old new same = same
 fills-failed S H t (Get b n) done old new same = same
+fills-failed S H t (Wipe b n) done old new same = same
 fills-failed S H t Sync done old new same = same
 
 not-fetched : (command : Command) (done : ℕ) → is_fetched command (Failed done) ≡ false
@@ -104,6 +108,7 @@ not-fetched (Fetch b) done = refl
 not-fetched (Store b) done = refl
 not-fetched (Put b n) done = refl
 not-fetched (Get b n) done = refl
+not-fetched (Wipe b n) done = refl
 not-fetched Sync done = refl
 
 pub made-failed : (done : ℕ) → Made ≡ Failed done → ⊥
@@ -113,16 +118,16 @@ made-failed done e = cc
 pub faulted : (S : Setup) (d d' : Device) (prepared prepared' : ℕ → Type 0) (c c' : Core) (r r' : Record) (q : Request) (u : Span) (command : Command) (done : ℕ) (failure : BlockFailed)
     → IsSound S d prepared c → StayPrepared prepared prepared' → IsNext S c.history.entries c.first r q u → slice_get c.records.items c.first ≡ Some r
     → SameButBuffer r r' → r'.buffer.items ≡ r.buffer.items → IsCommand d (Err failure) d'
-    → MayCommand S c.history.entries c.first command → StopsAt command done
+    → MayCommand S c.history.entries c.first command → StopsAt S command done
     → d'.now ≡ contents S 1 (Fault c.first command done ∷ c.history.entries) → d'.kept ≡ (if d.cached then d.kept else d'.now)
-    → next_turn S.size c.history.entries ≡ Some (record { token = c.first; command = command })
+    → next_turn S c.history.entries ≡ Some (record { token = c.first; command = command })
     → Ends c c' (Fault c.first command done) (failed_record r') 1
     → Stepped S d d' prepared' c c' step.Did
 faulted S d d' prepared prepared' c c' r r' q u command done failure sound stay is was same bytes made may stops now kept next ends =
     let H = c.history.entries in
     let tracks : Tracks S H c.first r q = is.tracks in
     let few : length H + 1 < 2 ^ 63 = omega (arith, sound.few, ends.spare) in
-    let none : NoneHeld S.size (Fault c.first command done ∷ H) =
+    let none : NoneHeld S (Fault c.first command done ∷ H) =
     none-after-fault S H c.first command done (λ t b holds. (sound.gate.only t b holds).0) (tracks.status ∙ is.unended) in
     did S d d' prepared prepared' c c' (Fault c.first command done) r (failed_record r') q (record { token = c.first; command = command }) (Failed done) sound stay
     (record {
@@ -134,31 +139,38 @@ faulted S d d' prepared prepared' c c' r r' q u command done failure sound stay 
       block = ends.block ∙ sound.block;
       own = fault-own S H c.first command done;
       may = may-fault S H c.first command done may stops;
-      meets = meets-command S H d d' (Fault c.first command done) 1 (Err failure) sound.meets made (is_fault c.first command done) refl few now kept;
+      meets = meets-command S H d d' (Fault c.first command done) 1 (Err failure) sound.meets made (fault-command c.first command done) refl few now kept;
       tracks = tracks-fault S H c.first command done r' q (tracks-same S H c.first r r' q same bytes tracks) (same.status ∙ is.unended);
       gate = gate-none S (Fault c.first command done ∷ H) c'.records.items c.first c'.block.items c'.held none ends.held;
       more = 1;
       pays = ends.owed;
-      owed = fault-owed S.size H c.first command done q tracks.named (next-owes S H c.first r q u is) (tracks.status ∙ is.unended);
-      spent = inr (next-owes S H c.first r q u is);
+      owed = omega (arith, entries-fault S H c.first command done is.setup is.legal may);
       becomes = record { units = rw same.units refl; kind = same.kind; unended = λ _. is.unended };
     })
     next refl
     (fills-failed S H c.first command done (buffers_of c.records.items) (buffers_of c'.records.items) (buffers-same c.records.items c'.records.items c.first r (failed_record r') was ends.records bytes))
     made.later (λ n failed. made.cause) (not-fetched command done)
 
+-- a done command takes one entry, and two where it ends its token
+pub finish-owed : (S : Setup) (H : List Entry) (t : ℕ) (c : Command) (r : Record) → IsSetup S → IsLegal S H → MayCommand S H t c → mark_of S (Done t c ∷ H) t ≡ (finished_record r).status
+    → owed_entries S (Done t c ∷ H) + (end_paid r + 1) ≤ owed_entries S H
+finish-owed S H t c r setup legal may marked = by (nat_eq (r.finished + 1) (length r.units.items)) marked
+  where
+    by : (last : Bool) → mark_of S (Done t c ∷ H) t ≡ (if last then Some Success else r.status) → owed_entries S (Done t c ∷ H) + ((if last then 1 else 0) + 1) ≤ owed_entries S H
+    by true ended = omega (arith, entries-done-end S H t c Success setup legal may ended)
+    by false _ = omega (arith, entries-done S H t c setup legal may)
+
 -- a store or a put of the next unit was done
 pub wrote : (S : Setup) (d d' : Device) (prepared prepared' : ℕ → Type 0) (c c' : Core) (r : Record) (q : Request) (u : Span) (command : Command)
     → IsSound S d prepared c → StayPrepared prepared prepared' → IsNext S c.history.entries c.first r q u → slice_get c.records.items c.first ≡ Some r → r.kind ≡ Write
-    → IsCommand d (Ok tt) d' → IsCommandEntry (Done c.first command) 0 → ((y : ℕ) → moves S.size command y ≡ lies_in S.size u.block u.count y)
-    → MayCommand S c.history.entries c.first command → NoneHeld S.size (Done c.first command ∷ c.history.entries)
+    → IsCommand d (Ok tt) d' → is_sync command ≡ false → MovesUnit S q command u
+    → MayCommand S c.history.entries c.first command → NoneHeld S (Done c.first command ∷ c.history.entries)
     → d'.now ≡ contents S 1 (Done c.first command ∷ c.history.entries) → d'.kept ≡ (if d.cached then d.kept else d'.now)
-    → span_owed Write (Done c.first command ∷ c.history.entries) c.first u.whole u.block + 1 ≤ span_owed Write c.history.entries c.first u.whole u.block
     → ((old new : List (List ℕ)) → new ≡ old → Fills S c.history.entries c.first command Made old new) → is_fetched command Made ≡ false
-    → next_turn S.size c.history.entries ≡ Some (record { token = c.first; command = command })
+    → next_turn S c.history.entries ≡ Some (record { token = c.first; command = command })
     → Ends c c' (Done c.first command) (finished_record r) (end_paid r)
     → Stepped S d d' prepared' c c' step.Did
-wrote S d d' prepared prepared' c c' r q u command sound stay is was writes made entry moving may none now kept falls fills answer next ends =
+wrote S d d' prepared prepared' c c' r q u command sound stay is was writes made unsynced moving may none now kept fills answer next ends =
     let H = c.history.entries in
     let tracks : Tracks S H c.first r q = is.tracks in
     let few : length H + 1 < 2 ^ 63 = omega (arith, sound.few, ends.spare) in
@@ -175,32 +187,34 @@ wrote S d d' prepared prepared' c c' r q u command sound stay is was writes made
       block = ends.block ∙ sound.block;
       own = done-own S H c.first command;
       may = may-done S H c.first command may;
-      meets = meets-command S H d d' (Done c.first command) 0 (Ok tt) sound.meets made entry refl few now kept;
+      meets = meets-command S H d d' (Done c.first command) 0 (Ok tt) sound.meets made (done-command c.first command unsynced) refl few now kept;
       tracks = after;
       gate = gate-none S (Done c.first command ∷ H) c'.records.items c.first c'.block.items c'.held none ends.held;
       more = end_paid r;
       pays = ends.owed;
-      owed = finish-owed S.size H c.first command q r tracks.named (next-owes S H c.first r q u is) after.status
-          (done-owed S.size H c.first command q r.finished u tracks.named (rw tracks.of_kind tracks.moving) (tracks.status ∙ is.unended) (rw tracks.units at is.has.is)
-          (rw (tracks.of_kind, writes) falls));
-      spent = inr (next-owes S H c.first r q u is);
+      owed = finish-owed S H c.first command r is.setup is.legal may after.status;
       becomes = record { units = refl; kind = refl; unended = λ _. is.unended };
     })
     next refl
     (fills (buffers_of c.records.items) (buffers_of c'.records.items) (buffers-same c.records.items c'.records.items c.first r (finished_record r) was ends.records refl))
     made.later (λ n failed. absurd (made-failed n failed)) answer
 
+token-within : (S : Setup) (H : List Entry) (n t : ℕ) → t < n → token_owed S H t ≤ tokens_owed S H n
+unfolding tokens_owed
+token-within S H zero t lt = absurd (omega arith)
+token-within S H (suc n) t lt = elim (cases_eq t n) [
+  | inl same ↦ rw same (omega arith)
+  | inr other ↦ omega (arith, token-within S H n t (omega (arith, other)))
+]
+
+entries-within : (S : Setup) (H : List Entry) (t : ℕ) → t < accepted H → token_owed S H t ≤ owed_entries S H
+unfolding owed_entries
+entries-within S H t token = omega (arith, token-within S H (accepted H) t token)
+
 -- an open token's disk owes two entries and more
 pub owed-some : (S : Setup) (d : Device) (prepared : ℕ → Type 0) (c : Core) (r : Record) (q : Request) (u : Span) → IsSound S d prepared c → IsNext S c.history.entries c.first r q u → 2 ≤ c.owed
 owed-some S d prepared c r q u sound is =
-    let H = c.history.entries in
-    let tracks : Tracks S H c.first r q = is.tracks in
-    omega (
-      arith,
-      sound.room,
-      owed-falls S H (Fault c.first Sync 0) c.first 2 (fault-own S H c.first Sync 0) is.token
-          (fault-owed S.size H c.first Sync 0 q tracks.named (next-owes S H c.first r q u is) (tracks.status ∙ is.unended)),
-    )
+    omega (arith, sound.room, entries-within S c.history.entries c.first is.token, open-owed S c.history.entries c.first q is.tracks.named (is.tracks.status ∙ is.unended))
 
 -- an element that was read from a list
 pub read-is : (records : List Record) (k : ℕ) (r x : Record) → slice_get records k ≡ Some r → x ≡ get_or records k x → x ≡ r
@@ -245,11 +259,9 @@ next-read S d prepared c kept u kind sound there unended at unit_at of_kind =
       },
     )
 
-pub not-flush : (S : Setup) (d : Device) (prepared : ℕ → Type 0) (c : Core) (kept : Record) → IsSound S d prepared c → c.first < length c.records.items → kept ≡ get_or c.records.items c.first kept → kept.kind ≡ Flush → ⊥
-not-flush S d prepared c kept sound there at flush =
+-- it has a buffer, so it is neither a flush nor an erase
+pub buffer-kind : (S : Setup) (d : Device) (prepared : ℕ → Type 0) (c : Core) (kept : Record) → IsSound S d prepared c → c.first < length c.records.items → kept ≡ get_or c.records.items c.first kept → has_buffer kept.kind ≡ true
+buffer-kind S d prepared c kept sound there at =
     let is : slice_get c.records.items c.first ≡ Some kept = slice_get_read c.records.items (length c.records.items) c.first kept refl there at in
     let (q, tracks) = sound.tracked c.first kept is in
-    clash (rw flush at tracks.moving)
-  where
-    clash : true ≡ false → ⊥
-    clash e = cc
+    tracks.moving

@@ -1,101 +1,49 @@
 -- The medium follows the history, entry by entry.
-use Rattle.std.proofs.Common.{◌≡◌, ℕ, ◌+◌, ◌^◌, ◌<◌, ◌≤◌, Bool, true, false, List, [], ◌∷◌, length, Option, None, Some, Result, Ok, Err, OnErr, refl, sym, ◌∙◌, ap, arith, if◌then◌else◌, option_map}
+use Rattle.std.proofs.Common.{◌≡◌, ℕ, ◌+◌, ◌^◌, ◌<◌, ◌≤◌, Bool, true, false, List, ◌∷◌, length, Option, None, Some, Result, Ok, Err, OnErr, refl, sym, ◌∙◌, ap, arith, if◌then◌else◌, option_map}
+use Rattle.byte_lists.specs.Patching.{patch}
 use Rattle.medium.specs.declared.block_failed.BlockFailed.{BlockFailed}
 use Rattle.medium.specs.Counts.{adds, Rose}
-use Rattle.medium.specs.Device.{Device, IsSame, IsCommand, failures, patch_told}
+use Rattle.medium.specs.Device.{Device, IsCommand, failures, patch_told}
+use Rattle.efi_status.specs.declared.Status.{Status}
+use Rattle.history.specs.declared.entry.Asked.{Asked}
+use Rattle.history.specs.declared.entry.View.{View}
 use Rattle.history.specs.declared.entry.Command.{Command}
-use Rattle.history.specs.declared.entry.Command.TheVariants.{Fetch, Store, Put, Get}
 use Rattle.history.specs.declared.entry.Entry.{Entry}
-use Rattle.history.specs.declared.entry.Entry.TheVariants.{Accept, Refuse, Done, Fault, Collect, Cancel, Reset, Eject, Insert, Protect}
-use Rattle.history.specs.Setup.{Setup, first_of}
-use Rattle.history.specs.Eras.{inserts}
-use Rattle.history.specs.Contents.{Piece, piece_of, pieces_of, patched, contents, flushed_contents, kept_contents}
+use Rattle.history.specs.declared.entry.Entry.TheVariants.{Accept, Refuse, Done, Fault, Collect}
+use Rattle.history.specs.Setup.{Setup}
+use Rattle.history.specs.Eras.{is_eject, is_insert, is_protected, is_command, is_fault}
+use Rattle.history.specs.Commands.{is_sync}
+use Rattle.history.specs.Contents.{contents, kept_contents}
 use Rattle.history.specs.Room.{commands, faults}
+use Rattle.history_laws.proofs.CountLemmas.{ejects-same, inserts-same, commands-more, commands-same, faults-more, faults-same, commands-few, faults-few}
+use Rattle.history_laws.proofs.ContentLemmas.{is_flush_entry, piece-none, contents-same, kept-same, kept-more}
 use Rattle.disk_core.specs.State.{setup_of, Meets}
-
-told-patched : (first : Option (List ℕ)) (p : Piece) (ps : List Piece) → option_map (patched (p ∷ ps)) first ≡ patch_told (option_map (patched ps) first) p.at p.bytes
-unfolding patched
-told-patched None p ps = refl
-told-patched (Some bytes) p ps = refl
-
--- an entry that gives a piece patches the contents
-pub contents-piece : (S : Setup) (H : List Entry) (e : Entry) (p : Piece) → inserts H ≡ 0 → piece_of S.size H e ≡ Some p → contents S 1 (e ∷ H) ≡ patch_told (contents S 1 H) p.at p.bytes
-unfolding contents pieces_of
-contents-piece S H e p one gives = rw (one, gives) (told-patched (first_of S 1) p (pieces_of S.size 1 H))
-
--- another entry leaves them
-pub contents-same : (S : Setup) (H : List Entry) (e : Entry) → inserts H ≡ 0 → piece_of S.size H e ≡ None → contents S 1 (e ∷ H) ≡ contents S 1 H
-unfolding contents pieces_of
-contents-same S H e one none = rw (one, none)
-
--- the same device
-pub setup-same : (d d' : Device) → IsSame d d' → setup_of d' ≡ setup_of d
-unfolding setup_of
-setup-same d d' same = rw (same.first, same.size, same.blocks, same.cached)
+use Rattle.disk_core.specs.Sound.{IsPlain}
+use Rattle.disk_core.proofs.Setups.{setup-same, cached-of}
 
 -- an entry of a command that is no flush, and how many of its commands failed
-pub data IsCommandEntry : Entry → ℕ → Type 0 where
-  is_fetch : (t b : ℕ) → IsCommandEntry (Done t (Fetch b)) 0
-  is_store : (t b : ℕ) → IsCommandEntry (Done t (Store b)) 0
-  is_put : (t b n : ℕ) → IsCommandEntry (Done t (Put b n)) 0
-  is_get : (t b n : ℕ) → IsCommandEntry (Done t (Get b n)) 0
-  is_fault : (t : ℕ) (c : Command) (done : ℕ) → IsCommandEntry (Fault t c done) 1
+pub record IsCommandEntry (e : Entry) (n : ℕ) : Type 0 where
+  pub command : is_command e ≡ true
+  pub unflushed : is_flush_entry e ≡ false
+  pub counted : (if is_fault e then 1 else 0) ≡ n
 
-commands-more : (H : List Entry) (e : Entry) (n : ℕ) → IsCommandEntry e n → commands (e ∷ H) ≡ commands H + 1
-unfolding commands
-commands-more H e n (is_fetch t b) = refl
-commands-more H e n (is_store t b) = refl
-commands-more H e n (is_put t b m) = refl
-commands-more H e n (is_get t b m) = refl
-commands-more H e n (is_fault t c done) = refl
+pub done-command : (t : ℕ) (c : Command) → is_sync c ≡ false → IsCommandEntry (Done t c) 0
+done-command t c isnt = record { command = refl; unflushed = isnt; counted = refl }
 
-faults-more : (H : List Entry) (e : Entry) (n : ℕ) → IsCommandEntry e n → faults (e ∷ H) ≡ faults H + n
-unfolding faults
-faults-more H e n (is_fetch t b) = sym (omega arith)
-faults-more H e n (is_store t b) = sym (omega arith)
-faults-more H e n (is_put t b m) = sym (omega arith)
-faults-more H e n (is_get t b m) = sym (omega arith)
-faults-more H e n (is_fault t c done) = refl
+pub fault-command : (t : ℕ) (c : Command) (done : ℕ) → IsCommandEntry (Fault t c done) 1
+fault-command t c done = record { command = refl; unflushed = refl; counted = refl }
 
-cached-twice : (b : Bool) (x y z : Option (List ℕ)) → (if b then x else z) ≡ (if b then (if b then x else y) else z)
-cached-twice true x y z = refl
-cached-twice false x y z = refl
+faults-rise : (H : List Entry) (e : Entry) (n : ℕ) → IsCommandEntry e n → faults (e ∷ H) ≡ faults H + n
+faults-rise H e n is = by (is_fault e) refl is.counted
+  where
+    by : (failed : Bool) → is_fault e ≡ failed → (if failed then 1 else 0) ≡ n → faults (e ∷ H) ≡ faults H + n
+    by true one counted = omega (arith, faults-more H e one)
+    by false none counted = omega (arith, faults-same H e none)
 
-kept-more : (S : Setup) (H : List Entry) (e : Entry) (n : ℕ) → IsCommandEntry e n → kept_contents S 1 (e ∷ H) ≡ (if S.cached then kept_contents S 1 H else contents S 1 (e ∷ H))
-unfolding kept_contents flushed_contents
-kept-more S H e n (is_fetch t b) = cached-twice S.cached _ _ _
-kept-more S H e n (is_store t b) = cached-twice S.cached _ _ _
-kept-more S H e n (is_put t b m) = cached-twice S.cached _ _ _
-kept-more S H e n (is_get t b m) = cached-twice S.cached _ _ _
-kept-more S H e n (is_fault t c done) = cached-twice S.cached _ _ _
-
-commands-few : (H : List Entry) → commands H ≤ length H
-unfolding commands
-commands-few [] = omega arith
-commands-few (Done t c ∷ H) = omega (arith, commands-few H)
-commands-few (Fault t c done ∷ H) = omega (arith, commands-few H)
-commands-few (Accept a b c d ∷ H) = omega (arith, commands-few H)
-commands-few (Refuse a b c d e ∷ H) = omega (arith, commands-few H)
-commands-few (Collect a b ∷ H) = omega (arith, commands-few H)
-commands-few (Cancel a b ∷ H) = omega (arith, commands-few H)
-commands-few (Reset a ∷ H) = omega (arith, commands-few H)
-commands-few (Eject a ∷ H) = omega (arith, commands-few H)
-commands-few (Insert a b ∷ H) = omega (arith, commands-few H)
-commands-few (Protect a b ∷ H) = omega (arith, commands-few H)
-
-faults-few : (H : List Entry) → faults H ≤ commands H
-unfolding commands faults
-faults-few [] = omega arith
-faults-few (Done t c ∷ H) = omega (arith, faults-few H)
-faults-few (Fault t c done ∷ H) = omega (arith, faults-few H)
-faults-few (Accept a b c d ∷ H) = omega (arith, faults-few H)
-faults-few (Refuse a b c d e ∷ H) = omega (arith, faults-few H)
-faults-few (Collect a b ∷ H) = omega (arith, faults-few H)
-faults-few (Cancel a b ∷ H) = omega (arith, faults-few H)
-faults-few (Reset a ∷ H) = omega (arith, faults-few H)
-faults-few (Eject a ∷ H) = omega (arith, faults-few H)
-faults-few (Insert a b ∷ H) = omega (arith, faults-few H)
-faults-few (Protect a b ∷ H) = omega (arith, faults-few H)
+-- told bytes patched, in the words of a medium
+pub told-patched : (told : Option (List ℕ)) (at : ℕ) (piece : List ℕ) → option_map (λ bytes. patch bytes at piece) told ≡ patch_told told at piece
+told-patched None at piece = refl
+told-patched (Some bytes) at piece = refl
 
 -- a count that is far from its end rises by what is added
 counted : (n m k : ℕ) → n ≡ m → m + k < 2 ^ 64 → adds n k ≡ m + k
@@ -106,19 +54,11 @@ faults-later f f' n k (Ok done) below later cause is few = omega arith
 faults-later f f' n k (Err fault) below later cause is few = omega arith
 
 entry-small : (e : Entry) (n : ℕ) → IsCommandEntry e n → n ≤ 1
-entry-small e n (is_fetch t b) = omega arith
-entry-small e n (is_store t b) = omega arith
-entry-small e n (is_put t b m) = omega arith
-entry-small e n (is_get t b m) = omega arith
-entry-small e n (is_fault t c done) = omega arith
-
-pub cached-of : (S : Setup) (d : Device) → setup_of d ≡ S → d.cached ≡ S.cached
-unfolding setup_of
-cached-of S d is = ap (λ (s : Setup). s.cached) is
-
-pub size-of : (S : Setup) (d : Device) → setup_of d ≡ S → d.size ≡ S.size
-unfolding setup_of
-size-of S d is = ap (λ (s : Setup). s.size) is
+entry-small e n is = by (is_fault e) is.counted
+  where
+    by : (failed : Bool) → (if failed then 1 else 0) ≡ n → n ≤ 1
+    by true is = omega arith
+    by false is = omega arith
 
 -- the medium follows one more command
 pub meets-command : (S : Setup) (H : List Entry) (d d' : Device) (e : Entry) (n : ℕ) (result : Result (Unit {0}) BlockFailed)
@@ -132,8 +72,50 @@ meets-command S H d d' e n result meets command entry is few now kept =
     record {
       setup = setup-same d d' command.same ∙ meets.setup;
       now = now;
-      kept = kept ∙ (rw (now, meets.kept, cached-of S d meets.setup) (sym (kept-more S H e n entry)));
-      calls = command.calls ∙ (counted d.calls (commands H) 1 meets.calls (omega arith) ∙ sym (commands-more H e n entry));
-      failed = command.failed ∙ (rw (sym is) (counted d.failed (faults H) n meets.failed (omega arith)) ∙ sym (faults-more H e n entry));
-      faults = rw (faults-more H e n entry) (faults-later d.faults d'.faults (faults H) n result meets.faults command.later command.cause is (omega arith));
+      kept = kept ∙ (rw (now, meets.kept, cached-of S d meets.setup) (sym (kept-more S 1 H e entry.unflushed)));
+      calls = command.calls ∙ (counted d.calls (commands H) 1 meets.calls (omega arith) ∙ sym (commands-more H e entry.command));
+      failed = command.failed ∙ (rw (sym is) (counted d.failed (faults H) n meets.failed (omega arith)) ∙ sym (faults-rise H e n entry));
+      faults = rw (faults-rise H e n entry) (faults-later d.faults d'.faults (faults H) n result meets.faults command.later command.cause is (omega arith));
     }
+
+-- an entry that is an accept, a refusal or a collect
+pub record IsQuiet (S : Setup) (H : List Entry) (e : Entry) : Type 0 where
+  pub no_command : is_command e ≡ false
+  pub no_fault : is_fault e ≡ false
+  pub no_flush : is_flush_entry e ≡ false
+  pub no_eject : is_eject e ≡ false
+  pub no_insert : is_insert e ≡ false
+  pub no_protect : is_protected S (e ∷ H) ≡ is_protected S H
+
+pub accept-quiet : (S : Setup) (H : List Entry) (tag : ℕ) (view : View) (asked : Asked) (bytes : List ℕ) → IsQuiet S H (Accept tag view asked bytes)
+unfolding is_protected
+accept-quiet S H tag view asked bytes = record { no_command = refl; no_fault = refl; no_flush = refl; no_eject = refl; no_insert = refl; no_protect = refl }
+
+pub refuse-quiet : (S : Setup) (H : List Entry) (tag : ℕ) (view : View) (asked : Asked) (media_id : ℕ) (status : Status) → IsQuiet S H (Refuse tag view asked media_id status)
+unfolding is_protected
+refuse-quiet S H tag view asked media_id status = record { no_command = refl; no_fault = refl; no_flush = refl; no_eject = refl; no_insert = refl; no_protect = refl }
+
+pub collect-quiet : (S : Setup) (H : List Entry) (tag t : ℕ) → IsQuiet S H (Collect tag t)
+unfolding is_protected
+collect-quiet S H tag t = record { no_command = refl; no_fault = refl; no_flush = refl; no_eject = refl; no_insert = refl; no_protect = refl }
+
+pub quiet-contents : (S : Setup) (H : List Entry) (e : Entry) → IsQuiet S H e → contents S 1 (e ∷ H) ≡ contents S 1 H
+quiet-contents S H e quiet = contents-same S 1 H e (piece-none S H e quiet.no_command)
+
+-- the medium follows it
+pub meets-quiet : (S : Setup) (H : List Entry) (d : Device) (e : Entry) → IsQuiet S H e → Meets S H d → Meets S (e ∷ H) d
+meets-quiet S H d e quiet meets = record {
+  setup = meets.setup;
+  now = meets.now ∙ sym (quiet-contents S H e quiet);
+  kept = meets.kept ∙ sym (kept-same S 1 H e quiet.no_flush (piece-none S H e quiet.no_command));
+  calls = meets.calls ∙ sym (commands-same H e quiet.no_command);
+  failed = meets.failed ∙ sym (faults-same H e quiet.no_fault);
+  faults = rw (faults-same H e quiet.no_fault) meets.faults;
+}
+
+pub plain-quiet : (S : Setup) (H : List Entry) (e : Entry) → IsQuiet S H e → IsPlain S H → IsPlain S (e ∷ H)
+plain-quiet S H e quiet plain = record {
+  ejects = ejects-same H e quiet.no_eject ∙ plain.ejects;
+  inserts = inserts-same H e quiet.no_insert ∙ plain.inserts;
+  unprotected = quiet.no_protect ∙ plain.unprotected;
+}

@@ -1,13 +1,15 @@
 -- A new disk is sound.
 use Rattle.std.proofs.Common.{◌≡◌, ℕ, ◌≤◌, Bool, true, false, List, [], slice_get, Option, None, Some, refl, sym, ◌∙◌, arith, option_map, if◌then◌else◌}
 use Rattle.medium.specs.Device.{Device, IsFresh}
-use Rattle.history.specs.Setup.{Setup}
+use Rattle.history.specs.Setup.{Setup, size_of}
 use Rattle.history.specs.Eras.{ejects, inserts, is_protected}
-use Rattle.history.specs.Tokens.{Request, accepted, request}
-use Rattle.history.specs.Contents.{pieces_of, patched, contents, flushed_contents, kept_contents}
-use Rattle.history.specs.Marks.{was_fetched, Holds}
+use Rattle.history.specs.Tokens.{accepted}
+use Rattle.history.specs.Contents.{pieces_of, patch_all, contents, flushed_contents, kept_contents}
+use Rattle.history.specs.Commands.{has_done, done_commands}
+use Rattle.history.specs.Marks.{Holds}
 use Rattle.history.specs.Rules.{IsLegal}
 use Rattle.history.specs.Room.{commands, faults, owed_entries, tokens_owed}
+use Rattle.history_laws.proofs.CountLemmas.{accepted-none}
 use Rattle.disk_core.specs.declared.record.Record.{Record}
 use Rattle.disk_core.specs.declared.record.Core.{Core}
 use Rattle.disk_core.specs.State.{setup_of, Meets}
@@ -15,8 +17,8 @@ use Rattle.disk_core.specs.Sound.{IsSound, IsPlain}
 use Rattle.disk_core.specs.Submitting.{IsNewCore}
 use Rattle.disk_core.proofs.Gates.{gate-none}
 
-opening : (told : Option (List ℕ)) → told ≡ option_map (patched []) told
-unfolding patched
+opening : (told : Option (List ℕ)) → told ≡ option_map (patch_all []) told
+unfolding patch_all
 opening None = refl
 opening (Some bytes) = refl
 
@@ -56,22 +58,14 @@ pub legal-none : (S : Setup) → IsLegal S []
 unfolding IsLegal
 legal-none S = tt
 
-unnamed : (t : ℕ) (q : Request) → request [] t ≡ Some q → ⊥
-unfolding request
-unnamed t q named = cc
-
-none-held : (size t b : ℕ) → Holds size [] t b → ⊥
-unfolding was_fetched
-none-held size t b holds = clash holds.fetched
+none-held : (S : Setup) (t b : ℕ) → Holds S [] t b → ⊥
+unfolding has_done done_commands
+none-held S t b holds = clash holds.fetched
   where
     clash : false ≡ true → ⊥
     clash e = cc
 
-accepted-none : accepted [] ≡ 0
-unfolding accepted
-accepted-none = refl
-
-size-first : (d : Device) → (setup_of d).size ≡ d.size
+size-first : (d : Device) → size_of (setup_of d) ≡ d.size
 unfolding setup_of
 size-first d = refl
 
@@ -85,12 +79,11 @@ fresh-sound d prepared c fresh new = record {
   prior = λ t r lt is. absurd (nothing t r (rw new.records at is));
   bound = rw (new.first, new.records) (omega arith);
   block = new.block ∙ sym (size-first d);
-  gate = rw new.entries (gate-none (setup_of d) [] c.records.items c.first c.block.items c.held (none-held (setup_of d).size) new.held);
+  gate = rw new.entries (gate-none (setup_of d) [] c.records.items c.first c.block.items c.held (none-held (setup_of d)) new.held);
   ready = λ t k b r u is. absurd (nothing t r (rw new.records at is));
   few = rw (new.entries, new.spare) (omega arith);
   room = rw (new.entries, new.owed) (fresh-owed d);
   places = rw (new.owed, new.spare) (omega arith);
-  spent = rw new.entries (λ t q named. absurd (unnamed t q named));
 }
   where
     nothing : (t : ℕ) (r : Record) → slice_get [] t ≡ Some r → ⊥

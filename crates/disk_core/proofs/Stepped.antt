@@ -1,72 +1,47 @@
 -- A disk stays sound over an entry of its first open token.
-use Rattle.std.proofs.Common.{◌≡◌, ◌≢◌, ℕ, suc, ◌+◌, ◌-◌, ◌<◌, ◌≤◌, ◌⊎◌, inl, inr, List, ◌∷◌, slice_get, set, length, None, Some, refl, sym, ◌∙◌, ap, arith}
-use Rattle.std.proofs.lemmas.Bool.{cases_eq, eq-eqb}
+use Rattle.std.proofs.Common.{◌≡◌, ◌≢◌, ℕ, suc, ◌+◌, ◌<◌, ◌≤◌, inl, inr, false, List, ◌∷◌, slice_get, set, length, None, Some, refl, sym, ◌∙◌, ap, arith}
+use Rattle.std.proofs.lemmas.Bool.{cases_eq}
 use Rattle.medium.specs.Device.{Device, StayPrepared}
 use Rattle.history.specs.declared.entry.Command.{Command}
 use Rattle.history.specs.declared.entry.Entry.{Entry}
 use Rattle.history.specs.declared.entry.Entry.TheVariants.{Done, Fault}
-use Rattle.history.specs.Setup.{Setup}
-use Rattle.history.specs.Eras.{ejects, inserts, is_protected}
-use Rattle.history.specs.Tokens.{Request, accepted, request}
+use Rattle.history.specs.Setup.{Setup, size_of}
+use Rattle.history.specs.Eras.{is_eject, is_insert, is_protected}
+use Rattle.history.specs.Tokens.{Request, is_accept, accepted}
 use Rattle.history.specs.Rules.{IsLegal, MayFollow}
-use Rattle.history.specs.Room.{commands_of, runs_of, owed_entries, token_owed, tokens_owed}
+use Rattle.history.specs.Room.{owed_entries}
+use Rattle.history_laws.specs.Told.{concerns}
+use Rattle.history_laws.proofs.CountLemmas.{accepted-same, ejects-same, inserts-same}
+use Rattle.history_laws.proofs.TokenLemmas.{done-concerns, fault-concerns}
 use Rattle.disk_core.specs.declared.record.Record.{Record}
 use Rattle.disk_core.specs.declared.record.Core.{Core}
 use Rattle.disk_core.specs.State.{Meets}
-use Rattle.disk_core.specs.Sound.{IsSound, IsGate, IsPlain, AreReady, SpendFew, Tracks}
-use Rattle.disk_core.proofs.Silence.{IsSilent, done-silent, fault-silent}
-use Rattle.disk_core.proofs.Owed.{silent-owed, tokens-fall}
-use Rattle.disk_core.proofs.Tracked.{tracks-silent}
-use Rattle.disk_core.proofs.Places.{get-set-same, get-set-other, length-set-here, inside-some}
+use Rattle.disk_core.specs.Sound.{IsSound, IsGate, IsPlain, AreReady, Tracks}
+use Rattle.disk_core.proofs.Tracked.{tracks-other}
+use Rattle.disk_core.proofs.Places.{get-set-same, get-set-other, length-set-here}
 
 -- an entry of one token that changes neither medium nor number of tokens
 pub record IsOwn (S : Setup) (H : List Entry) (e : Entry) (t : ℕ) : Type 0 where
-  pub silent : (u : ℕ) → t ≢ u → IsSilent S H e u
-  pub same_accepted : accepted (e ∷ H) ≡ accepted H
-  pub same_requests : (u : ℕ) → request (e ∷ H) u ≡ request H u
-  pub one : commands_of (e ∷ H) t ≤ commands_of H t + 1
-  pub same_ejects : ejects (e ∷ H) ≡ ejects H
-  pub same_inserts : inserts (e ∷ H) ≡ inserts H
-  pub same_protection : is_protected S (e ∷ H) ≡ is_protected S H
+  pub other : (u : ℕ) → t ≢ u → concerns H e u ≡ false
+  pub no_accept : is_accept e ≡ false
+  pub no_eject : is_eject e ≡ false
+  pub no_insert : is_insert e ≡ false
+  pub no_protect : is_protected S (e ∷ H) ≡ is_protected S H
 
 pub done-own : (S : Setup) (H : List Entry) (t : ℕ) (c : Command) → IsOwn S H (Done t c) t
-unfolding accepted request ejects inserts is_protected commands_of
-done-own S H t c = record { silent = λ u ne. done-silent S H t u c ne; same_accepted = refl; same_requests = λ u. refl; one = rw (eq-eqb t t refl) (omega arith); same_ejects = refl; same_inserts = refl; same_protection = refl }
+unfolding is_protected
+done-own S H t c = record { other = λ u ne. done-concerns H t u c ne; no_accept = refl; no_eject = refl; no_insert = refl; no_protect = refl }
 
 pub fault-own : (S : Setup) (H : List Entry) (t : ℕ) (c : Command) (done : ℕ) → IsOwn S H (Fault t c done) t
-unfolding accepted request ejects inserts is_protected commands_of
-fault-own S H t c done = record { silent = λ u ne. fault-silent S H t u c done ne; same_accepted = refl; same_requests = λ u. refl; one = rw (eq-eqb t t refl) (omega arith); same_ejects = refl; same_inserts = refl; same_protection = refl }
-
--- all tokens together owe less by so many where this one does
-pub owed-falls : (S : Setup) (H : List Entry) (e : Entry) (t paid : ℕ) → IsOwn S H e t → t < accepted H → token_owed S.size (e ∷ H) t + paid ≤ token_owed S.size H t → owed_entries S (e ∷ H) + paid ≤ owed_entries S H
-unfolding owed_entries
-owed-falls S H e t paid own token falls =
-    let sum : tokens_owed S.size (e ∷ H) (accepted H) + paid ≤ tokens_owed S.size H (accepted H) = tokens-fall S H e (accepted H) t paid token falls own.silent in
-    rw (own.same_accepted, own.same_ejects, own.same_inserts) (omega arith)
+unfolding is_protected
+fault-own S H t c done = record { other = λ u ne. fault-concerns H t u c done ne; no_accept = refl; no_eject = refl; no_insert = refl; no_protect = refl }
 
 pub plain-own : (S : Setup) (H : List Entry) (e : Entry) (t : ℕ) → IsOwn S H e t → IsPlain S H → IsPlain S (e ∷ H)
 plain-own S H e t own plain = record {
-  ejects = own.same_ejects ∙ plain.ejects;
-  inserts = own.same_inserts ∙ plain.inserts;
-  unprotected = own.same_protection ∙ plain.unprotected;
+  ejects = ejects-same H e own.no_eject ∙ plain.ejects;
+  inserts = inserts-same H e own.no_insert ∙ plain.inserts;
+  unprotected = own.no_protect ∙ plain.unprotected;
 }
-
--- an entry adds no command to its token, or the token owed one
-abbrev pub IsSpent : ℕ → List Entry → Entry → ℕ → Type 0
-IsSpent size H e t = (commands_of (e ∷ H) t ≡ commands_of H t) ⊎ (3 ≤ token_owed size H t)
-
-few-after : (S : Setup) (H : List Entry) (e : Entry) (t : ℕ) → IsOwn S H e t → token_owed S.size (e ∷ H) t + 1 ≤ token_owed S.size H t → IsSpent S.size H e t → SpendFew S H → SpendFew S (e ∷ H)
-few-after S H e t own falls spent few u q named =
-    let before : request H u ≡ Some q = sym (own.same_requests u) ∙ named in
-    elim (cases_eq t u) [
-      | inl same ↦
-          let was : commands_of H t + (token_owed S.size H t - 2) ≤ runs_of S.size q + 4 = few t q (rw (sym same) at before) in
-          rw (sym same) (elim spent [
-            | inl none ↦ omega (arith, was, falls, none)
-            | inr some ↦ omega (arith, was, falls, some, own.one)
-          ])
-      | inr other ↦ rw ((own.silent u other).counted, silent-owed S H e u (own.silent u other)) (few u q before)
-    ]
 
 -- what the first open record is after the entry
 pub record Becomes (r r' : Record) : Type 0 where
@@ -81,7 +56,7 @@ pub record Leaves (S : Setup) (d d' : Device) (c c' : Core) (e : Entry) (t : ℕ
   pub spare : c'.history.spare + 1 ≡ c.history.spare
   pub records : c'.records.items ≡ set c.records.items t r'
   pub first : c'.first ≡ c.first
-  pub block : length c'.block.items ≡ S.size
+  pub block : length c'.block.items ≡ size_of S
   pub own : IsOwn S c.history.entries e t
   pub may : MayFollow S c.history.entries e
   pub meets : Meets S (e ∷ c.history.entries) d'
@@ -89,8 +64,7 @@ pub record Leaves (S : Setup) (d d' : Device) (c c' : Core) (e : Entry) (t : ℕ
   pub gate : IsGate S (e ∷ c.history.entries) c'.records.items c.first c'.block.items c'.held
   pub more : ℕ
   pub pays : c'.owed + (more + 1) ≡ c.owed
-  pub owed : token_owed S.size (e ∷ c.history.entries) t + (more + 1) ≤ token_owed S.size c.history.entries t
-  pub spent : IsSpent S.size c.history.entries e t
+  pub owed : owed_entries S (e ∷ c.history.entries) + (more + 1) ≤ owed_entries S c.history.entries
   pub becomes : Becomes r r'
 
 legal-more : (S : Setup) (H : List Entry) (e : Entry) → IsLegal S H → MayFollow S H e → IsLegal S (e ∷ H)
@@ -108,7 +82,7 @@ tracked-after S H e records t r r' q own was tracks each u x is =
           (q, rw (sym same, sym one) tracks)
       | inr other ↦
           let before : (p : Request) × Tracks S H u x p = each u x (sym (get-set-other records t u r' other) ∙ is) in
-          (before.0, tracks-silent S H e u x before.0 (own.silent u other) before.1)
+          (before.0, tracks-other S H e u x before.0 (own.other u other) before.1)
     ]
   where
     some-is : (a b : Record) → Some a ≡ Some b → a ≡ b
@@ -146,14 +120,12 @@ prior-after records first t r r' was becomes prior u x lt is unended =
 pub sound-after : (S : Setup) (d d' : Device) (prepared prepared' : ℕ → Type 0) (c c' : Core) (e : Entry) (t : ℕ) (r r' : Record) (q : Request) → IsSound S d prepared c → StayPrepared prepared prepared' → Leaves S d d' c c' e t r r' q → IsSound S d' prepared' c'
 sound-after S d d' prepared prepared' c c' e t r r' q sound stay leaves =
     let H = c.history.entries in
-    let token : t < accepted H = rw (sym sound.count) (inside-some c.records.items t r leaves.was) in
-    let falls : owed_entries S (e ∷ H) + (leaves.more + 1) ≤ owed_entries S H = owed-falls S H e t (leaves.more + 1) leaves.own token leaves.owed in
     let long : length (e ∷ H) ≡ suc (length H) = refl in
     record {
       legal = rw leaves.entries (legal-more S H e sound.legal leaves.may);
       plain = rw leaves.entries (plain-own S H e t leaves.own sound.plain);
       meets = rw leaves.entries leaves.meets;
-      count = rw (leaves.entries, leaves.records) (length-set-here c.records.items t r' ∙ (sound.count ∙ sym leaves.own.same_accepted));
+      count = rw (leaves.entries, leaves.records) (length-set-here c.records.items t r' ∙ (sound.count ∙ sym (accepted-same H e leaves.own.no_accept)));
       tracked = rw (leaves.entries, leaves.records) (tracked-after S H e c.records.items t r r' q leaves.own leaves.was leaves.tracks sound.tracked);
       prior = λ u x lt is. prior-after c.records.items c.first t r r' leaves.was leaves.becomes sound.prior u x (rw leaves.first at lt) (rw leaves.records at is);
       bound = rw (leaves.first, leaves.records) (rw (length-set-here c.records.items t r') sound.bound);
@@ -161,7 +133,6 @@ sound-after S d d' prepared prepared' c c' e t r r' q sound stay leaves =
       gate = rw (leaves.entries, leaves.first) leaves.gate;
       ready = rw leaves.records (ready-after S prepared prepared' c.records.items t r r' stay leaves.was leaves.becomes sound.ready);
       few = rw leaves.entries (omega (arith, sound.few, leaves.spare));
-      room = rw leaves.entries (omega (arith, sound.room, leaves.pays));
+      room = rw leaves.entries (omega (arith, sound.room, leaves.pays, leaves.owed));
       places = omega (arith, sound.places, leaves.spare, leaves.pays);
-      spent = rw leaves.entries (few-after S H e t leaves.own (omega (arith, leaves.owed)) leaves.spent sound.spent);
     }

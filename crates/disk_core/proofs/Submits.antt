@@ -9,7 +9,7 @@ use Rattle.history.specs.declared.entry.View.{View}
 use Rattle.history.specs.declared.entry.Asked.{Asked}
 use Rattle.history.specs.declared.entry.Kind.TheVariants.{Write}
 use Rattle.history.specs.declared.entry.Entry.TheVariants.{Refuse}
-use Rattle.history.specs.Setup.{Setup, blocks_of}
+use Rattle.history.specs.Setup.{Setup, size_of, blocks_of}
 use Rattle.history.specs.Tokens.{Request}
 use Rattle.history.specs.Rules.{refusal_of}
 use Rattle.disk_core.specs.declared.record.Record.{Record}
@@ -21,14 +21,13 @@ use Rattle.disk_core.specs.Sound.{IsSound, Tracks}
 use Rattle.disk_core.specs.Stepping.{state_of, buffers_of}
 use Rattle.disk_core.specs.Submitting.{plain_refusal, cost_of, first_owed, payload_of, AreReadyFor, SameButRoom, IsMoving, IsKept}
 use Rattle.disk_core.proofs.Accepted.{IsNew, IsWithin, within, refusal-is}
-use Rattle.disk_core.proofs.Facts.{blocks-of, sizes-bounds}
-use Rattle.disk_core.proofs.Followed.{size-of}
 use Rattle.disk_core.proofs.Kept.{keeps-sound}
 use Rattle.disk_core.proofs.Places.{get-map, map-set, get-last}
 use Rattle.disk_core.proofs.Refusing.{LeavesRefused}
+use Rattle.disk_core.proofs.Setups.{blocks-of, size-of, setup-is}
 
 -- how many bytes the medium has
-total : (S : Setup) (d : Device) → setup_of d ≡ S → d.blocks * d.size ≡ blocks_of S 1 * S.size
+total : (S : Setup) (d : Device) → setup_of d ≡ S → d.blocks * d.size ≡ blocks_of S 1 * size_of S
 total S d is = ap (λ n. n * d.size) (sym (blocks-of S d is)) ∙ ap (λ n. blocks_of S 1 * n) (size-of S d is)
 
 pub refusal-here : (S : Setup) (d : Device) (prepared : ℕ → Type 0) (c : Core) (view : View) (media_id : ℕ) (asked : Asked) (buffer : List ℕ) (answer : Option Status) → IsSound S d prepared c → IsMoving asked buffer
@@ -41,7 +40,7 @@ refusal-here S d prepared c view media_id asked buffer answer sound is plain =
 pub record TakesRoom (S : Setup) (prepared' : ℕ → Type 0) (c m c' : Core) (tag : ℕ) (view : View) (asked : Asked) (buffer : List ℕ) (us : List Span) (bytes : List ℕ) (owed : ℕ) (r : Record) : Type 0 where
   pub same : SameButRoom c m
   pub kept : IsKept m c' tag view asked us bytes owed buffer r
-  pub units : us ≡ units_of S.size (view.start + asked.at) (view.start + asked.at + length buffer)
+  pub units : us ≡ units_of S.geometry (view.start + asked.at) (view.start + asked.at + length buffer)
   pub bytes_are : bytes ≡ payload_of asked.kind buffer
   pub owes : owed ≡ first_owed (cost_of asked.kind us) (length buffer)
   pub room : c.owed + owed < m.history.spare
@@ -52,9 +51,8 @@ pub accept-sound : (S : Setup) (d : Device) (prepared prepared' : ℕ → Type 0
     → TakesRoom S prepared' c m c' tag view asked buffer us bytes owed r → IsSound S d prepared' c'
 accept-sound S d prepared prepared' c m c' tag view media_id asked buffer us bytes owed r shaped sound stay is unrefused takes =
     let kept : IsKept m c' tag view asked us bytes owed buffer r = takes.kept in
-    let some : 0 < S.size = rw (sym (size-of S d sound.meets.setup)) (omega (arith, (sizes-bounds d.size shaped.size).0)) in
-    let lies : IsWithin (blocks_of S 1 * S.size) view media_id asked.at asked.length =
-    within (blocks_of S 1 * S.size) view media_id asked.at asked.length (ap (λ n. plain_refusal n view media_id asked.at asked.length) (sym (total S d sound.meets.setup)) ∙ unrefused) in
+    let lies : IsWithin (blocks_of S 1 * size_of S) view media_id asked.at asked.length =
+    within (blocks_of S 1 * size_of S) view media_id asked.at asked.length (ap (λ n. plain_refusal n view media_id asked.at asked.length) (sym (total S d sound.meets.setup)) ∙ unrefused) in
     let new : IsNew S asked view buffer r = record {
       kind = kept.kind;
       from = kept.from;
@@ -66,7 +64,7 @@ accept-sound S d prepared prepared' c m c' tag view media_id asked buffer us byt
     } in
     let owes : first_owed (cost_of r.kind r.units.items) (length r.buffer.items) ≡ owed = rw (kept.kind, kept.units_are, kept.bytes_are) (sym takes.owes) in
     let long : length c'.history.entries ≡ length m.history.entries + 1 = ap length kept.entries ∙ (omega arith) in
-    keeps-sound S d prepared prepared' c c' tag view media_id asked buffer r some sound stay is new lies
+    keeps-sound S d prepared prepared' c c' tag view media_id asked buffer r (setup-is S d shaped sound.meets.setup) sound stay is new lies
     (record {
       entries = kept.entries ∙ (rw (takes.same.entries, takes.bytes_are) refl);
       few = omega (arith, long, takes.same.few, kept.spare);

@@ -9,10 +9,10 @@ use Rattle.history.specs.declared.entry.Kind.TheVariants.{Read, Write}
 use Rattle.history.specs.declared.entry.UnitKind.TheVariants.{Bytes}
 use Rattle.history.specs.declared.entry.Asked.{Asked}
 use Rattle.history.specs.declared.entry.Command.{Command}
-use Rattle.history.specs.declared.entry.Command.TheVariants.{Fetch, Store, Put, Get, Sync}
+use Rattle.history.specs.declared.entry.Command.TheVariants.{Fetch, Store, Put, Get, Wipe, Sync}
 use Rattle.history.specs.declared.entry.Entry.{Entry}
 use Rattle.history.specs.declared.entry.Entry.TheVariants.{Accept, Refuse, Collect}
-use Rattle.history.specs.Setup.{Setup}
+use Rattle.history.specs.Setup.{Setup, size_of}
 use Rattle.history.specs.Eras.{media_id_of}
 use Rattle.history.specs.Tokens.{Request, accepted, request, was_collected, from_of, until_of}
 use Rattle.history.specs.Contents.{contents}
@@ -92,10 +92,10 @@ pub record Gets (S : Setup) (H : List Entry) (t b n : ℕ) (old new : List (List
   pub buffer : List ℕ
   pub there : slice_get old t ≡ Some buffer
   pub piece : List ℕ
-  pub counted : length piece ≡ min (until_of S.size q) ((b + n) * S.size) - max (from_of S.size q) (b * S.size)
-  pub same : AreToldAt (contents S (media_id_of H) H) (max (from_of S.size q) (b * S.size)) piece
-  pub fits : max (from_of S.size q) (b * S.size) - from_of S.size q + length piece ≤ length buffer
-  pub filled : new ≡ set old t (patch buffer (max (from_of S.size q) (b * S.size) - from_of S.size q) piece)
+  pub counted : length piece ≡ min (until_of S q) ((b + n) * size_of S) - max (from_of S q) (b * size_of S)
+  pub same : AreToldAt (contents S (media_id_of H) H) (max (from_of S q) (b * size_of S)) piece
+  pub fits : max (from_of S q) (b * size_of S) - from_of S q + length piece ≤ length buffer
+  pub filled : new ≡ set old t (patch buffer (max (from_of S q) (b * size_of S) - from_of S q) piece)
 
 -- what a command does to the buffers
 abbrev pub Fills : Setup → List Entry → ℕ → Command → Outcome → List (List ℕ) → List (List ℕ) → Type 0
@@ -104,11 +104,12 @@ Fills S H t (Get b n) (Failed done) old new = new ≡ old
 Fills S H t (Fetch b) outcome old new = new ≡ old
 Fills S H t (Store b) outcome old new = new ≡ old
 Fills S H t (Put b n) outcome old new = new ≡ old
+Fills S H t (Wipe b n) outcome old new = new ≡ old
 Fills S H t Sync outcome old new = new ≡ old
 
 -- the command that comes next was made, with one entry; it failed only where the medium's faults rose
-pub record Moves (S : Setup) (H H' : List Entry) (buffers buffers' : List (List ℕ)) (faults faults' : ℕ) (turn : Turn) (outcome : Outcome) : Type 0 where
-  pub next : next_turn S.size H ≡ Some turn
+pub record MakesNext (S : Setup) (H H' : List Entry) (buffers buffers' : List (List ℕ)) (faults faults' : ℕ) (turn : Turn) (outcome : Outcome) : Type 0 where
+  pub next : next_turn S H ≡ Some turn
   pub entries : H' ≡ entry_of turn outcome ∷ H
   pub owed : owed_entries S H' + 1 ≤ owed_entries S H
   pub fills : Fills S H turn.token turn.command outcome buffers buffers'
@@ -122,26 +123,27 @@ is_fetched (Fetch b) (Failed done) = false
 is_fetched (Store b) outcome = false
 is_fetched (Put b n) outcome = false
 is_fetched (Get b n) outcome = false
+is_fetched (Wipe b n) outcome = false
 is_fetched Sync outcome = false
 
 -- a step with a command, which was a done fetch or not
 pub record Steps (S : Setup) (H H' : List Entry) (buffers buffers' : List (List ℕ)) (faults faults' : ℕ) (fetched : Bool) : Type 0 where
   pub turn : Turn
   pub outcome : Outcome
-  pub moves : Moves S H H' buffers buffers' faults faults' turn outcome
+  pub moves : MakesNext S H H' buffers buffers' faults faults' turn outcome
   pub answer : is_fetched turn.command outcome ≡ fetched
 
 -- a step makes the command that comes next, and none exactly where no token is outstanding
 abbrev pub StepsTo : Setup → List Entry → List Entry → List (List ℕ) → List (List ℕ) → ℕ → ℕ → Step → Type 0
 StepsTo S H H' buffers buffers' faults faults' step.Did = Steps S H H' buffers buffers' faults faults' false
 StepsTo S H H' buffers buffers' faults faults' step.Fetched = Steps S H H' buffers buffers' faults faults' true
-StepsTo S H H' buffers buffers' faults faults' step.Drained = (first_open S.size H ≡ None) × (H' ≡ H) × (buffers' ≡ buffers) × (faults' ≡ faults)
+StepsTo S H H' buffers buffers' faults faults' step.Drained = (first_open S H ≡ None) × (H' ≡ H) × (buffers' ≡ buffers) × (faults' ≡ faults)
 
 -- the ended token is handed back: a write's bytes as they came, a read's with the bytes that it got
 pub record Collects (old : State) (tag number : ℕ) (status : Status) (buffer : List ℕ) (new : State) (q : Request) : Type 0 where
   pub adds : Adds old new (Collect tag number)
   pub named : request old.entries number ≡ Some q
-  pub marked : mark_of old.setup.size old.entries number ≡ Some status
+  pub marked : mark_of old.setup old.entries number ≡ Some status
   pub uncollected : was_collected old.entries number ≡ false
   pub handed_back : slice_get old.buffers number ≡ Some buffer
   pub written : q.asked.kind ≡ Write → buffer ≡ q.bytes
@@ -152,5 +154,5 @@ pub record Collects (old : State) (tag number : ℕ) (status : Status) (buffer :
 
 abbrev pub CollectsOr : State → ℕ → ℕ → Result Done NotThere → State → Type 0
 CollectsOr old tag number (Ok done) new = (q : Request) × Collects old tag number done.status done.buffer.items new q
-CollectsOr old tag number (Err not_there.Outstanding) new = (number < accepted old.entries) × (mark_of old.setup.size old.entries number ≡ None) × (new ≡ old)
+CollectsOr old tag number (Err not_there.Outstanding) new = (number < accepted old.entries) × (mark_of old.setup old.entries number ≡ None) × (new ≡ old)
 CollectsOr old tag number (Err not_there.Unknown) new = ((accepted old.entries ≤ number) ⊎ (was_collected old.entries number ≡ true)) × (new ≡ old)

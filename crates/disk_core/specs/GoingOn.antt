@@ -5,7 +5,7 @@ use Rattle.history.specs.declared.entry.View.{View}
 use Rattle.history.specs.declared.entry.Asked.{Asked}
 use Rattle.history.specs.declared.entry.Entry.{Entry}
 use Rattle.history.specs.Tokens.{Request, accepted, request, was_collected, from_of, until_of}
-use Rattle.history.specs.Marks.{is_moved}
+use Rattle.history.specs.Commands.{is_moved}
 use Rattle.disk_core.specs.State.{State}
 use Rattle.disk_core.specs.declared.answers.Ask.{Ask}
 use Rattle.disk_core.specs.declared.answers.Refused.{Refused}
@@ -18,8 +18,8 @@ use Rattle.disk_core.specs.Calls.{Accepts, Submits, StepsTo, Collects, CollectsO
 -- what became of a token's buffer: it is as long, and each byte that no done command of the token moved is as it was
 pub record IsRest (s : State) (t : ℕ) (q : Request) (buffer buffer' : List ℕ) : Type 0 where
   pub long : length buffer' ≡ length buffer
-  pub same : (x : ℕ) → from_of s.setup.size q ≤ x → x < until_of s.setup.size q → is_moved s.setup.size s.entries t x ≡ false
-      → slice_get buffer' (x - from_of s.setup.size q) ≡ slice_get buffer (x - from_of s.setup.size q)
+  pub same : (x : ℕ) → from_of s.setup q ≤ x → x < until_of s.setup q → is_moved s.setup s.entries t x ≡ false
+      → slice_get buffer' (x - from_of s.setup q) ≡ slice_get buffer (x - from_of s.setup q)
 
 -- the same disk later: entries were added, and of each token that was not handed back the buffer is there with its rest
 pub record GoesOn (old new : State) : Type 0 where

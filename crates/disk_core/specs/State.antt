@@ -15,10 +15,10 @@ pub record State : Type 0 where
   pub buffers : List (List ℕ)
   pub faults : ℕ
 
--- a disk with this one medium, not protected
+-- a disk with this one medium, not protected, whose groups are its blocks
 unfoldable pub setup_of : Device → Setup
 setup_of d = record {
-  size = d.size;
+  geometry = record { size = d.size; per = 1 };
   cached = d.cached;
   protected = false;
   media = record { blocks = d.blocks; first = d.first } ∷ [];
@@ -27,7 +27,7 @@ setup_of d = record {
 -- a read's buffer has each byte that the read got
 abbrev pub AreGiven : Setup → List Entry → ℕ → Request → List ℕ → Type 0
 AreGiven S H t q buffer =
-    (x v : ℕ) → from_of S.size q ≤ x → x < until_of S.size q → bytes_read S H t x ≡ Some v → slice_get buffer (x - from_of S.size q) ≡ Some v
+    (x v : ℕ) → from_of S q ≤ x → x < until_of S q → bytes_read S H t x ≡ Some v → slice_get buffer (x - from_of S q) ≡ Some v
 
 -- the medium follows the history
 pub record Meets (S : Setup) (H : List Entry) (d : Device) : Type 0 where

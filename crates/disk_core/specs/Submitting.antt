@@ -7,11 +7,10 @@ use Rattle.history.specs.declared.entry.View.{View}
 use Rattle.history.specs.declared.entry.Asked.{Asked}
 use Rattle.history.specs.declared.entry.UnitKind.TheVariants.{Bytes}
 use Rattle.history.specs.declared.entry.Entry.TheVariants.{Accept}
-use Rattle.history.specs.Tokens.{is_flush}
 use Rattle.disk_core.specs.declared.record.Record.{Record}
 use Rattle.disk_core.specs.declared.record.Core.{Core}
 use Rattle.history.specs.declared.entry.Kind.{Kind}
-use Rattle.history.specs.declared.entry.Kind.TheVariants.{Read, Write, Flush}
+use Rattle.history.specs.declared.entry.Kind.TheVariants.{Read, Write, Flush, Erase}
 
 -- the view leaves a medium of so many bytes, or the range leaves the view
 abbrev pub is_beyond : ℕ → View → ℕ → ℕ → Bool
@@ -24,12 +23,14 @@ plain_refusal total view media_id at n =
     else (if is_beyond total view at n then Some InvalidParameter
     else None)
 
--- the commands of a unit: a part of a write is fetched and stored
+-- the commands of a unit: a part of a write or an erase is fetched and stored
 abbrev pub unit_cost : Kind → Bool → ℕ
 unit_cost Write false = 2
 unit_cost Write true = 1
 unit_cost Read whole = 1
 unit_cost Flush whole = 1
+unit_cost Erase false = 2
+unit_cost Erase true = 1
 
 unfoldable pub cost_of : Kind → List Span → ℕ
 cost_of kind [] = 0
@@ -48,6 +49,7 @@ abbrev pub payload_of : Kind → List ℕ → List ℕ
 payload_of Write buffer = buffer
 payload_of Read buffer = []
 payload_of Flush buffer = []
+payload_of Erase buffer = []
 
 -- each block of the units is ready to be written
 abbrev pub AreReadyFor : (ℕ → Type 0) → List Span → Type 0
@@ -64,10 +66,17 @@ pub record SameButRoom (c c' : Core) : Type 0 where
   pub block : c'.block ≡ c.block
   pub held : c'.held ≡ c.held
 
+-- a read and a write move the bytes of a buffer
+abbrev pub has_buffer : Kind → Bool
+has_buffer Read = true
+has_buffer Write = true
+has_buffer Flush = false
+has_buffer Erase = false
+
 -- a caller asks to move the bytes of its buffer
 pub record IsMoving (asked : Asked) (buffer : List ℕ) : Type 0 where
   pub bytes : asked.unit ≡ Bytes
-  pub moving : is_flush asked.kind ≡ false
+  pub moving : has_buffer asked.kind ≡ true
   pub long : asked.length ≡ length buffer
 
 -- the new request has its entry and its record

@@ -53,7 +53,7 @@ fn step_first<M: Medium>(medium: &mut M, core: &mut Core) -> Step
     match kept.kind {
         Kind::Read => get(medium, core, unit),
         Kind::Write => step_write(medium, core, unit),
-        Kind::Flush => unreachable!(),
+        Kind::Flush | Kind::Erase => unreachable!(),
     }
 }
 

@@ -127,7 +127,7 @@ impl<M: Medium> Disk<M> {
     pub fn history(&self) -> &History
         ensures entries { result.now.entries ≡ self.now.entries }
         ensures legal { IsLegal self.now.setup self.now.entries }
-        ensures few_commands { AreFewCommands self.now.setup.size self.now.entries }
+        ensures few_commands { AreFewCommands self.now.setup self.now.entries }
     {
         &self.core.history
     }
@@ -144,7 +144,7 @@ impl<M: Medium> Disk<M> {
         ensures meets { Meets self.setup self.entries (M.device result.0) }
         ensures entries { result.1.entries ≡ self.entries }
         ensures legal { IsLegal self.setup self.entries }
-        ensures few_commands { AreFewCommands self.setup.size self.entries }
+        ensures few_commands { AreFewCommands self.setup self.entries }
     {
         let Disk { medium, core, .. } = self;
         let Core { history, .. } = core;

@@ -3,18 +3,17 @@ ghost use Rattle.medium.specs.Device.{StayPrepared};
 ghost use Rattle.disk_split.specs.Units.{units_of};
 ghost use Rattle.efi_status.specs.declared.Status.TheVariants.{Success};
 ghost use Rattle.history.specs.declared.entry.Kind.TheVariants.{Write};
-ghost use Rattle.history.specs.Tokens.{is_flush};
 ghost use Rattle.disk_split.specs.declared.span.Span.{Span as SpanOf};
 ghost use Rattle.disk_core.specs.Calls.{SubmitsAsked};
 ghost use Rattle.disk_core.specs.Sound.{IsSound};
 ghost use Rattle.disk_core.specs.State.{setup_of};
 ghost use Rattle.disk_core.specs.Stepping.{state_of};
-ghost use Rattle.disk_core.specs.Submitting.{plain_refusal, is_beyond, unit_cost, cost_of, first_owed, LieOn, payload_of, AreReadyFor, SameButRoom, IsMoving, IsKept};
+ghost use Rattle.disk_core.specs.Submitting.{has_buffer, plain_refusal, is_beyond, unit_cost, cost_of, first_owed, LieOn, payload_of, AreReadyFor, SameButRoom, IsMoving, IsKept};
 
 use crate::answers::{Refused, Token, Why};
 use crate::record::{Core, Record};
 use byte_lists::Bytes;
-use disk_split::{Span, spans};
+use disk_split::{Geometry, Span, spans};
 use efi_status::Status;
 use history::{Asked, Entry, Kind, View};
 use medium::Medium;
@@ -43,12 +42,12 @@ pub fn refusal(total: u64, view: &View, media_id: u32, at: u64, length: u64) -> 
     None
 }
 
-// How many commands a unit of a request needs: a part of a write is fetched and stored.
+// How many commands a unit of a request needs: a part of a write or an erase is fetched and stored.
 fn commands_for_unit(kind: Kind, unit: &Span) -> u64
     ensures { result ≡ unit_cost kind unit.now.whole }
 {
     match kind {
-        Kind::Write => { if unit.whole { 1 } else { 2 } }
+        Kind::Write | Kind::Erase => { if unit.whole { 1 } else { 2 } }
         Kind::Read | Kind::Flush => 1,
     }
 }
@@ -106,21 +105,25 @@ pub fn take_room<M: Medium>(
     from: u64,
     buffer: &[u8],
 ) -> Result<Room, AllocError>
-    requires moving { is_flush kind ≡ false }
+    requires moving { has_buffer kind ≡ true }
     requires within { from + length buffer.now ≤ (M.device medium.old).blocks * (M.device medium.old).size }
     requires small { length buffer.now ≤ 2 ^ 24 }
     requires few { length core.old.history.entries + core.old.history.spare < 2 ^ 63 }
     ensures device { M.device medium.new ≡ M.device medium.old }
     ensures stay { StayPrepared (M.prepared medium.old) (M.prepared medium.new) }
     ensures same { SameButRoom core.old core.new }
-    ensures units { IfOk result (λ room. room.units.items ≡ units_of (M.device medium.old).size from (from + length buffer.now)) }
+    ensures units { IfOk result (λ room. room.units.items ≡ units_of (record { size = (M.device medium.old).size; per = 1 }) from (from + length buffer.now)) }
     ensures bytes { IfOk result (λ room. room.bytes ≡ payload_of kind buffer.now) }
     ensures owed { IfOk result (λ room. room.owed ≡ first_owed (cost_of kind room.units.items) (length buffer.now)) }
     ensures room { IfOk result (λ room. core.old.owed + room.owed < core.new.history.spare) }
     ensures place { OnOk result (vec_len core.new.records < vec_capacity core.new.records) }
     ensures ready { IfOk result (λ room. kind ≡ Write → AreReadyFor (M.prepared medium.new) room.units.items) }
 {
-    let units = spans(alloc, from, buffer.len() as u64, medium.size())?;
+    let blocks = Geometry {
+        size: medium.size(),
+        per: 1,
+    };
+    let units = spans(alloc, from, buffer.len() as u64, blocks)?;
     let bytes = payload(alloc, kind, buffer)?;
     core.records.reserve(1)?;
     let cost = commands_for(kind, &units);
@@ -139,7 +142,7 @@ fn payload(alloc: Global, kind: Kind, buffer: &[u8]) -> Result<Bytes, AllocError
 {
     match kind {
         Kind::Write => Bytes::copy_of(alloc, buffer),
-        Kind::Read | Kind::Flush => Ok(Bytes::from_vec(Vec::new(alloc))),
+        Kind::Read | Kind::Flush | Kind::Erase => Ok(Bytes::from_vec(Vec::new(alloc))),
     }
 }
 

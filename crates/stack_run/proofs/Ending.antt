@@ -9,7 +9,7 @@ use Rattle.stack_run.specs.Leading.{GoesOn, Leads}
 use Rattle.stack_run.proofs.Collecting.{onto-all}
 use Rattle.stack_run.proofs.Enough.{enough}
 
-over : (S : Setup) (H : List Entry) (n : ℕ) → first_open S.size H ≡ None → plain_from (suc n) S (stand H [] []) ≡ all_collected H
+over : (S : Setup) (H : List Entry) (n : ℕ) → first_open S H ≡ None → plain_from (suc n) S (stand H [] []) ≡ all_collected H
 unfolding plain_from
 over S H n none = rw none
 
@@ -17,7 +17,7 @@ given-is : (H : List Entry) (given : List Outcome) → outcomes_onto H [] ≡ ou
 unfolding outcomes_onto outcomes_of
 given-is H given same = sym same ∙ sym (onto-all H [])
 
-pub plain-ends : (S : Setup) (orders : List Order) (H : List Entry) → 0 < S.size → first_open S.size H ≡ None → Leads S [] orders H []
+pub plain-ends : (S : Setup) (orders : List Order) (H : List Entry) → 0 < S.geometry.size → first_open S H ≡ None → Leads S [] orders H []
     → all_collected H ≡ plain_history S orders (outcomes_of (all_collected H))
 plain-ends S orders H some none leads =
     let on : GoesOn S leads.k [] orders H [] (suc (rounds orders)) [] = leads.on (suc (rounds orders)) [] in

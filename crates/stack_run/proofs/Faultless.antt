@@ -47,7 +47,7 @@ taken-alike S s made = by s.lines
     by : (lines : List Order) → IsAlike (taken_from S s.history lines s.outcomes) (taken_from S s.history lines [])
     by [] = record { same = refl; made = made }
     by (order.Request asked payload k ∷ rest) = record { same = refl; made = made }
-    by (order.Wait ∷ rest) = waits rest (first_open S.size s.history)
+    by (order.Wait ∷ rest) = waits rest (first_open S s.history)
 
 turned-alike : (s : Stand) (turn : Turn) → AreMade s.outcomes → IsAlike (turned s turn) (turned (bare s) turn)
 turned-alike s turn made = record {
@@ -83,13 +83,13 @@ stepped-alike size s made = by (next_turn size s.history)
 round-alike : (S : Setup) (s : Stand) → AreMade s.outcomes → IsAlike (a_round S s) (a_round S (bare s))
 round-alike S s made =
     let first : IsAlike (taken S s) (taken S (bare s)) = taken-alike S s made in
-    let second : IsAlike (stepped S.size (taken S s)) (stepped S.size (bare (taken S s))) = stepped-alike S.size (taken S s) first.made in
-    record { same = ap (stepped S.size) first.same ∙ second.same; made = second.made }
+    let second : IsAlike (stepped S.geometry.size (taken S s)) (stepped S.geometry.size (bare (taken S s))) = stepped-alike S.geometry.size (taken S s) first.made in
+    record { same = ap (stepped S.geometry.size) first.same ∙ second.same; made = second.made }
 
 from-alike : (S : Setup) (n : ℕ) (s : Stand) → AreMade s.outcomes → plain_from n S s ≡ plain_from n S (bare s)
 unfolding plain_from
 from-alike S zero s made = refl
-from-alike S (suc n) s made = by (is_over S.size s) (round-alike S s made) (λ t. from-alike S n t)
+from-alike S (suc n) s made = by (is_over S.geometry.size s) (round-alike S s made) (λ t. from-alike S n t)
   where
     by : (b : Bool) → IsAlike (a_round S s) (a_round S (bare s)) → ((t : Stand) → AreMade t.outcomes → plain_from n S t ≡ plain_from n S (bare t))
         → (if b then all_collected s.history else plain_from n S (a_round S s)) ≡ (if b then all_collected s.history else plain_from n S (a_round S (bare s)))

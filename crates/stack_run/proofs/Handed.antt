@@ -93,7 +93,7 @@ same-blocks : (d d' : Device) (H : List Entry) → Meets (setup_of d) H d' → d
 same-blocks d d' H meets = sym (blocks-are d') ∙ ap (λ S. blocks_of S 1) meets.setup
 
 same-size : (d d' : Device) (H : List Entry) → Meets (setup_of d) H d' → d'.size ≡ d.size
-same-size d d' H meets = sym (size-is d') ∙ (ap (λ S. S.size) meets.setup ∙ size-is d)
+same-size d d' H meets = sym (size-is d') ∙ (ap (λ S. S.geometry.size) meets.setup ∙ size-is d)
 
 -- the lines ran, and the image was put back
 pub ran-disk : (plan : DiskPlan) (client : ClientPlan) (old mid new : Image) (d d' : Device) (run : Run)

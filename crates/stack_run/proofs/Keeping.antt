@@ -35,7 +35,7 @@ get-push (z ∷ xs) x y zero is = inl is
 get-push (z ∷ xs) x y (suc t) is = elim (get-push xs x y t is) [ inl before ↦ inl before | inr last ↦ inr (omega (arith, last.0), last.1) ]
 
 -- how a token ended holds in a history that says the same of it
-end-stays : (S : Setup) (H H' : List Entry) (t : ℕ) (line : TokenLine) → request H' t ≡ request H t → mark_of S.size H' t ≡ Some line.status → ((x : ℕ) → bytes_read S H' t x ≡ bytes_read S H t x) → IsEnd S H t line → IsEnd S H' t line
+end-stays : (S : Setup) (H H' : List Entry) (t : ℕ) (line : TokenLine) → request H' t ≡ request H t → mark_of S H' t ≡ Some line.status → ((x : ℕ) → bytes_read S H' t x ≡ bytes_read S H t x) → IsEnd S H t line → IsEnd S H' t line
 unfolding gives_bytes
 end-stays S H H' t line named marked given end = record {
   marked = marked;
@@ -46,7 +46,7 @@ end-stays S H H' t line named marked given end = record {
 }
   where
     each : (r : Request) (bytes : List ℕ) → AreBytesRead S H t r bytes → AreBytesRead S H' t r bytes
-    each r bytes are = record { all = are.all; each = λ i lt. rw (given (from_of S.size r + i)) (are.each i lt) }
+    each r bytes are = record { all = are.all; each = λ i lt. rw (given (from_of S r + i)) (are.each i lt) }
 
     by : (o : Option Request) (g : Option (List ℕ)) → IfSome o (λ r. IfSome g (AreBytesRead S H t r)) → IfSome o (λ r. IfSome g (AreBytesRead S H' t r))
     by None g are = are
@@ -80,13 +80,13 @@ given-some Flush status bytes = refl
 
 -- the bytes of a read's buffer are those that it read
 read-bytes : (S : Setup) (H : List Entry) (t : ℕ) (q : Request) (buffer : List ℕ) → AreReadInto S H t q buffer → length buffer ≡ q.asked.length → AreBytesRead S H t q buffer
-read-bytes S H t q buffer read long = record { all = long; each = λ i lt. by i lt (bytes_read S H t (from_of S.size q + i)) refl }
+read-bytes S H t q buffer read long = record { all = long; each = λ i lt. by i lt (bytes_read S H t (from_of S q + i)) refl }
   where
-    by : (i : ℕ) → i < length buffer → (o : Option ℕ) → bytes_read S H t (from_of S.size q + i) ≡ o → IfSome o (λ b. slice_index buffer i ≡ b)
+    by : (i : ℕ) → i < length buffer → (o : Option ℕ) → bytes_read S H t (from_of S q + i) ≡ o → IfSome o (λ b. slice_index buffer i ≡ b)
     by i lt None is = tt
     by i lt (Some b) is =
-        let at : from_of S.size q + i - from_of S.size q ≡ i = omega arith in
-        get_or_from_slice_get buffer i b 0 (rw at at (read (from_of S.size q + i) b (omega arith) (omega (arith, lt, long)) is))
+        let at : from_of S q + i - from_of S q ≡ i = omega arith in
+        get_or_from_slice_get buffer i b 0 (rw at at (read (from_of S q + i) b (omega arith) (omega (arith, lt, long)) is))
 
 given-bytes : (S : Setup) (H : List Entry) (t : ℕ) (q : Request) (kind : Kind) (status : Status) (buffer : List ℕ) → (kind ≡ Read → AreBytesRead S H t q buffer) → IfSome (given_of kind status buffer) (AreBytesRead S H t q)
 given-bytes S H t q Read Success buffer are = are refl
@@ -102,7 +102,7 @@ given-bytes S H t q Write status buffer are = tt
 given-bytes S H t q Flush status buffer are = tt
 
 -- the token that is handed back now
-end-new : (S : Setup) (H : List Entry) (t : ℕ) (q : Request) (status : Status) (buffer : List ℕ) (line : TokenLine) → request H t ≡ Some q → q.tag ≡ 1 → mark_of S.size H t ≡ Some status
+end-new : (S : Setup) (H : List Entry) (t : ℕ) (q : Request) (status : Status) (buffer : List ℕ) (line : TokenLine) → request H t ≡ Some q → q.tag ≡ 1 → mark_of S H t ≡ Some status
     → (q.asked.kind ≡ Read → AreReadInto S H t q buffer) → length buffer ≡ q.asked.length → line.status ≡ status → line.given ≡ given_of q.asked.kind status buffer → IsEnd S H t line
 unfolding gives_bytes
 end-new S H t q status buffer line named tagged marked read long is gives = record {
@@ -115,7 +115,7 @@ end-new S H t q status buffer line named tagged marked read long is gives = reco
 
 -- one more token is collected
 pub keeps-collect : (S : Setup) (H : List Entry) (kinds : List Kind) (ends : List TokenLine) (q : Request) (status : Status) (buffer : List ℕ) (line : TokenLine)
-    → Keeps S H kinds ends → length ends < length kinds → request H (length ends) ≡ Some q → mark_of S.size H (length ends) ≡ Some status
+    → Keeps S H kinds ends → length ends < length kinds → request H (length ends) ≡ Some q → mark_of S H (length ends) ≡ Some status
     → (q.asked.kind ≡ Read → AreReadInto S H (length ends) q buffer) → length buffer ≡ q.asked.length → line.status ≡ status → line.given ≡ given_of q.asked.kind status buffer
     → Keeps S (Collect 1 (length ends) ∷ H) kinds (ends ++ line ∷ [])
 unfolding accepted request was_collected mark_of ending bytes_read
@@ -140,13 +140,13 @@ keeps-collect S H kinds ends q status buffer line keeps some named marked read l
     by : (t : ℕ) (l : TokenLine) → (slice_get ends t ≡ Some l) ⊎ ((t ≡ length ends) × (line ≡ l)) → IsEnd S (Collect 1 (length ends) ∷ H) t l
     by t l (inl before) =
         let end : IsEnd S H t l = keeps.ended t l before in
-        end-stays S H (Collect 1 (length ends) ∷ H) t l refl (or_else-none (mark_of S.size H t) ∙ end.marked) (λ x. refl) end
+        end-stays S H (Collect 1 (length ends) ∷ H) t l refl (or_else-none (mark_of S H t) ∙ end.marked) (λ x. refl) end
     by t l (inr (at, same)) =
         let end : IsEnd S H (length ends) line = end-new S H (length ends) q status buffer line named (keeps.asked (length ends) q named).0 marked read long is gives in
-        rw (at, ← same) (end-stays S H (Collect 1 (length ends) ∷ H) (length ends) line refl (or_else-none (mark_of S.size H (length ends)) ∙ end.marked) (λ x. refl) end)
+        rw (at, ← same) (end-stays S H (Collect 1 (length ends) ∷ H) (length ends) line refl (or_else-none (mark_of S H (length ends)) ∙ end.marked) (λ x. refl) end)
 
 -- before the first collect
-pub first-none : (S : Setup) (H : List Entry) (kinds : List Kind) (ends : List TokenLine) → first_open S.size H ≡ None → Keeps S H kinds ends → CollectsFirst S H H kinds ends
+pub first-none : (S : Setup) (H : List Entry) (kinds : List Kind) (ends : List TokenLine) → first_open S H ≡ None → Keeps S H kinds ends → CollectsFirst S H H kinds ends
 first-none S H kinds ends none keeps = record {
   drained = none;
   count = refl;
@@ -158,7 +158,7 @@ first-none S H kinds ends none keeps = record {
 pub first-next : (S : Setup) (H G H' : List Entry) (kinds kinds' : List Kind) (ends ends' : List TokenLine) → CollectsFirst S H G kinds ends → CollectsNext S G H' kinds kinds' ends ends' → CollectsFirst S H H' kinds' ends'
 unfolding accepted
 first-next S H G H' kinds kinds' ends ends' first next = record {
-  drained = rw (next.entries) (open-collect S.size G 1 (length ends) ∙ first.drained);
+  drained = rw (next.entries) (open-collect S.geometry.size G 1 (length ends) ∙ first.drained);
   count = rw (next.entries) first.count;
   so_far = λ test passes. next.entries ∙ by test passes next.token;
   keeps = next.keeps;

@@ -39,12 +39,12 @@ onto-entry turn Made H more = refl
 onto-entry turn (Failed done) H more = refl
 
 -- no token is outstanding
-pub step-drained : (S : Setup) (H : List Entry) → next_turn S.size H ≡ None → IsStep S H H
+pub step-drained : (S : Setup) (H : List Entry) → next_turn S H ≡ None → IsStep S H H
 unfolding stepped
 step-drained S H none lines more = record { given = more; same = refl; goes = rw none }
 
 -- a command that was no done fetch
-pub step-did : (S : Setup) (H H' : List Entry) → IsTurned S.size H H' false → IsStep S H H'
+pub step-did : (S : Setup) (H H' : List Entry) → IsTurned S H H' false → IsStep S H H'
 unfolding stepped
 step-did S H H' t lines more = record {
   given = t.outcome ∷ more;
@@ -53,10 +53,10 @@ step-did S H H' t lines more = record {
 }
 
 -- a done fetch with its store
-pub step-fetched : (S : Setup) (H G H' : List Entry) (fetched : Bool) → IsTurned S.size H G true → IsTurned S.size G H' fetched → IsStep S H H'
+pub step-fetched : (S : Setup) (H G H' : List Entry) (fetched : Bool) → IsTurned S H G true → IsTurned S G H' fetched → IsStep S H H'
 unfolding stepped commanded
 step-fetched S H G H' fetched t u lines more =
-    let there : next_turn S.size (entry_of t.turn t.outcome ∷ H) ≡ Some u.turn = rw (← t.entries) (u.next) in
+    let there : next_turn S (entry_of t.turn t.outcome ∷ H) ≡ Some u.turn = rw (← t.entries) (u.next) in
     record {
       given = t.outcome ∷ u.outcome ∷ more;
       same = rw (u.entries) (onto-entry u.turn u.outcome G more ∙ rw (t.entries) (onto-entry t.turn t.outcome H (u.outcome ∷ more)));
@@ -64,10 +64,10 @@ step-fetched S H G H' fetched t u lines more =
     }
 
 -- a done fetch where no token is outstanding after it
-pub step-fetched-drained : (S : Setup) (H G : List Entry) → IsTurned S.size H G true → next_turn S.size G ≡ None → IsStep S H G
+pub step-fetched-drained : (S : Setup) (H G : List Entry) → IsTurned S H G true → next_turn S G ≡ None → IsStep S H G
 unfolding stepped commanded
 step-fetched-drained S H G t none lines more =
-    let there : next_turn S.size (entry_of t.turn t.outcome ∷ H) ≡ None = rw (← t.entries) none in
+    let there : next_turn S (entry_of t.turn t.outcome ∷ H) ≡ None = rw (← t.entries) none in
     record {
       given = t.outcome ∷ more;
       same = rw (t.entries) (onto-entry t.turn t.outcome H more);
@@ -79,7 +79,7 @@ unfolding next_turn
 drained-turn size H none = rw none
 
 -- a round that is not the last one
-a-round : (S : Setup) (n : ℕ) (s : Stand) → is_over S.size s ≡ false → plain_from (n + 1) S s ≡ plain_from n S (a_round S s)
+a-round : (S : Setup) (n : ℕ) (s : Stand) → is_over S.geometry.size s ≡ false → plain_from (n + 1) S s ≡ plain_from n S (a_round S s)
 unfolding plain_from
 a-round S n s open_ = let e : n + 1 ≡ suc n = omega arith in rw e (rw open_)
 
@@ -108,7 +108,7 @@ leads-request S H asked payload media_id rest H' step = record {
 }
 
 -- a step while a token is outstanding
-pub leads-step : (S : Setup) (H H' : List Entry) (lines : List Order) (t : ℕ) → Stay lines → first_open S.size H ≡ Some t → IsStep S H H' → Leads S H lines H' lines
+pub leads-step : (S : Setup) (H H' : List Entry) (lines : List Order) (t : ℕ) → Stay lines → first_open S H ≡ Some t → IsStep S H H' → Leads S H lines H' lines
 unfolding taken
 leads-step S H H' lines t stay first step = record {
   k = 1;
@@ -117,11 +117,11 @@ leads-step S H H' lines t stay first step = record {
       record {
         given = on.given;
         same = on.same;
-        goes = a-round S n (stand H lines on.given) (open_ lines on.given) ∙ ap (plain_from n S) (ap (stepped S.size) (stays lines stay on.given) ∙ on.goes);
+        goes = a-round S n (stand H lines on.given) (open_ lines on.given) ∙ ap (plain_from n S) (ap (stepped S.geometry.size) (stays lines stay on.given) ∙ on.goes);
       };
 }
   where
-    open_ : (ls : List Order) (given : List Outcome) → is_over S.size (stand H ls given) ≡ false
+    open_ : (ls : List Order) (given : List Outcome) → is_over S.geometry.size (stand H ls given) ≡ false
     open_ [] given = rw first
     open_ (line ∷ rest) given = refl
 
@@ -131,13 +131,13 @@ leads-step S H H' lines t stay first step = record {
     stays (order.Request asked payload media_id ∷ rest) s given = absurd s
 
 -- a wait while no token is outstanding
-pub leads-wait : (S : Setup) (H : List Entry) (rest : List Order) → first_open S.size H ≡ None → Leads S H (order.Wait ∷ rest) (own_collected H) rest
+pub leads-wait : (S : Setup) (H : List Entry) (rest : List Order) → first_open S H ≡ None → Leads S H (order.Wait ∷ rest) (own_collected H) rest
 unfolding taken stepped
 leads-wait S H rest none = record {
   k = 1;
   on = λ n more. record {
     given = more;
     same = onto-own H more;
-    goes = a-round S n (stand H (order.Wait ∷ rest) more) refl ∙ ap (plain_from n S) (rw (none, drained-turn S.size (own_collected H) (collected-drained S.size H none)));
+    goes = a-round S n (stand H (order.Wait ∷ rest) more) refl ∙ ap (plain_from n S) (rw (none, drained-turn S.geometry.size (own_collected H) (collected-drained S.geometry.size H none)));
   };
 }

@@ -32,7 +32,7 @@ use Rattle.stack_run.proofs.Keeping.{keeps-stays}
 pub whole-is : (S : Setup) (d : Device) (blocks size : ℕ) → setup_of d ≡ S → blocks ≡ d.blocks → size ≡ d.size → record { start = 0; length = blocks * size; media_id = 1; index = 0 } ≡ whole_view S 1
 whole-is S d blocks size is b s = rw (b, s, blocks-of S d is, size-of S d is)
 
-pub size-some : (S : Setup) (d : Device) → setup_of d ≡ S → is_block_size d.size ≡ true → 0 < S.size
+pub size-some : (S : Setup) (d : Device) → setup_of d ≡ S → is_block_size d.size ≡ true → 0 < S.geometry.size
 size-some S d is one = rw (← size-of S d is) (omega (arith, (sizes-bounds d.size one).0))
 
 -- a request and its step
@@ -47,7 +47,7 @@ takes-request S H G H' asked payload k kinds ends some answers steps =
 
 -- a wait, and what it collects
 pub takes-wait : (S : Setup) (H G H' : List Entry) (kinds : List Kind) (ends : List TokenLine)
-    → Waits S H G → first_open S.size G ≡ None → CollectsAll S G H' kinds ends → TakesLine S H H' order.Wait kinds ends
+    → Waits S H G → first_open S G ≡ None → CollectsAll S G H' kinds ends → TakesLine S H H' order.Wait kinds ends
 takes-wait S H G H' kinds ends waits none all = record {
   leads = λ rest. leads-on S H (order.Wait ∷ rest) G (order.Wait ∷ rest) H' rest (waits.leads (order.Wait ∷ rest) tt) (rw (all.own) (leads-wait S G rest none));
   keeps = all.keeps;
@@ -96,10 +96,10 @@ get-map f (x ∷ xs) zero = refl
 get-map f (x ∷ xs) (suc t) = get-map f xs t
 
 -- the lines say how each token ended
-pub all-ended : (S : Setup) (G H : List Entry) (kinds : List Kind) (lines : List TokenLine) → CollectsAll S G H kinds lines → AreEnds S.size H lines
+pub all-ended : (S : Setup) (G H : List Entry) (kinds : List Kind) (lines : List TokenLine) → CollectsAll S G H kinds lines → AreEnds S H lines
 all-ended S G H kinds lines all = record { count = all.count; each = λ t. by t (slice_get lines t) refl }
   where
-    by : (t : ℕ) (o : Option TokenLine) → slice_get lines t ≡ o → IfSome o (λ line. mark_of S.size H t ≡ Some line.status)
+    by : (t : ℕ) (o : Option TokenLine) → slice_get lines t ≡ o → IfSome o (λ line. mark_of S H t ≡ Some line.status)
     by t None is = tt
     by t (Some line) is = let end : IsEnd S H t line = all.keeps.ended t line is in end.marked
 
@@ -112,7 +112,7 @@ all-given S G H kinds lines all = record { count = length-map lines (λ (line : 
     by t (Some line) is = let end : IsEnd S H t line = all.keeps.ended t line is in end.given
 
 -- all lines were taken, and then all tokens collected: the history is the plain one of its outcomes
-pub plain-run : (S : Setup) (orders : List Order) (H G H' : List Entry) (kinds : List Kind) (lines : List TokenLine) → 0 < S.size → Leads S [] orders H [] → Waits S H G → first_open S.size G ≡ None → CollectsAll S G H' kinds lines → H' ≡ plain_history S orders (outcomes_of H')
+pub plain-run : (S : Setup) (orders : List Order) (H G H' : List Entry) (kinds : List Kind) (lines : List TokenLine) → 0 < S.geometry.size → Leads S [] orders H [] → Waits S H G → first_open S G ≡ None → CollectsAll S G H' kinds lines → H' ≡ plain_history S orders (outcomes_of H')
 plain-run S orders H G H' kinds lines some leads waits none all =
     rw (all.all) (plain-ends S orders G some none (leads-on S [] orders H [] G [] leads (waits.leads [] tt)))
 

@@ -46,9 +46,9 @@ turn-token H t Read (Some u) turn taken = let e : record { token = t; command = 
 turn-token H t Write None turn taken = cc
 turn-token H t Write (Some u) turn taken = let e : record { token = t; command = span_command H t Write u.whole u.block u.count } ≡ turn = cc in ap (λ (v : Turn). v.token) e
 
-stays-turn : (S : Setup) (H : List Entry) (turn : Turn) (outcome : Outcome) → next_turn S.size H ≡ Some turn → Stays S H (entry_of turn outcome ∷ H)
+stays-turn : (S : Setup) (H : List Entry) (turn : Turn) (outcome : Outcome) → next_turn S H ≡ Some turn → Stays S H (entry_of turn outcome ∷ H)
 unfolding request was_collected
-stays-turn S H turn outcome next = by (turn-of S.size H turn next)
+stays-turn S H turn outcome next = by (turn-of S.geometry.size H turn next)
   where
     named : (o : Outcome) (t : ℕ) → request (entry_of turn o ∷ H) t ≡ request H t
     named Made t = refl
@@ -58,21 +58,21 @@ stays-turn S H turn outcome next = by (turn-of S.size H turn next)
     collected Made t = refl
     collected (Failed done) t = refl
 
-    by : (t : ℕ) × (q : Request) × IsTurnOf S.size H turn t q → Stays S H (entry_of turn outcome ∷ H)
+    by : (t : ℕ) × (q : Request) × IsTurnOf S.geometry.size H turn t q → Stays S H (entry_of turn outcome ∷ H)
     by (u, q, of) = record {
       count = accepted-entry turn outcome H;
       named = named outcome;
       collected = collected outcome;
-      marked = λ t status was. mark-stays S.size H (entry_of turn outcome) t status was;
+      marked = λ t status was. mark-stays S.geometry.size H (entry_of turn outcome) t status was;
       given = λ t status was x.
           let silent : IsSilent S H (entry_of turn outcome) t = entry-silent S H turn outcome t (λ same. other t status was same) in
           silent.given x;
     }
       where
-        other : (t : ℕ) (status : Status) → mark_of S.size H t ≡ Some status → turn.token ≡ t → ⊥
+        other : (t : ℕ) (status : Status) → mark_of S H t ≡ Some status → turn.token ≡ t → ⊥
         other t status was same =
-            let e : u ≡ t = turn-token H u q.asked.kind (next_span S.size H u q) turn of.taken ∙ same in
-            let f : mark_of S.size H t ≡ None = rw (← e) of.unmarked in
+            let e : u ≡ t = turn-token H u q.asked.kind (next_span S.geometry.size H u q) turn of.taken ∙ same in
+            let f : mark_of S H t ≡ None = rw (← e) of.unmarked in
             cc
 
 open-turn : (size : ℕ) (H : List Entry) (turn : Turn) → next_turn size H ≡ Some turn → (t : ℕ) × (first_open size H ≡ Some t)
@@ -83,7 +83,7 @@ open-turn size H turn next = by (first_open size H) refl next
     by None first taken = cc
     by (Some t) first taken = (t, first)
 
-is-turned : (S : Setup) (H H' : List Entry) (b b' : List (List ℕ)) (f f' : ℕ) (fetched : Bool) → Moving S H H' b b' f f' fetched → IsTurned S.size H H' fetched
+is-turned : (S : Setup) (H H' : List Entry) (b b' : List (List ℕ)) (f f' : ℕ) (fetched : Bool) → Moving S H H' b b' f f' fetched → IsTurned S H H' fetched
 is-turned S H H' b b' f f' fetched moving = record {
   turn = moving.turn;
   outcome = moving.outcome;
@@ -100,7 +100,7 @@ pub did : (S : Setup) (H H' : List Entry) (b b' : List (List ℕ)) (f f' : ℕ) 
 did S H H' b b' f f' moving = record {
   step = step-did S H H' (is-turned S H H' b b' f f' false moving);
   stays = stays-moving S H H' b b' f f' false moving;
-  going = λ going. (moving.moves.owed, open-turn S.size H moving.turn moving.moves.next);
+  going = λ going. (moving.moves.owed, open-turn S.geometry.size H moving.turn moving.moves.next);
   over = λ over. cc;
 }
 
@@ -108,8 +108,8 @@ did S H H' b b' f f' moving = record {
 pub fetched : (S : Setup) (H G H' : List Entry) (b b' b'' : List (List ℕ)) (f f' f'' : ℕ) (answer : Step) → Moving S H G b b' f f' true → StepsTo S G H' b' b'' f' f'' answer → Steps S H H' true
 fetched S H G H' b b' b'' f f' f'' answer moving next = by answer next
   where
-    open_ : (t : ℕ) × (first_open S.size H ≡ Some t)
-    open_ = open-turn S.size H moving.turn moving.moves.next
+    open_ : (t : ℕ) × (first_open S H ≡ Some t)
+    open_ = open-turn S.geometry.size H moving.turn moving.moves.next
 
     two : (fetched : Bool) → Moving S G H' b' b'' f' f'' fetched → Steps S H H' true
     two fetched then = record {
@@ -123,16 +123,16 @@ fetched S H G H' b b' b'' f f' f'' answer moving next = by answer next
     by step.Did then = two false then
     by step.Fetched then = two true then
     by step.Drained then = rw (then.1) (record {
-      step = step-fetched-drained S H G (is-turned S H G b b' f f' true moving) (drained-turn S.size G then.0);
+      step = step-fetched-drained S H G (is-turned S H G b b' f f' true moving) (drained-turn S.geometry.size G then.0);
       stays = stays-moving S H G b b' f f' true moving;
       going = λ going. (moving.moves.owed, open_);
       over = λ over. cc;
     })
 
 -- no token is outstanding
-pub drained : (S : Setup) (H H' : List Entry) → first_open S.size H ≡ None → H' ≡ H → Steps S H H' false
+pub drained : (S : Setup) (H H' : List Entry) → first_open S H ≡ None → H' ≡ H → Steps S H H' false
 drained S H H' none same = rw same (record {
-  step = step-drained S H (drained-turn S.size H none);
+  step = step-drained S H (drained-turn S.geometry.size H none);
   stays = stays-same S H;
   going = λ going. cc;
   over = λ over. (none, refl);
@@ -148,5 +148,5 @@ waits-step S H G H' waits steps = record {
   leads = λ lines stay. by lines stay (steps.going refl).1;
 }
   where
-    by : (lines : List Order) → Stay lines → (t : ℕ) × (first_open S.size G ≡ Some t) → Leads S H lines H' lines
+    by : (lines : List Order) → Stay lines → (t : ℕ) × (first_open S G ≡ Some t) → Leads S H lines H' lines
     by lines stay (t, first) = leads-on S H lines G lines H' lines (waits.leads lines stay) (leads-step S G H' lines t stay first steps.step)

@@ -105,17 +105,17 @@ request-most size H t r None =
     omega (arith, sum-most (weight_at size H t) (from_of size r) r.asked.length 2 (λ x. byte-most (is_moved size H t x) (was_fetched H t (x / size))))
 
 -- an entry that says nothing of a token leaves its weight
-pub silent-weight : (S : Setup) (H : List Entry) (e : Entry) (t : ℕ) → IsSilent S H e t → token_weight S.size (e ∷ H) t ≡ token_weight S.size H t
+pub silent-weight : (S : Setup) (H : List Entry) (e : Entry) (t : ℕ) → IsSilent S H e t → token_weight S.geometry.size (e ∷ H) t ≡ token_weight S.geometry.size H t
 unfolding token_weight
-silent-weight S H e t silent = rw (silent.named, silent.marked) (by (request H t) (mark_of S.size H t))
+silent-weight S H e t silent = rw (silent.named, silent.marked) (by (request H t) (mark_of S H t))
   where
-    at : (x : ℕ) → weight_at S.size (e ∷ H) t x ≡ weight_at S.size H t x
-    at x = rw (silent.moved x, silent.fetched (x / S.size))
+    at : (x : ℕ) → weight_at S.geometry.size (e ∷ H) t x ≡ weight_at S.geometry.size H t x
+    at x = rw (silent.moved x, silent.fetched (x / S.geometry.size))
 
-    by : (r : Option Request) (mark : Option Status) → request_weight S.size (e ∷ H) t r mark ≡ request_weight S.size H t r mark
+    by : (r : Option Request) (mark : Option Status) → request_weight S.geometry.size (e ∷ H) t r mark ≡ request_weight S.geometry.size H t r mark
     by None mark = refl
     by (Some r) (Some status) = refl
-    by (Some r) None = ap (λ f. 1 + sum_from f (from_of S.size r) r.asked.length) (λ i x. at x i)
+    by (Some r) None = ap (λ f. 1 + sum_from f (from_of S r) r.asked.length) (λ i x. at x i)
 
 -- the first of which a test holds lies in the range and passes it
 first-is : (test : ℕ → Bool) (a n k : ℕ) → first_from test a n ≡ Some k → (k < a + n) × (test k ≡ true)
@@ -256,35 +256,35 @@ sync-weight size H t q named flush unmarked =
     complete = rw (named, flush, eq-eqb t t refl)
 
 -- the command of the next unit makes its token lighter
-unit-weight : (S : Setup) → 0 < S.size → (H : List Entry) (t : ℕ) (q : Request) (kind : Kind) (u : Span) → request H t ≡ Some q → mark_of S.size H t ≡ None
-    → (kind ≡ Flush → ⊥) → next_span S.size H t q ≡ Some u
-    → token_weight S.size (Done t (span_command H t kind u.whole u.block u.count) ∷ H) t + 1 ≤ token_weight S.size H t
+unit-weight : (S : Setup) → 0 < S.geometry.size → (H : List Entry) (t : ℕ) (q : Request) (kind : Kind) (u : Span) → request H t ≡ Some q → mark_of S H t ≡ None
+    → (kind ≡ Flush → ⊥) → next_span S.geometry.size H t q ≡ Some u
+    → token_weight S.geometry.size (Done t (span_command H t kind u.whole u.block u.count) ∷ H) t + 1 ≤ token_weight S.geometry.size H t
 unfolding next_span
 unit-weight S some H t q kind u named unmarked moving next =
-    let found : (k : ℕ) × (slice_get (units_of S.size (from_of S.size q) (until_of S.size q)) k ≡ Some u) × (not (is_moved S.size H t u.low) ≡ true) =
-    find-is (λ v. not (is_moved S.size H t v.low)) (units_of S.size (from_of S.size q) (until_of S.size q)) u next in
-    let unit : IsUnit S.size (from_of S.size q) (until_of S.size q) u =
-    are-get S.size (from_of S.size q) (until_of S.size q) (units_of S.size (from_of S.size q) (until_of S.size q)) found.0 u (units-are S.size (from_of S.size q) (until_of S.size q) some) found.1 in
-    let within : (from_of S.size q ≤ u.low) × (u.low < u.high) × (u.high ≤ until_of S.size q) =
-    tile-within (from_of S.size q) (until_of S.size q) (units_of S.size (from_of S.size q) (until_of S.size q)) found.0 u (tile-units S.size (from_of S.size q) (until_of S.size q) some (omega arith)) found.1 in
-    done-weight S.size H t (span_command H t kind u.whole u.block u.count) u.low q named unmarked within.0 (omega (arith, within.1, within.2)) (not-true (is_moved S.size H t u.low) found.2)
-    (lightens S.size (from_of S.size q) (until_of S.size q) H t kind u some unit moving)
+    let found : (k : ℕ) × (slice_get (units_of S.geometry (from_of S q) (until_of S q)) k ≡ Some u) × (not (is_moved S H t u.low) ≡ true) =
+    find-is (λ v. not (is_moved S H t v.low)) (units_of S.geometry (from_of S q) (until_of S q)) u next in
+    let unit : IsUnit S.geometry (from_of S q) (until_of S q) u =
+    are-get S.geometry.size (from_of S q) (until_of S q) (units_of S.geometry (from_of S q) (until_of S q)) found.0 u (units-are S.geometry.size (from_of S q) (until_of S q) some) found.1 in
+    let within : (from_of S q ≤ u.low) × (u.low < u.high) × (u.high ≤ until_of S q) =
+    tile-within (from_of S q) (until_of S q) (units_of S.geometry (from_of S q) (until_of S q)) found.0 u (tile-units S.geometry.size (from_of S q) (until_of S q) some (omega arith)) found.1 in
+    done-weight S.geometry.size H t (span_command H t kind u.whole u.block u.count) u.low q named unmarked within.0 (omega (arith, within.1, within.2)) (not-true (is_moved S H t u.low) found.2)
+    (lightens S.geometry.size (from_of S q) (until_of S q) H t kind u some unit moving)
 
 -- the next command of a token makes it lighter, however it ends
-turn-weight : (S : Setup) → 0 < S.size → (H : List Entry) (t : ℕ) (q : Request) (turn : Turn) (outcome : Outcome) → request H t ≡ Some q → mark_of S.size H t ≡ None
-    → turn_with H t q.asked.kind (next_span S.size H t q) ≡ Some turn
-    → (turn.token ≡ t) × (token_weight S.size (entry_of turn outcome ∷ H) t + 1 ≤ token_weight S.size H t)
-turn-weight S some H t q turn outcome named unmarked = by q.asked.kind refl (next_span S.size H t q) refl
+turn-weight : (S : Setup) → 0 < S.geometry.size → (H : List Entry) (t : ℕ) (q : Request) (turn : Turn) (outcome : Outcome) → request H t ≡ Some q → mark_of S H t ≡ None
+    → turn_with H t q.asked.kind (next_span S.geometry.size H t q) ≡ Some turn
+    → (turn.token ≡ t) × (token_weight S.geometry.size (entry_of turn outcome ∷ H) t + 1 ≤ token_weight S.geometry.size H t)
+turn-weight S some H t q turn outcome named unmarked = by q.asked.kind refl (next_span S.geometry.size H t q) refl
   where
     Falls : Turn → Outcome → Type 0
-    Falls v o = (v.token ≡ t) × (token_weight S.size (entry_of v o ∷ H) t + 1 ≤ token_weight S.size H t)
+    Falls v o = (v.token ≡ t) × (token_weight S.geometry.size (entry_of v o ∷ H) t + 1 ≤ token_weight S.geometry.size H t)
 
-    ends : (c : Command) (o : Outcome) → token_weight S.size (Done t c ∷ H) t + 1 ≤ token_weight S.size H t → (v : Turn) → record { token = t; command = c } ≡ v → Falls v o
+    ends : (c : Command) (o : Outcome) → token_weight S.geometry.size (Done t c ∷ H) t + 1 ≤ token_weight S.geometry.size H t → (v : Turn) → record { token = t; command = c } ≡ v → Falls v o
     ends c Made falls v e = subst (λ (w : Turn). Falls w Made) e (refl, falls)
-    ends c (Failed done) falls v e = subst (λ (w : Turn). Falls w (Failed done)) e (refl, fault-weight S.size H t c done q named unmarked)
+    ends c (Failed done) falls v e = subst (λ (w : Turn). Falls w (Failed done)) e (refl, fault-weight S.geometry.size H t c done q named unmarked)
 
-    by : (kind : Kind) → q.asked.kind ≡ kind → (span : Option Span) → next_span S.size H t q ≡ span → turn_with H t kind span ≡ Some turn → Falls turn outcome
-    by Flush is span next taken = ends Sync outcome (sync-weight S.size H t q named is unmarked) turn (cc)
+    by : (kind : Kind) → q.asked.kind ≡ kind → (span : Option Span) → next_span S.geometry.size H t q ≡ span → turn_with H t kind span ≡ Some turn → Falls turn outcome
+    by Flush is span next taken = ends Sync outcome (sync-weight S.geometry.size H t q named is unmarked) turn (cc)
     by Read is None next taken = cc
     by Read is (Some u) next taken = ends (span_command H t Read u.whole u.block u.count) outcome (unit-weight S some H t q Read u named unmarked (λ e. cc) next) turn (cc)
     by Write is None next taken = cc
@@ -326,16 +326,16 @@ accepted-entry turn Made H = refl
 accepted-entry turn (Failed done) H = refl
 
 -- a command makes the outstanding tokens lighter, however it ends
-pub turn-falls : (S : Setup) → 0 < S.size → (H : List Entry) (turn : Turn) (outcome : Outcome) → next_turn S.size H ≡ Some turn → weight S.size (entry_of turn outcome ∷ H) + 1 ≤ weight S.size H
+pub turn-falls : (S : Setup) → 0 < S.geometry.size → (H : List Entry) (turn : Turn) (outcome : Outcome) → next_turn S H ≡ Some turn → weight S.geometry.size (entry_of turn outcome ∷ H) + 1 ≤ weight S.geometry.size H
 unfolding weight
-turn-falls S some H turn outcome next = by (turn-of S.size H turn next)
+turn-falls S some H turn outcome next = by (turn-of S.geometry.size H turn next)
   where
-    by : (t : ℕ) × (q : Request) × IsTurnOf S.size H turn t q → weight S.size (entry_of turn outcome ∷ H) + 1 ≤ weight S.size H
+    by : (t : ℕ) × (q : Request) × IsTurnOf S.geometry.size H turn t q → weight S.geometry.size (entry_of turn outcome ∷ H) + 1 ≤ weight S.geometry.size H
     by (t, q, of) =
-        let taken : (turn.token ≡ t) × (token_weight S.size (entry_of turn outcome ∷ H) t + 1 ≤ token_weight S.size H t) = turn-weight S some H t q turn outcome of.named of.unmarked of.taken in
-        let each : (u : ℕ) → 0 ≤ u → u < 0 + accepted H → token_weight S.size (entry_of turn outcome ∷ H) u ≤ token_weight S.size H u =
+        let taken : (turn.token ≡ t) × (token_weight S.geometry.size (entry_of turn outcome ∷ H) t + 1 ≤ token_weight S.geometry.size H t) = turn-weight S some H t q turn outcome of.named of.unmarked of.taken in
+        let each : (u : ℕ) → 0 ≤ u → u < 0 + accepted H → token_weight S.geometry.size (entry_of turn outcome ∷ H) u ≤ token_weight S.geometry.size H u =
         λ u lo hi. elim (cases_eq t u) [
           | inl same ↦ rw (← same) (omega (arith, taken.1))
           | inr other ↦ omega (arith, silent-weight S H (entry_of turn outcome) u (entry-silent S H turn outcome u (λ e. other (sym taken.0 ∙ e))))
         ] in
-        rw (accepted-entry turn outcome H) (sum-falls (token_weight S.size (entry_of turn outcome ∷ H)) (token_weight S.size H) 0 (accepted H) t each (omega arith) (omega (arith, of.token)) taken.1)
+        rw (accepted-entry turn outcome H) (sum-falls (token_weight S.geometry.size (entry_of turn outcome ∷ H)) (token_weight S.geometry.size H) 0 (accepted H) t each (omega arith) (omega (arith, of.token)) taken.1)

@@ -25,15 +25,15 @@ pub record Stays (S : Setup) (H H' : List Entry) : Type 0 where
   pub count : accepted H' ≡ accepted H
   pub named : (t : ℕ) → request H' t ≡ request H t
   pub collected : (t : ℕ) → was_collected H' t ≡ was_collected H t
-  pub marked : (t : ℕ) (status : Status) → mark_of S.size H t ≡ Some status → mark_of S.size H' t ≡ Some status
-  pub given : (t : ℕ) (status : Status) → mark_of S.size H t ≡ Some status → (x : ℕ) → bytes_read S H' t x ≡ bytes_read S H t x
+  pub marked : (t : ℕ) (status : Status) → mark_of S H t ≡ Some status → mark_of S H' t ≡ Some status
+  pub given : (t : ℕ) (status : Status) → mark_of S H t ≡ Some status → (x : ℕ) → bytes_read S H' t x ≡ bytes_read S H t x
 
 -- a step of the schedule, and whether a token was outstanding
 pub record Steps (S : Setup) (H H' : List Entry) (some : Bool) : Type 0 where
   pub step : IsStep S H H'
   pub stays : Stays S H H'
-  pub going : some ≡ true → (owed_entries S H' + 1 ≤ owed_entries S H) × ((t : ℕ) × (first_open S.size H ≡ Some t))
-  pub over : some ≡ false → (first_open S.size H ≡ None) × (H' ≡ H)
+  pub going : some ≡ true → (owed_entries S H' + 1 ≤ owed_entries S H) × ((t : ℕ) × (first_open S H ≡ Some t))
+  pub over : some ≡ false → (first_open S H ≡ None) × (H' ≡ H)
 
 -- steps while lines wait
 pub record Waits (S : Setup) (H H' : List Entry) : Type 0 where
@@ -42,7 +42,7 @@ pub record Waits (S : Setup) (H H' : List Entry) : Type 0 where
 
 -- how the token ended and what it gave back
 pub record IsEnd (S : Setup) (H : List Entry) (t : ℕ) (line : TokenLine) : Type 0 where
-  pub marked : mark_of S.size H t ≡ Some line.status
+  pub marked : mark_of S H t ≡ Some line.status
   pub given : IsGiven S H t line.given
 
 -- all tokens are the client's; the kind of each is kept, and of the collected ones, which are the first, how they ended
@@ -68,7 +68,7 @@ pub record CollectsNext (S : Setup) (H H' : List Entry) (kinds kinds' : List Kin
 
 -- the first tokens were collected, as many as there are ends
 pub record CollectsFirst (S : Setup) (H H' : List Entry) (kinds' : List Kind) (ends' : List TokenLine) : Type 0 where
-  pub drained : first_open S.size H' ≡ None
+  pub drained : first_open S H' ≡ None
   pub count : accepted H' ≡ accepted H
   pub so_far : (test : ℕ → Bool) → test 1 ≡ true → H' ≡ collects test H 0 (length ends')
   pub keeps : Keeps S H' kinds' ends'

@@ -23,7 +23,7 @@ pub record Leads (S : Setup) (H : List Entry) (lines : List Order) (H' : List En
 pub record StepsOn (S : Setup) (H H' : List Entry) (lines : List Order) (more : List Outcome) : Type 0 where
   pub given : List Outcome
   pub same : outcomes_onto H' more ≡ outcomes_onto H given
-  pub goes : stepped S.size (stand H lines given) ≡ stand H' lines more
+  pub goes : stepped S.geometry.size (stand H lines given) ≡ stand H' lines more
 
 abbrev pub IsStep : Setup → List Entry → List Entry → Type 0
 IsStep S H H' = (lines : List Order) (more : List Outcome) → StepsOn S H H' lines more

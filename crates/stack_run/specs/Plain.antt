@@ -38,7 +38,7 @@ stand H lines outcomes = record { history = H; lines = lines; outcomes = outcome
 
 -- the whole of medium k
 abbrev pub whole_view : Setup → ℕ → View
-whole_view S k = record { start = 0; length = blocks_of S k * S.size; media_id = k; index = 0 }
+whole_view S k = record { start = 0; length = blocks_of S k * S.geometry.size; media_id = k; index = 0 }
 
 abbrev pub payload_bytes : Payload → List ℕ
 payload_bytes (Given bytes) = bytes
@@ -83,7 +83,7 @@ waited None H rest outcomes = stand (own_collected H) rest outcomes
 abbrev pub taken_from : Setup → List Entry → List Order → List Outcome → Stand
 taken_from S H [] outcomes = stand H [] outcomes
 taken_from S H (order.Request asked payload k ∷ rest) outcomes = stand (answered S H asked payload k) rest outcomes
-taken_from S H (order.Wait ∷ rest) outcomes = waited (first_open S.size H) H rest outcomes
+taken_from S H (order.Wait ∷ rest) outcomes = waited (first_open S H) H rest outcomes
 
 -- the first half of a round: the client takes its next line, where it has one left
 unfoldable pub taken : Setup → Stand → Stand
@@ -123,7 +123,7 @@ unfoldable pub stepped : ℕ → Stand → Stand
 stepped size s = stepped_if size s (next_turn size s.history)
 
 abbrev pub a_round : Setup → Stand → Stand
-a_round S s = stepped S.size (taken S s)
+a_round S s = stepped S.geometry.size (taken S s)
 
 abbrev pub has_none : List Order → Bool
 has_none [] = true
@@ -136,7 +136,7 @@ is_over size s = has_none s.lines && is_none (first_open size s.history)
 -- rounds until all is over, and then the last collects; at most so many rounds
 unfoldable pub plain_from : ℕ → Setup → Stand → List Entry
 plain_from zero S s = s.history
-plain_from (suc n) S s = if is_over S.size s then all_collected s.history else plain_from n S (a_round S s)
+plain_from (suc n) S s = if is_over S.geometry.size s then all_collected s.history else plain_from n S (a_round S s)
 
 -- a line needs a round or two, and a byte that it asks for at most two commands
 abbrev pub line_rounds : Order → ℕ

@@ -24,7 +24,7 @@ pub record RanOver (S : Setup) (orders : List Order) (medium : Device) (run : Ru
   pub plain : run.history.entries ≡ plain_history S orders (outcomes_of run.history.entries)
   pub faultless : faults run.history.entries ≡ 0 → run.history.entries ≡ plain_history S orders []
   pub meets : Meets S run.history.entries medium
-  pub ends : AreEnds S.size run.history.entries run.ends.items
+  pub ends : AreEnds S run.history.entries run.ends.items
   pub given : AreGiven S run.history.entries (givens_of run.ends.items)
 
 -- the medium follows some legal history
@@ -46,7 +46,7 @@ Opens size Untold S = (blocks : ℕ) × (first : Option (List ℕ)) × (S ≡ on
 
 -- an image that told its bytes is its medium's kept contents and then its tail
 abbrev pub Leaves : Setup → List Entry → Place → Place → Type 0
-Leaves S H (Here bytes) new = (kept : List ℕ) × (kept_contents S 1 H ≡ Some kept) × (new ≡ Here (kept ++ tail_of S.size bytes))
+Leaves S H (Here bytes) new = (kept : List ℕ) × (kept_contents S 1 H ≡ Some kept) × (new ≡ Here (kept ++ tail_of S.geometry.size bytes))
 Leaves S H Missing new = ⊥
 Leaves S H (Taken tail) new = ⊥
 Leaves S H Untold new = new ≡ Untold

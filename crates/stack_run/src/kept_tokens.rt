@@ -37,7 +37,7 @@ fn line_of(kind: Kind, done: Done) -> TokenLine
 
 // Collects the next token. The error is want of memory.
 fn collect_next<M: Medium>(disk: &mut Disk<M>, kept: &mut Kept) -> Result<(), AllocError>
-    requires drained { first_open disk.old.setup.size disk.old.entries ≡ None }
+    requires drained { first_open disk.old.setup disk.old.entries ≡ None }
     requires keeps { Keeps disk.old.setup disk.old.entries kept.old.kinds.items kept.old.ends.items }
     requires some { length kept.old.ends.items < length kept.old.kinds.items }
     ensures setup { disk.new.setup ≡ disk.old.setup }
@@ -56,7 +56,7 @@ fn collect_next<M: Medium>(disk: &mut Disk<M>, kept: &mut Kept) -> Result<(), Al
 
 /// Collects all tokens that are not collected yet, in order of number. The error is want of memory.
 pub fn collect_rest<M: Medium>(disk: &mut Disk<M>, kept: &mut Kept) -> Result<(), AllocError>
-    requires drained { first_open disk.old.setup.size disk.old.entries ≡ None }
+    requires drained { first_open disk.old.setup disk.old.entries ≡ None }
     requires keeps { Keeps disk.old.setup disk.old.entries kept.old.kinds.items kept.old.ends.items }
     ensures setup { disk.new.setup ≡ disk.old.setup }
     ensures all { OnOk result (CollectsAll disk.old.setup disk.old.entries disk.new.entries kept.new.kinds.items kept.new.ends.items) }

@@ -33,7 +33,7 @@ fn step_once<M: Medium>(disk: &mut Disk<M>) -> bool
 // Steps until no request is outstanding.
 fn drain<M: Medium>(disk: &mut Disk<M>)
     ensures setup { disk.new.setup ≡ disk.old.setup }
-    ensures drained { first_open disk.old.setup.size disk.new.entries ≡ None }
+    ensures drained { first_open disk.old.setup disk.new.entries ≡ None }
     ensures waits { Waits disk.old.setup disk.old.entries disk.new.entries }
 {
     while step_once(disk) {}
@@ -42,7 +42,7 @@ fn drain<M: Medium>(disk: &mut Disk<M>)
 // The whole of the disk's medium.
 fn whole_medium<M: Medium>(disk: &Disk<M>) -> View
     ensures view { result ≡ whole_view disk.now.setup 1 }
-    ensures size { 0 < disk.now.setup.size }
+    ensures size { 0 < disk.now.setup.geometry.size }
 {
     let medium = disk.medium();
     View {
@@ -146,7 +146,7 @@ pub fn run_lines<M: Medium>(
     ensures plain { OnOk result (disk.new.entries ≡ plain_history disk.old.setup orders.now (outcomes_of disk.new.entries)) }
     ensures faultless { OnOk result (faults disk.new.entries ≡ 0 → disk.new.entries ≡ plain_history disk.old.setup orders.now []) }
     ensures collected { OnOk result ((t : ℕ) → t < accepted disk.new.entries → was_collected disk.new.entries t ≡ true) }
-    ensures ends { IfOk result (λ ends. AreEnds disk.old.setup.size disk.new.entries ends.items) }
+    ensures ends { IfOk result (λ ends. AreEnds disk.old.setup disk.new.entries ends.items) }
     ensures given { IfOk result (λ ends. AreGiven disk.old.setup disk.new.entries (givens_of ends.items)) }
 {
     let mut kept = Kept {

@@ -4,7 +4,7 @@ use Rattle.history.specs.declared.entry.Kind.TheVariants.{Write}
 use Rattle.disk_core.proofs.Endings.{next-owed, next-left, read-is}
 use Rattle.disk_core.proofs.Facts.{lies-of}
 use Rattle.disk_core.proofs.Places.{inside-some}
-use Rattle.disk_core.proofs.Followed.{size-of}
+use Rattle.disk_core.proofs.Setups.{size-of}
 use Rattle.disk_core.proofs.Wrote.{store-done, store-not}
 use Rattle.disk_core.proofs.stepping.store.Goals as goal
 

@@ -1,6 +1,6 @@
 use Rattle.std.proofs.Common.{ap, ◌∙◌, ◌+◌, length}
 use Rattle.disk_split.specs.Units.{units_of}
-use Rattle.disk_core.proofs.Followed.{size-of}
+use Rattle.disk_core.proofs.Setups.{geometry-of}
 use Rattle.disk_core.proofs.Submits.{TakesRoom, accept-sound, accept-accepts}
 use Rattle.disk_core.proofs.submitting.accept.Goals as goal
 
@@ -12,7 +12,7 @@ returns-in-Ok-clause-sound g c =
     (record {
       same = c.in-Ok.ensures.same;
       kept = kept;
-      units = rw c.deref.ensures.value at c.in-Ok.ensures.units ∙ ap (λ size. units_of size (c.args.view.now.start + c.args.asked.at) (c.args.view.now.start + c.args.asked.at + length c.args.buffer.items)) (size-of _ _ c.requires.sound.meets.setup);
+      units = rw c.deref.ensures.value at c.in-Ok.ensures.units ∙ ap (λ blocks. units_of blocks (c.args.view.now.start + c.args.asked.at) (c.args.view.now.start + c.args.asked.at + length c.args.buffer.items)) (geometry-of _ _ c.requires.sound.meets.setup);
       bytes_are = rw c.deref.ensures.value at c.in-Ok.ensures.bytes;
       owes = rw c.deref.ensures.value at c.in-Ok.ensures.owed;
       room = c.in-Ok.ensures.room;
@@ -25,7 +25,7 @@ returns-in-Ok-clause-submits g c =
     let takes : TakesRoom _ _ c.args.core.now c.take_room.new.core c.keep.new.core c.args.tag c.args.view.now c.args.asked c.args.buffer.items c.in-Ok.room.units.items c.in-Ok.room.bytes c.in-Ok.room.owed r = record {
       same = c.in-Ok.ensures.same;
       kept = kept;
-      units = rw c.deref.ensures.value at c.in-Ok.ensures.units ∙ ap (λ size. units_of size (c.args.view.now.start + c.args.asked.at) (c.args.view.now.start + c.args.asked.at + length c.args.buffer.items)) (size-of _ _ c.requires.sound.meets.setup);
+      units = rw c.deref.ensures.value at c.in-Ok.ensures.units ∙ ap (λ blocks. units_of blocks (c.args.view.now.start + c.args.asked.at) (c.args.view.now.start + c.args.asked.at + length c.args.buffer.items)) (geometry-of _ _ c.requires.sound.meets.setup);
       bytes_are = rw c.deref.ensures.value at c.in-Ok.ensures.bytes;
       owes = rw c.deref.ensures.value at c.in-Ok.ensures.owed;
       room = c.in-Ok.ensures.room;
