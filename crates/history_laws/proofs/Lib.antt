@@ -24,3 +24,5 @@ pub mod OrderLemmas
 pub mod MayLemmas
 pub mod TicketLemmas
 pub mod Worked
+pub mod PlainLemmas
+pub mod WeightLemmas

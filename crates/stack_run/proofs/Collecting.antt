@@ -2,21 +2,11 @@
 use Rattle.std.proofs.Common.{◌≡◌, ℕ, zero, suc, ◌+◌, ◌<◌, ◌≤◌, Bool, true, false, not, nat_eq, if◌then◌else◌, List, ◌∷◌, Option, None, Some, is_none, refl, ◌∙◌, ap, arith}
 use Rattle.history.specs.declared.entry.Entry.{Entry}
 use Rattle.history.specs.declared.entry.Entry.TheVariants.{Collect}
+use Rattle.history.specs.Setup.{Setup}
 use Rattle.history.specs.Tokens.{Request, accepted, request, was_collected}
-use Rattle.history.specs.Marks.{mark_of, ending}
-use Rattle.history.specs.Next.{first_from, is_open, first_open, Outcome}
-use Rattle.disk_core.proofs.Silence.{or_else-none}
+use Rattle.history.specs.Next.{first_open, Outcome}
+use Rattle.history_laws.proofs.PlainLemmas.{first-open-collect}
 use Rattle.stack_run.specs.Plain.{outcomes_onto, collect_one, with_collect, collects, own_collected, all_collected}
-
--- the first number of which a test holds is that of an equal test
-first-same : (f g : ℕ → Bool) (a n : ℕ) → ((t : ℕ) → f t ≡ g t) → first_from f a n ≡ first_from g a n
-unfolding first_from
-first-same f g a zero same = refl
-first-same f g a (suc n) same = rw (same a, first-same f g (a + 1) n same)
-
-pub open-collect : (size : ℕ) (H : List Entry) (tag t : ℕ) → first_open size (Collect tag t ∷ H) ≡ first_open size H
-unfolding first_open accepted mark_of ending
-open-collect size H tag t = first-same (is_open size (Collect tag t ∷ H)) (is_open size H) 0 (accepted H) (λ u. ap is_none (or_else-none (mark_of size H u)))
 
 -- what holds of a history, and of it with one more collect, holds after all collects
 pub collects-keep : (P : List Entry → Type 0) → ((G : List Entry) (tag t : ℕ) → P G → P (Collect tag t ∷ G)) → (test : ℕ → Bool) (H : List Entry) (a n : ℕ) → P H → P (collects test H a n)
@@ -33,10 +23,10 @@ collects-keep P more test H a (suc n) holds = collects-keep P more test (with_co
         tested true = more H r.tag a holds
         tested false = holds
 
-pub collected-drained : (size : ℕ) (H : List Entry) → first_open size H ≡ None → first_open size (own_collected H) ≡ None
+pub collected-drained : (S : Setup) (H : List Entry) → first_open S H ≡ None → first_open S (own_collected H) ≡ None
 unfolding own_collected
-collected-drained size H none =
-    collects-keep (λ G. first_open size G ≡ None) (λ G tag t holds. open-collect size G tag t ∙ holds) (nat_eq 1) H 0 (accepted H) none
+collected-drained S H none =
+    collects-keep (λ G. first_open S G ≡ None) (λ G tag t holds. first-open-collect S G tag t ∙ holds) (nat_eq 1) H 0 (accepted H) none
 
 onto-collects : (test : ℕ → Bool) (H : List Entry) (a n : ℕ) (more : List Outcome) → outcomes_onto (collects test H a n) more ≡ outcomes_onto H more
 unfolding outcomes_onto

@@ -2,7 +2,7 @@
 use Rattle.std.proofs.Common.{◌≡◌, ℕ, suc, ◌+◌, ◌<◌, List, [], None, sym, ◌∙◌, ap, arith}
 use Rattle.history.specs.declared.entry.Entry.{Entry}
 use Rattle.history.specs.declared.order.Order.{Order}
-use Rattle.history.specs.Setup.{Setup}
+use Rattle.history.specs.Setup.{Setup, IsSetup}
 use Rattle.history.specs.Next.{first_open, Outcome}
 use Rattle.stack_run.specs.Plain.{outcomes_onto, outcomes_of, stand, all_collected, plain_from, rounds, plain_history}
 use Rattle.stack_run.specs.Leading.{GoesOn, Leads}
@@ -17,7 +17,7 @@ given-is : (H : List Entry) (given : List Outcome) → outcomes_onto H [] ≡ ou
 unfolding outcomes_onto outcomes_of
 given-is H given same = sym same ∙ sym (onto-all H [])
 
-pub plain-ends : (S : Setup) (orders : List Order) (H : List Entry) → 0 < S.geometry.size → first_open S H ≡ None → Leads S [] orders H []
+pub plain-ends : (S : Setup) (orders : List Order) (H : List Entry) → IsSetup S → first_open S H ≡ None → Leads S [] orders H []
     → all_collected H ≡ plain_history S orders (outcomes_of (all_collected H))
 plain-ends S orders H some none leads =
     let on : GoesOn S leads.k [] orders H [] (suc (rounds orders)) [] = leads.on (suc (rounds orders)) [] in

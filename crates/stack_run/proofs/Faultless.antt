@@ -7,6 +7,7 @@ use Rattle.history.specs.declared.order.Order.TheVariants as order
 use Rattle.history.specs.Setup.{Setup}
 use Rattle.history.specs.Next.{first_open, Turn, next_turn, Outcome, Made, Failed, entry_of}
 use Rattle.history.specs.Room.{faults}
+use Rattle.history_laws.proofs.CountLemmas.{faults-more, faults-same}
 use Rattle.disk_core.specs.Calls.{is_fetched}
 use Rattle.stack_run.specs.Plain.{outcomes_onto, outcomes_of, Stand, stand, all_collected, waited, taken_from, taken, next_outcome, later_outcomes, turned, turned_if, commanded, followed, stepped_if, stepped, a_round, is_over, plain_from, rounds, plain_history}
 
@@ -55,41 +56,41 @@ turned-alike s turn made = record {
   made = made-later s.outcomes made;
 }
 
-commanded-alike : (size : ℕ) (s : Stand) → AreMade s.outcomes → IsAlike (commanded size s) (commanded size (bare s))
+commanded-alike : (S : Setup) (s : Stand) → AreMade s.outcomes → IsAlike (commanded S s) (commanded S (bare s))
 unfolding commanded
-commanded-alike size s made = by (next_turn size s.history)
+commanded-alike S s made = by (next_turn S s.history)
   where
     by : (o : Option Turn) → IsAlike (turned_if s o) (turned_if (bare s) o)
     by None = record { same = refl; made = made }
     by (Some turn) = turned-alike s turn made
 
-stepped-alike : (size : ℕ) (s : Stand) → AreMade s.outcomes → IsAlike (stepped size s) (stepped size (bare s))
+stepped-alike : (S : Setup) (s : Stand) → AreMade s.outcomes → IsAlike (stepped S s) (stepped S (bare s))
 unfolding stepped
-stepped-alike size s made = by (next_turn size s.history)
+stepped-alike S s made = by (next_turn S s.history)
   where
-    after : (turn : Turn) (f : Bool) → IsAlike (followed size f (turned s turn)) (followed size f (turned (bare s) turn))
+    after : (turn : Turn) (f : Bool) → IsAlike (followed S f (turned s turn)) (followed S f (turned (bare s) turn))
     after turn false = turned-alike s turn made
     after turn true =
         let first : IsAlike (turned s turn) (turned (bare s) turn) = turned-alike s turn made in
-        let second : IsAlike (commanded size (turned s turn)) (commanded size (bare (turned s turn))) = commanded-alike size (turned s turn) first.made in
-        record { same = ap (commanded size) first.same ∙ second.same; made = second.made }
+        let second : IsAlike (commanded S (turned s turn)) (commanded S (bare (turned s turn))) = commanded-alike S (turned s turn) first.made in
+        record { same = ap (commanded S) first.same ∙ second.same; made = second.made }
 
-    by : (o : Option Turn) → IsAlike (stepped_if size s o) (stepped_if size (bare s) o)
+    by : (o : Option Turn) → IsAlike (stepped_if S s o) (stepped_if S (bare s) o)
     by None = record { same = refl; made = made }
     by (Some turn) =
-        let alike : (o : Outcome) → Type 0 = λ o. IsAlike (followed size (is_fetched turn.command (next_outcome s.outcomes)) (turned s turn)) (followed size (is_fetched turn.command o) (turned (bare s) turn)) in
+        let alike : (o : Outcome) → Type 0 = λ o. IsAlike (followed S (is_fetched turn.command (next_outcome s.outcomes)) (turned s turn)) (followed S (is_fetched turn.command o) (turned (bare s) turn)) in
         subst alike (made-next s.outcomes made) (after turn (is_fetched turn.command (next_outcome s.outcomes)))
 
 round-alike : (S : Setup) (s : Stand) → AreMade s.outcomes → IsAlike (a_round S s) (a_round S (bare s))
 round-alike S s made =
     let first : IsAlike (taken S s) (taken S (bare s)) = taken-alike S s made in
-    let second : IsAlike (stepped S.geometry.size (taken S s)) (stepped S.geometry.size (bare (taken S s))) = stepped-alike S.geometry.size (taken S s) first.made in
-    record { same = ap (stepped S.geometry.size) first.same ∙ second.same; made = second.made }
+    let second : IsAlike (stepped S (taken S s)) (stepped S (bare (taken S s))) = stepped-alike S (taken S s) first.made in
+    record { same = ap (stepped S) first.same ∙ second.same; made = second.made }
 
 from-alike : (S : Setup) (n : ℕ) (s : Stand) → AreMade s.outcomes → plain_from n S s ≡ plain_from n S (bare s)
 unfolding plain_from
 from-alike S zero s made = refl
-from-alike S (suc n) s made = by (is_over S.geometry.size s) (round-alike S s made) (λ t. from-alike S n t)
+from-alike S (suc n) s made = by (is_over S s) (round-alike S s made) (λ t. from-alike S n t)
   where
     by : (b : Bool) → IsAlike (a_round S s) (a_round S (bare s)) → ((t : Stand) → AreMade t.outcomes → plain_from n S t ≡ plain_from n S (bare t))
         → (if b then all_collected s.history else plain_from n S (a_round S s)) ≡ (if b then all_collected s.history else plain_from n S (a_round S (bare s)))
@@ -97,18 +98,18 @@ from-alike S (suc n) s made = by (is_over S.geometry.size s) (round-alike S s ma
     by false alike rest = rest (a_round S s) alike.made ∙ sym (ap (plain_from n S) alike.same)
 
 made-onto : (H : List Entry) (more : List Outcome) → faults H ≡ 0 → AreMade more → AreMade (outcomes_onto H more)
-unfolding outcomes_onto faults AreMade
+unfolding outcomes_onto AreMade
 made-onto [] more few made = made
-made-onto (Done t c ∷ H) more few made = made-onto H (Made ∷ more) few made
-made-onto (Fault t c done ∷ H) more few made = absurd (omega arith)
-made-onto (Accept p q r s ∷ H) more few made = made-onto H more few made
-made-onto (Refuse p q r s v ∷ H) more few made = made-onto H more few made
-made-onto (Collect p q ∷ H) more few made = made-onto H more few made
-made-onto (Cancel p q ∷ H) more few made = made-onto H more few made
-made-onto (Reset p ∷ H) more few made = made-onto H more few made
-made-onto (Eject p ∷ H) more few made = made-onto H more few made
-made-onto (Insert p q ∷ H) more few made = made-onto H more few made
-made-onto (Protect p q ∷ H) more few made = made-onto H more few made
+made-onto (Done t c ∷ H) more few made = made-onto H (Made ∷ more) (sym (faults-same H (Done t c) refl) ∙ few) made
+made-onto (Fault t c done ∷ H) more few made = absurd (omega (arith, few, faults-more H (Fault t c done) refl))
+made-onto (Accept p q r s ∷ H) more few made = made-onto H more (sym (faults-same H (Accept p q r s) refl) ∙ few) made
+made-onto (Refuse p q r s v ∷ H) more few made = made-onto H more (sym (faults-same H (Refuse p q r s v) refl) ∙ few) made
+made-onto (Collect p q ∷ H) more few made = made-onto H more (sym (faults-same H (Collect p q) refl) ∙ few) made
+made-onto (Cancel p q ∷ H) more few made = made-onto H more (sym (faults-same H (Cancel p q) refl) ∙ few) made
+made-onto (Reset p ∷ H) more few made = made-onto H more (sym (faults-same H (Reset p) refl) ∙ few) made
+made-onto (Eject p ∷ H) more few made = made-onto H more (sym (faults-same H (Eject p) refl) ∙ few) made
+made-onto (Insert p q ∷ H) more few made = made-onto H more (sym (faults-same H (Insert p q) refl) ∙ few) made
+made-onto (Protect p q ∷ H) more few made = made-onto H more (sym (faults-same H (Protect p q) refl) ∙ few) made
 
 -- with no fault the plain history is a function of the lines and the setup alone
 pub faultless : (S : Setup) (orders : List Order) (H : List Entry) → H ≡ plain_history S orders (outcomes_of H) → faults H ≡ 0 → H ≡ plain_history S orders []

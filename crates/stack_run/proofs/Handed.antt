@@ -3,25 +3,25 @@ use Rattle.std.proofs.Common.{◌≡◌, ℕ, ◌/◌, ◌⊎◌, inl, inr, fals
 use Rattle.medium.specs.Counts.{adds, Rose}
 use Rattle.medium.specs.Device.{Device, IsFresh}
 use Rattle.history.specs.declared.entry.Entry.{Entry}
-use Rattle.history.specs.Setup.{blocks_of}
-use Rattle.history.specs.Contents.{contents, kept_contents, pieces_of, patched}
+use Rattle.history.specs.Setup.{Setup, size_of, blocks_of}
+use Rattle.history.specs.Contents.{contents, kept_contents, pieces_of, patch_all}
 use Rattle.history.specs.Rules.{IsLegal}
 use Rattle.disk_core.specs.State.{setup_of, Meets}
 use Rattle.disk_core.proofs.Fresh.{fresh-meets, legal-none}
-use Rattle.image_store.specs.Place.{Place, Here, Missing, Taken, Untold, Image, IsTaking, GivesBlocks, put_place, whole_blocks}
+use Rattle.image_store.specs.Place.{Place, Here, Missing, Taken, Untold, Image, ChangesOnly, IsTaking, GivesBlocks, put_place, whole_blocks}
 use Rattle.script_text.specs.declared.grammar.plans.DiskPlan.{DiskPlan}
 use Rattle.script_text.specs.declared.grammar.plans.ClientPlan.{ClientPlan}
 use Rattle.script_text.specs.declared.report.parts.TokenLine.{TokenLine}
 use Rattle.script_text.specs.Report.{givens_of, AreEnds}
 use Rattle.stack_run.specs.declared.refusal.NotRun.{NotRun}
 use Rattle.stack_run.specs.declared.serving.Run.{Run}
-use Rattle.stack_run.specs.Serving.{RanOver, RanSome, RanOn, RanPlain, RanDisk, RanInPart, NotPutBack, Opens, Leaves, IsLost, one_medium}
+use Rattle.stack_run.specs.Serving.{RanOver, RanSome, RanOn, RanPlain, RanDisk, RanInPart, NotPutBack, Opens, Leaves, IsLost, Served, one_medium, blocks_alone, run_report}
 
 setup-is : (d : Device) (size : ℕ) → d.size ≡ size → d.cached ≡ false → setup_of d ≡ one_medium size d.blocks d.first
 unfolding setup_of
 setup-is d size sized uncached = rw (sized, uncached) refl
 
-pub size-is : (d : Device) → (setup_of d).size ≡ d.size
+pub size-is : (d : Device) → size_of (setup_of d) ≡ d.size
 unfolding setup_of
 size-is d = refl
 
@@ -33,7 +33,7 @@ blocks-are d = refl
 pub none-ran : (d : Device) → IsFresh d → RanSome (setup_of d) d
 none-ran d fresh = record { history = []; legal = legal-none (setup_of d); meets = fresh-meets d fresh }
 
-kept-uncached : (d : Device) (H : List Entry) → d.cached ≡ false → kept_contents (setup_of d) 1 H ≡ option_map (patched (pieces_of d.size 1 H)) d.first
+kept-uncached : (d : Device) (H : List Entry) → d.cached ≡ false → kept_contents (setup_of d) 1 H ≡ option_map (patch_all (pieces_of (setup_of d) 1 H)) d.first
 unfolding kept_contents contents setup_of
 kept-uncached d H uncached = rw uncached refl
 
@@ -52,8 +52,8 @@ leaves : (p0 p1 p2 : Place) (size : ℕ) (d d' : Device) (H : List Entry) → Is
 unfolding GivesBlocks
 leaves (Here bytes) p1 p2 size d d' H taking meets put =
     let (long, taken, first, blocks) = taking.blocks in
-    let kept : kept_contents (setup_of d) 1 H ≡ Some (patched (pieces_of d.size 1 H) (whole_blocks size bytes)) = kept-uncached d H taking.cached ∙ (rw first refl) in
-    (patched (pieces_of d.size 1 H) (whole_blocks size bytes), kept, put ∙ (rw (taken, meets.kept, kept, size-is d, taking.size) refl))
+    let kept : kept_contents (setup_of d) 1 H ≡ Some (patch_all (pieces_of (setup_of d) 1 H) (whole_blocks size bytes)) = kept-uncached d H taking.cached ∙ (rw first refl) in
+    (patch_all (pieces_of (setup_of d) 1 H) (whole_blocks size bytes), kept, put ∙ (rw (taken, meets.kept, kept, size-is d, taking.size) refl))
 leaves Missing p1 p2 size d d' H taking meets put = taking.blocks
 leaves (Taken tail) p1 p2 size d d' H taking meets put = taking.blocks
 leaves Untold p1 p2 size d d' H taking meets put = put ∙ (rw taking.blocks refl)
@@ -86,8 +86,9 @@ ran-plain plan client old mid new d d' run taking worn ran worn2 = record {
   reads = ran.given;
 }
 
-ends-here : (d : Device) (H : List Entry) (ends : List TokenLine) (size : ℕ) → d.size ≡ size → AreEnds (setup_of d).size H ends → AreEnds size H ends
-ends-here d H ends size is all = rw (size-is d ∙ is) at all
+geometry-is : (plan : DiskPlan) (d : Device) → d.size ≡ plan.size → (setup_of d).geometry ≡ blocks_alone plan
+unfolding setup_of
+geometry-is plan d is = rw is refl
 
 same-blocks : (d d' : Device) (H : List Entry) → Meets (setup_of d) H d' → d'.blocks ≡ blocks_of (setup_of d) 1
 same-blocks d d' H meets = sym (blocks-are d') ∙ ap (λ S. blocks_of S 1) meets.setup
@@ -105,7 +106,8 @@ ran-disk plan client old mid new d d' run taking worn ran put worn2 = record {
   image = leaves old.place mid.place new.place plan.size d d' run.history.entries taking ran.meets put;
   blocks = ran.blocks ∙ same-blocks d d' run.history.entries ran.meets;
   fits = rw (ran.blocks, sym (same-size d d' run.history.entries ran.meets ∙ taking.size)) ran.fits;
-  ends = ends-here d run.history.entries run.ends.items plan.size taking.size ran.ends;
+  geometry = geometry-is plan d taking.size;
+  ends = ran.ends;
 }
 
 -- the lines ran, and the image could not be put back
@@ -119,6 +121,19 @@ not-put-back plan client old mid new d d' run fault taking worn ran put worn2 ca
   ran = ran-plain plan client old mid new d d' run taking worn ran worn2;
   lost = lost old.place mid.place new.place plan.size d d'.kept fault taking put;
   cause = cause;
+}
+
+-- the report of what ran was written so
+pub served-by : (plan : DiskPlan) (client : ClientPlan) (at at' : List ℕ → Image) (Writes : List ℕ → Type 0) (run : Run) → RanDisk plan client (at plan.image) (at' plan.image) run → ChangesOnly plan.image at at'
+    → ((S : Setup) → S.geometry ≡ blocks_alone plan → AreEnds S run.history.entries run.ends.items → Writes (run_report plan S run)) → Served plan client at at' Writes
+served-by plan client at at' Writes run ran others writes = record {
+  setup = ran.setup;
+  history = run.history.entries;
+  given = givens_of run.ends.items;
+  ran = ran.ran;
+  image = ran.image;
+  others = others;
+  report = rw (sym ran.blocks) (writes ran.setup ran.geometry ran.ends);
 }
 
 leaves-or-lost : (p0 p1 p2 : Place) (size : ℕ) (d d' : Device) (H : List Entry) (put : Result (Unit {0}) NotRun)

@@ -6,7 +6,7 @@ use Rattle.std.proofs.lemmas.Option.{get_or_from_slice_get, slice_get_read, slic
 use Rattle.efi_status.specs.declared.Status.{Status}
 use Rattle.efi_status.specs.declared.Status.TheVariants.{Success, InvalidParameter, BadBufferSize, DeviceError, WriteProtected, OutOfResources, NoMedia, MediaChanged, Aborted}
 use Rattle.history.specs.declared.entry.Kind.{Kind}
-use Rattle.history.specs.declared.entry.Kind.TheVariants.{Read, Write, Flush}
+use Rattle.history.specs.declared.entry.Kind.TheVariants.{Read, Write, Flush, Erase}
 use Rattle.history.specs.declared.entry.View.{View}
 use Rattle.history.specs.declared.entry.Asked.{Asked}
 use Rattle.history.specs.declared.entry.Entry.{Entry}
@@ -14,18 +14,22 @@ use Rattle.history.specs.declared.order.Payload.{Payload}
 use Rattle.history.specs.declared.entry.Entry.TheVariants.{Accept, Refuse, Collect}
 use Rattle.history.specs.Setup.{Setup}
 use Rattle.history.specs.Tokens.{Request, accepted, request, was_collected, is_read, from_of}
-use Rattle.history.specs.Marks.{mark_of, ending}
+use Rattle.history.specs.Marks.{mark_of}
 use Rattle.history.specs.Contents.{bytes_read}
 use Rattle.history.specs.Rules.{refusal_of}
-use Rattle.history.specs.Next.{first_from, is_open, first_open}
+use Rattle.history.specs.Next.{first_open}
 use Rattle.disk_core.specs.State.{State, AreGiven as AreReadInto}
 use Rattle.disk_core.specs.Calls.{Collects}
-use Rattle.disk_core.proofs.Silence.{IsSilent, or_else-none, accept-silent, refuse-silent}
+use Rattle.history_laws.specs.Told.{concerns}
+use Rattle.history_laws.proofs.CountLemmas.{accepted-more, accepted-same}
+use Rattle.history_laws.proofs.TokenLemmas.{request-other, mark-other, bytes_read-other, accept-concerns, request-accept, request-kept, request-same, collected-same}
+use Rattle.history_laws.proofs.NextLemmas.{first-open-fails}
+use Rattle.history_laws.proofs.PlainLemmas.{mark-collect, first-open-collect}
 use Rattle.script_text.specs.declared.report.parts.TokenLine.{TokenLine}
 use Rattle.stack_run.specs.Plain.{whole_view, payload_bytes, answered, collects, own_collected, all_collected}
 use Rattle.script_text.specs.Report.{is_success, gives_bytes, AreBytesRead}
 use Rattle.stack_run.specs.Keeping.{Stays, IsEnd, Keeps, given_of, CollectsNext, CollectsFirst, CollectsAll, Answers}
-use Rattle.stack_run.proofs.Collecting.{open-collect, collects-last, collects-none, with-collect}
+use Rattle.stack_run.proofs.Collecting.{collects-last, collects-none, with-collect}
 
 -- an item of a list with one more behind it
 get-push : {X : Type 0} (xs : List X) (x y : X) (t : ℕ) → slice_get (xs ++ x ∷ []) t ≡ Some y → (slice_get xs t ≡ Some y) ⊎ ((t ≡ length xs) × (x ≡ y))
@@ -77,6 +81,7 @@ given-some Read MediaChanged bytes = refl
 given-some Read Aborted bytes = refl
 given-some Write status bytes = refl
 given-some Flush status bytes = refl
+given-some Erase status bytes = refl
 
 -- the bytes of a read's buffer are those that it read
 read-bytes : (S : Setup) (H : List Entry) (t : ℕ) (q : Request) (buffer : List ℕ) → AreReadInto S H t q buffer → length buffer ≡ q.asked.length → AreBytesRead S H t q buffer
@@ -100,6 +105,7 @@ given-bytes S H t q Read MediaChanged buffer are = tt
 given-bytes S H t q Read Aborted buffer are = tt
 given-bytes S H t q Write status buffer are = tt
 given-bytes S H t q Flush status buffer are = tt
+given-bytes S H t q Erase status buffer are = tt
 
 -- the token that is handed back now
 end-new : (S : Setup) (H : List Entry) (t : ℕ) (q : Request) (status : Status) (buffer : List ℕ) (line : TokenLine) → request H t ≡ Some q → q.tag ≡ 1 → mark_of S H t ≡ Some status
@@ -118,11 +124,11 @@ pub keeps-collect : (S : Setup) (H : List Entry) (kinds : List Kind) (ends : Lis
     → Keeps S H kinds ends → length ends < length kinds → request H (length ends) ≡ Some q → mark_of S H (length ends) ≡ Some status
     → (q.asked.kind ≡ Read → AreReadInto S H (length ends) q buffer) → length buffer ≡ q.asked.length → line.status ≡ status → line.given ≡ given_of q.asked.kind status buffer
     → Keeps S (Collect 1 (length ends) ∷ H) kinds (ends ++ line ∷ [])
-unfolding accepted request was_collected mark_of ending bytes_read
+unfolding was_collected bytes_read
 keeps-collect S H kinds ends q status buffer line keeps some named marked read long is gives = record {
-  count = keeps.count;
+  count = keeps.count ∙ sym (accepted-same H (Collect 1 (length ends)) refl);
   within = omega (arith, length-append ends (line ∷ []), some);
-  asked = keeps.asked;
+  asked = λ t r there. keeps.asked t r (sym (request-same H (Collect 1 (length ends)) t refl) ∙ there);
   collected = λ t. rw (keeps.collected t) (later t);
   ended = λ t l at. by t l (get-push ends line l t at);
 }
@@ -140,10 +146,10 @@ keeps-collect S H kinds ends q status buffer line keeps some named marked read l
     by : (t : ℕ) (l : TokenLine) → (slice_get ends t ≡ Some l) ⊎ ((t ≡ length ends) × (line ≡ l)) → IsEnd S (Collect 1 (length ends) ∷ H) t l
     by t l (inl before) =
         let end : IsEnd S H t l = keeps.ended t l before in
-        end-stays S H (Collect 1 (length ends) ∷ H) t l refl (or_else-none (mark_of S H t) ∙ end.marked) (λ x. refl) end
+        end-stays S H (Collect 1 (length ends) ∷ H) t l (request-same H (Collect 1 (length ends)) t refl) (mark-collect S H 1 (length ends) t ∙ end.marked) (λ x. refl) end
     by t l (inr (at, same)) =
         let end : IsEnd S H (length ends) line = end-new S H (length ends) q status buffer line named (keeps.asked (length ends) q named).0 marked read long is gives in
-        rw (at, ← same) (end-stays S H (Collect 1 (length ends) ∷ H) (length ends) line refl (or_else-none (mark_of S H (length ends)) ∙ end.marked) (λ x. refl) end)
+        rw (at, ← same) (end-stays S H (Collect 1 (length ends) ∷ H) (length ends) line (request-same H (Collect 1 (length ends)) (length ends) refl) (mark-collect S H 1 (length ends) (length ends) ∙ end.marked) (λ x. refl) end)
 
 -- before the first collect
 pub first-none : (S : Setup) (H : List Entry) (kinds : List Kind) (ends : List TokenLine) → first_open S H ≡ None → Keeps S H kinds ends → CollectsFirst S H H kinds ends
@@ -156,10 +162,9 @@ first-none S H kinds ends none keeps = record {
 
 -- after one more
 pub first-next : (S : Setup) (H G H' : List Entry) (kinds kinds' : List Kind) (ends ends' : List TokenLine) → CollectsFirst S H G kinds ends → CollectsNext S G H' kinds kinds' ends ends' → CollectsFirst S H H' kinds' ends'
-unfolding accepted
 first-next S H G H' kinds kinds' ends ends' first next = record {
-  drained = rw (next.entries) (open-collect S.geometry.size G 1 (length ends) ∙ first.drained);
-  count = rw (next.entries) first.count;
+  drained = rw (next.entries) (first-open-collect S G 1 (length ends) ∙ first.drained);
+  count = rw (next.entries) (accepted-same G (Collect 1 (length ends)) refl ∙ first.count);
   so_far = λ test passes. next.entries ∙ by test passes next.token;
   keeps = next.keeps;
 }
@@ -202,25 +207,9 @@ next-collected old new kinds ends n kind status buffer line q at some keeps coll
           (rw at at collects.read) collects.long ends_so (rw same at gives));
     }
 
-not-first : (test : ℕ → Bool) (a n k : ℕ) → first_from test a n ≡ None → a ≤ k → k < a + n → test k ≡ false
-unfolding first_from
-not-first test a zero k none lo hi = absurd (omega arith)
-not-first test a (suc n) k none lo hi = by (test a) refl (λ none' after. not-first test (a + 1) n k none' after (omega arith))
-  where
-    by : (b : Bool) → test a ≡ b → (first_from test (a + 1) n ≡ None → a + 1 ≤ k → test k ≡ false) → test k ≡ false
-    by true is rest = let e : Some a ≡ None = rw is at none in cc
-    by false is rest = elim (cases_eq a k) [
-      | inl same ↦ rw (← same) is
-      | inr other ↦ rest (rw is at none) (omega (arith, other))
-    ]
-
 -- where no token is outstanding, no token is
-pub none-outstanding : (size : ℕ) (H : List Entry) (t : ℕ) → first_open size H ≡ None → t < accepted H → mark_of size H t ≡ None → ⊥
-unfolding first_open
-none-outstanding size H t none there unmarked =
-    let closed : is_none (mark_of size H t) ≡ false = not-first (is_open size H) 0 (accepted H) t none (omega arith) (omega arith) in
-    let e : is_none (mark_of size H t) ≡ true = rw unmarked in
-    both_ways (is_none (mark_of size H t)) closed e
+pub none-outstanding : (S : Setup) (H : List Entry) (t : ℕ) → first_open S H ≡ None → t < accepted H → mark_of S H t ≡ None → ⊥
+none-outstanding S H t none there unmarked = first-open-fails S H t none (record { token = there; unmarked = unmarked })
 
 -- the next token is there
 pub next-known : (S : Setup) (H : List Entry) (kinds : List Kind) (ends : List TokenLine) (n : ℕ) → n ≡ length ends → Keeps S H kinds ends → length ends < length kinds → (accepted H ≤ n) ⊎ (was_collected H n ≡ true) → ⊥
@@ -237,24 +226,23 @@ get-last [] x = refl
 get-last (z ∷ xs) x = get-last xs x
 
 -- an entry that says nothing of the collected tokens leaves how they ended
-ends-stay : (S : Setup) (H : List Entry) (kinds : List Kind) (ends : List TokenLine) (e : Entry) → Keeps S H kinds ends → ((t : ℕ) → t < accepted H → IsSilent S H e t) → (t : ℕ) (line : TokenLine) → slice_get ends t ≡ Some line → IsEnd S (e ∷ H) t line
-ends-stay S H kinds ends e keeps silent t line is =
+ends-stay : (S : Setup) (H : List Entry) (kinds : List Kind) (ends : List TokenLine) (e : Entry) → Keeps S H kinds ends → ((t : ℕ) → t < accepted H → concerns H e t ≡ false) → (t : ℕ) (line : TokenLine) → slice_get ends t ≡ Some line → IsEnd S (e ∷ H) t line
+ends-stay S H kinds ends e keeps others t line is =
     let end : IsEnd S H t line = keeps.ended t line is in
     let there : t < length ends = slice_get_within ends t line is in
-    let quiet : IsSilent S H e t = silent t (omega (arith, there, keeps.within, keeps.count)) in
-    end-stays S H (e ∷ H) t line quiet.named (quiet.marked ∙ end.marked) quiet.given end
+    let other : concerns H e t ≡ false = others t (omega (arith, there, keeps.within, keeps.count)) in
+    end-stays S H (e ∷ H) t line (request-other S H e t other) (mark-other S H e t other ∙ end.marked) (λ x. bytes_read-other S H e t x other) end
 
 keeps-accept : (S : Setup) (H : List Entry) (kinds : List Kind) (ends : List TokenLine) (view : View) (asked : Asked) (bytes : List ℕ) → Keeps S H kinds ends → Keeps S (Accept 1 view asked bytes ∷ H) (kinds ++ asked.kind ∷ []) ends
-unfolding accepted request was_collected
 keeps-accept S H kinds ends view asked bytes keeps = record {
-  count = more ∙ ap (λ n. n + 1) keeps.count;
+  count = more ∙ (ap (λ n. n + 1) keeps.count ∙ sym (accepted-more H (Accept 1 view asked bytes) refl));
   within = omega (arith, more, keeps.within);
   asked = λ t r named. elim (cases_eq t (accepted H)) [
-    | inl same ↦ new t r same (rw (eq-eqb t (accepted H) same) at named)
-    | inr other ↦ old t r (rw (ne_eqb t (accepted H) other) at named)
+    | inl same ↦ new t r same (sym (rw (← same) at (request-accept H 1 view asked bytes)) ∙ named)
+    | inr other ↦ old t r (sym (request-kept H (Accept 1 view asked bytes) t other) ∙ named)
   ];
-  collected = keeps.collected;
-  ended = ends-stay S H kinds ends (Accept 1 view asked bytes) keeps (λ t there. accept-silent S H 1 view asked bytes t (λ e. omega (arith, e, there)));
+  collected = λ t. collected-same H (Accept 1 view asked bytes) t refl ∙ keeps.collected t;
+  ended = ends-stay S H kinds ends (Accept 1 view asked bytes) keeps (λ t there. accept-concerns H 1 view asked bytes t (λ e. absurd (omega (arith, e, there))));
 }
   where
     more : length (kinds ++ asked.kind ∷ []) ≡ length kinds + 1
@@ -275,13 +263,12 @@ keeps-accept S H kinds ends view asked bytes keeps = record {
         (was.0, get-before kinds asked.kind r.asked.kind t was.1)
 
 keeps-refuse : (S : Setup) (H : List Entry) (kinds : List Kind) (ends : List TokenLine) (view : View) (asked : Asked) (media_id : ℕ) (status : Status) → Keeps S H kinds ends → Keeps S (Refuse 1 view asked media_id status ∷ H) kinds ends
-unfolding accepted request was_collected
 keeps-refuse S H kinds ends view asked media_id status keeps = record {
-  count = keeps.count;
+  count = keeps.count ∙ sym (accepted-same H (Refuse 1 view asked media_id status) refl);
   within = keeps.within;
-  asked = keeps.asked;
-  collected = keeps.collected;
-  ended = ends-stay S H kinds ends (Refuse 1 view asked media_id status) keeps (λ t there. refuse-silent S H 1 view asked media_id status t);
+  asked = λ t r named. keeps.asked t r (sym (request-same H (Refuse 1 view asked media_id status) t refl) ∙ named);
+  collected = λ t. collected-same H (Refuse 1 view asked media_id status) t refl ∙ keeps.collected t;
+  ended = ends-stay S H kinds ends (Refuse 1 view asked media_id status) keeps (λ t there. refl);
 }
 
 -- the request is accepted

@@ -74,12 +74,12 @@ step-fetched-drained S H G t none lines more =
       goes = rw (t.next, t.answer, there, t.entries);
     }
 
-pub drained-turn : (size : ℕ) (H : List Entry) → first_open size H ≡ None → next_turn size H ≡ None
+pub drained-turn : (S : Setup) (H : List Entry) → first_open S H ≡ None → next_turn S H ≡ None
 unfolding next_turn
-drained-turn size H none = rw none
+drained-turn S H none = rw none
 
 -- a round that is not the last one
-a-round : (S : Setup) (n : ℕ) (s : Stand) → is_over S.geometry.size s ≡ false → plain_from (n + 1) S s ≡ plain_from n S (a_round S s)
+a-round : (S : Setup) (n : ℕ) (s : Stand) → is_over S s ≡ false → plain_from (n + 1) S s ≡ plain_from n S (a_round S s)
 unfolding plain_from
 a-round S n s open_ = let e : n + 1 ≡ suc n = omega arith in rw e (rw open_)
 
@@ -117,11 +117,11 @@ leads-step S H H' lines t stay first step = record {
       record {
         given = on.given;
         same = on.same;
-        goes = a-round S n (stand H lines on.given) (open_ lines on.given) ∙ ap (plain_from n S) (ap (stepped S.geometry.size) (stays lines stay on.given) ∙ on.goes);
+        goes = a-round S n (stand H lines on.given) (open_ lines on.given) ∙ ap (plain_from n S) (ap (stepped S) (stays lines stay on.given) ∙ on.goes);
       };
 }
   where
-    open_ : (ls : List Order) (given : List Outcome) → is_over S.geometry.size (stand H ls given) ≡ false
+    open_ : (ls : List Order) (given : List Outcome) → is_over S (stand H ls given) ≡ false
     open_ [] given = rw first
     open_ (line ∷ rest) given = refl
 
@@ -138,6 +138,6 @@ leads-wait S H rest none = record {
   on = λ n more. record {
     given = more;
     same = onto-own H more;
-    goes = a-round S n (stand H (order.Wait ∷ rest) more) refl ∙ ap (plain_from n S) (rw (none, drained-turn S.geometry.size (own_collected H) (collected-drained S.geometry.size H none)));
+    goes = a-round S n (stand H (order.Wait ∷ rest) more) refl ∙ ap (plain_from n S) (rw (none, drained-turn S (own_collected H) (collected-drained S H none)));
   };
 }

@@ -11,4 +11,3 @@ pub mod Read
 pub mod Reported
 pub mod Running
 pub mod Stepping
-pub mod Weights

@@ -10,14 +10,13 @@ use Rattle.history.specs.declared.entry.Entry.{Entry}
 use Rattle.history.specs.declared.order.Order.{Order}
 use Rattle.history.specs.declared.order.Order.TheVariants as order
 use Rattle.history.specs.declared.order.Payload.{Payload}
-use Rattle.history.specs.Setup.{Setup}
+use Rattle.history.specs.Setup.{Setup, IsSetup}
 use Rattle.history.specs.Tokens.{accepted, request, was_collected}
 use Rattle.history.specs.Marks.{mark_of}
 use Rattle.history.specs.Next.{first_open}
-use Rattle.medium.specs.Device.{Device, is_block_size}
+use Rattle.medium.specs.Device.{Device}
 use Rattle.disk_core.specs.State.{setup_of}
-use Rattle.disk_core.proofs.Facts.{blocks-of, sizes-bounds}
-use Rattle.disk_core.proofs.Followed.{size-of}
+use Rattle.disk_core.proofs.Setups.{blocks-of, size-of}
 use Rattle.script_text.specs.declared.report.parts.TokenLine.{TokenLine}
 use Rattle.script_text.specs.Fit.{IsOrder, AreOrders}
 use Rattle.script_text.specs.Report.{givens_of, AreEnds, IsGiven, AreGiven}
@@ -31,9 +30,6 @@ use Rattle.stack_run.proofs.Keeping.{keeps-stays}
 -- the whole of the medium
 pub whole-is : (S : Setup) (d : Device) (blocks size : ℕ) → setup_of d ≡ S → blocks ≡ d.blocks → size ≡ d.size → record { start = 0; length = blocks * size; media_id = 1; index = 0 } ≡ whole_view S 1
 whole-is S d blocks size is b s = rw (b, s, blocks-of S d is, size-of S d is)
-
-pub size-some : (S : Setup) (d : Device) → setup_of d ≡ S → is_block_size d.size ≡ true → 0 < S.geometry.size
-size-some S d is one = rw (← size-of S d is) (omega (arith, (sizes-bounds d.size one).0))
 
 -- a request and its step
 pub takes-request : (S : Setup) (H G H' : List Entry) (asked : Asked) (payload : Payload) (k : ℕ) (kinds : List Kind) (ends : List TokenLine) (some : Bool)
@@ -112,7 +108,7 @@ all-given S G H kinds lines all = record { count = length-map lines (λ (line : 
     by t (Some line) is = let end : IsEnd S H t line = all.keeps.ended t line is in end.given
 
 -- all lines were taken, and then all tokens collected: the history is the plain one of its outcomes
-pub plain-run : (S : Setup) (orders : List Order) (H G H' : List Entry) (kinds : List Kind) (lines : List TokenLine) → 0 < S.geometry.size → Leads S [] orders H [] → Waits S H G → first_open S G ≡ None → CollectsAll S G H' kinds lines → H' ≡ plain_history S orders (outcomes_of H')
+pub plain-run : (S : Setup) (orders : List Order) (H G H' : List Entry) (kinds : List Kind) (lines : List TokenLine) → IsSetup S → Leads S [] orders H [] → Waits S H G → first_open S G ≡ None → CollectsAll S G H' kinds lines → H' ≡ plain_history S orders (outcomes_of H')
 plain-run S orders H G H' kinds lines some leads waits none all =
     rw (all.all) (plain-ends S orders G some none (leads-on S [] orders H [] G [] leads (waits.leads [] tt)))
 

@@ -23,16 +23,16 @@ pub record Leads (S : Setup) (H : List Entry) (lines : List Order) (H' : List En
 pub record StepsOn (S : Setup) (H H' : List Entry) (lines : List Order) (more : List Outcome) : Type 0 where
   pub given : List Outcome
   pub same : outcomes_onto H' more ≡ outcomes_onto H given
-  pub goes : stepped S.geometry.size (stand H lines given) ≡ stand H' lines more
+  pub goes : stepped S (stand H lines given) ≡ stand H' lines more
 
 abbrev pub IsStep : Setup → List Entry → List Entry → Type 0
 IsStep S H H' = (lines : List Order) (more : List Outcome) → StepsOn S H H' lines more
 
 -- a command was made, and it was a done fetch or not
-pub record IsTurned (size : ℕ) (H H' : List Entry) (fetched : Bool) : Type 0 where
+pub record IsTurned (S : Setup) (H H' : List Entry) (fetched : Bool) : Type 0 where
   pub turn : Turn
   pub outcome : Outcome
-  pub next : next_turn size H ≡ Some turn
+  pub next : next_turn S H ≡ Some turn
   pub entries : H' ≡ entry_of turn outcome ∷ H
   pub answer : is_fetched turn.command outcome ≡ fetched
 

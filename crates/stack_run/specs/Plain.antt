@@ -10,7 +10,7 @@ use Rattle.history.specs.declared.order.Order.{Order}
 use Rattle.history.specs.declared.order.Order.TheVariants as order
 use Rattle.history.specs.declared.order.Payload.{Payload}
 use Rattle.history.specs.declared.order.Payload.TheVariants.{Given, Nothing}
-use Rattle.history.specs.Setup.{Setup, blocks_of}
+use Rattle.history.specs.Setup.{Setup, size_of, blocks_of}
 use Rattle.history.specs.Tokens.{Request, accepted, request, was_collected}
 use Rattle.history.specs.Rules.{refusal_of}
 use Rattle.history.specs.Next.{first_open, Turn, next_turn, Outcome, Made, Failed, entry_of}
@@ -38,7 +38,7 @@ stand H lines outcomes = record { history = H; lines = lines; outcomes = outcome
 
 -- the whole of medium k
 abbrev pub whole_view : Setup → ℕ → View
-whole_view S k = record { start = 0; length = blocks_of S k * S.geometry.size; media_id = k; index = 0 }
+whole_view S k = record { start = 0; length = blocks_of S k * size_of S; media_id = k; index = 0 }
 
 abbrev pub payload_bytes : Payload → List ℕ
 payload_bytes (Given bytes) = bytes
@@ -107,36 +107,36 @@ turned_if s None = s
 turned_if s (Some turn) = turned s turn
 
 -- the command that comes next is made, where a token is outstanding
-unfoldable pub commanded : ℕ → Stand → Stand
-commanded size s = turned_if s (next_turn size s.history)
+unfoldable pub commanded : Setup → Stand → Stand
+commanded S s = turned_if s (next_turn S s.history)
 
-abbrev pub followed : ℕ → Bool → Stand → Stand
-followed size true s = commanded size s
-followed size false s = s
+abbrev pub followed : Setup → Bool → Stand → Stand
+followed S true s = commanded S s
+followed S false s = s
 
-abbrev pub stepped_if : ℕ → Stand → Option Turn → Stand
-stepped_if size s None = s
-stepped_if size s (Some turn) = followed size (is_fetched turn.command (next_outcome s.outcomes)) (turned s turn)
+abbrev pub stepped_if : Setup → Stand → Option Turn → Stand
+stepped_if S s None = s
+stepped_if S s (Some turn) = followed S (is_fetched turn.command (next_outcome s.outcomes)) (turned s turn)
 
 -- the second half of a round: one step, and a fetched block is stored at once
-unfoldable pub stepped : ℕ → Stand → Stand
-stepped size s = stepped_if size s (next_turn size s.history)
+unfoldable pub stepped : Setup → Stand → Stand
+stepped S s = stepped_if S s (next_turn S s.history)
 
 abbrev pub a_round : Setup → Stand → Stand
-a_round S s = stepped S.geometry.size (taken S s)
+a_round S s = stepped S (taken S s)
 
 abbrev pub has_none : List Order → Bool
 has_none [] = true
 has_none (line ∷ rest) = false
 
 -- no line is left and no token is outstanding
-abbrev pub is_over : ℕ → Stand → Bool
-is_over size s = has_none s.lines && is_none (first_open size s.history)
+abbrev pub is_over : Setup → Stand → Bool
+is_over S s = has_none s.lines && is_none (first_open S s.history)
 
 -- rounds until all is over, and then the last collects; at most so many rounds
 unfoldable pub plain_from : ℕ → Setup → Stand → List Entry
 plain_from zero S s = s.history
-plain_from (suc n) S s = if is_over S.geometry.size s then all_collected s.history else plain_from n S (a_round S s)
+plain_from (suc n) S s = if is_over S s then all_collected s.history else plain_from n S (a_round S s)
 
 -- a line needs a round or two, and a byte that it asks for at most two commands
 abbrev pub line_rounds : Order → ℕ

@@ -2,9 +2,10 @@
 use Rattle.std.specs.Prelude.{◌≡◌, ℕ, ◌*◌, ◌/◌, ◌^◌, ◌<◌, ◌≤◌, ◌⊎◌, false, List, [], ◌∷◌, ◌++◌, length, Option, Some}
 use Rattle.medium.specs.Counts.{adds, Rose}
 use Rattle.medium.specs.Device.{Device}
+use Rattle.disk_split.specs.declared.geometry.Geometry.{Geometry}
 use Rattle.history.specs.declared.entry.Entry.{Entry}
 use Rattle.history.specs.declared.order.Order.{Order}
-use Rattle.history.specs.Setup.{Setup, blocks_of}
+use Rattle.history.specs.Setup.{Setup, size_of, blocks_of}
 use Rattle.history.specs.Contents.{kept_contents}
 use Rattle.history.specs.Rules.{IsLegal}
 use Rattle.history.specs.Room.{faults}
@@ -35,7 +36,11 @@ pub record RanSome (S : Setup) (medium : Device) : Type 0 where
 
 -- a disk with one medium, with no cache, and not protected
 abbrev pub one_medium : ℕ → ℕ → Option (List ℕ) → Setup
-one_medium size blocks first = record { size = size; cached = false; protected = false; media = record { blocks = blocks; first = first } ∷ [] }
+one_medium size blocks first = record { geometry = record { size = size; per = 1 }; cached = false; protected = false; media = record { blocks = blocks; first = first } ∷ [] }
+
+-- the blocks of a disk of a script, each a group of its own
+abbrev pub blocks_alone : DiskPlan → Geometry
+blocks_alone plan = record { size = plan.size; per = 1 }
 
 -- the setup has the image's whole blocks; those of an image that does not tell are some
 abbrev pub Opens : ℕ → Place → Setup → Type 0
@@ -46,7 +51,7 @@ Opens size Untold S = (blocks : ℕ) × (first : Option (List ℕ)) × (S ≡ on
 
 -- an image that told its bytes is its medium's kept contents and then its tail
 abbrev pub Leaves : Setup → List Entry → Place → Place → Type 0
-Leaves S H (Here bytes) new = (kept : List ℕ) × (kept_contents S 1 H ≡ Some kept) × (new ≡ Here (kept ++ tail_of S.geometry.size bytes))
+Leaves S H (Here bytes) new = (kept : List ℕ) × (kept_contents S 1 H ≡ Some kept) × (new ≡ Here (kept ++ tail_of (size_of S) bytes))
 Leaves S H Missing new = ⊥
 Leaves S H (Taken tail) new = ⊥
 Leaves S H Untold new = new ≡ Untold
@@ -73,14 +78,14 @@ pub record RanPlain (plan : DiskPlan) (client : ClientPlan) (old new : Image) (S
   pub reads : AreGiven S H given
 
 -- the report of a script's one disk with its one medium, which has so many blocks
-unfoldable pub report_of : DiskPlan → ℕ → List Entry → List (Option (List ℕ)) → List ℕ
-report_of plan blocks H given = report_text 1 plan.image plan.size blocks H given (record { name = plan.image; bytes = blocks * plan.size } ∷ [])
+unfoldable pub report_of : DiskPlan → Setup → ℕ → List Entry → List (Option (List ℕ)) → List ℕ
+report_of plan S blocks H given = report_text 1 plan.image S blocks H given (record { name = plan.image; bytes = blocks * plan.size } ∷ [])
 
-abbrev pub run_report : DiskPlan → Run → List ℕ
-run_report plan run = report_of plan run.blocks run.history.entries (givens_of run.ends.items)
+abbrev pub run_report : DiskPlan → Setup → Run → List ℕ
+run_report plan S run = report_of plan S run.blocks run.history.entries (givens_of run.ends.items)
 
 abbrev pub disk_report : DiskPlan → Setup → List Entry → List (Option (List ℕ)) → List ℕ
-disk_report plan S H given = report_of plan (blocks_of S 1) H given
+disk_report plan S H given = report_of plan S (blocks_of S 1) H given
 
 -- the lines ran over the image to their end, and it was put back
 pub record RanDisk (plan : DiskPlan) (client : ClientPlan) (old new : Image) (run : Run) : Type 0 where
@@ -89,7 +94,8 @@ pub record RanDisk (plan : DiskPlan) (client : ClientPlan) (old new : Image) (ru
   pub image : Leaves setup run.history.entries old.place new.place
   pub blocks : run.blocks ≡ blocks_of setup 1
   pub fits : run.blocks * plan.size < 2 ^ 64
-  pub ends : AreEnds plan.size run.history.entries run.ends.items
+  pub geometry : setup.geometry ≡ blocks_alone plan
+  pub ends : AreEnds setup run.history.entries run.ends.items
 
 -- the images are those of one history, and so is the report, which was written so
 pub record Served (plan : DiskPlan) (client : ClientPlan) (at at' : List ℕ → Image) (Writes : List ℕ → Type 0) : Type 0 where

@@ -1,4 +1,5 @@
 ghost use Rattle.std.specs.Prelude.{◌≡◌, ℕ, ◌*◌, ◌<◌, ◌≤◌, ◌^◌, [], length, true, None, IfOk, OnOk};
+ghost use Rattle.history.specs.Setup.{IsSetup};
 ghost use Rattle.history.specs.Tokens.{accepted, was_collected};
 ghost use Rattle.history.specs.Room.{faults};
 ghost use Rattle.history.specs.Next.{first_open};
@@ -42,7 +43,7 @@ fn drain<M: Medium>(disk: &mut Disk<M>)
 // The whole of the disk's medium.
 fn whole_medium<M: Medium>(disk: &Disk<M>) -> View
     ensures view { result ≡ whole_view disk.now.setup 1 }
-    ensures size { 0 < disk.now.setup.geometry.size }
+    ensures setup { IsSetup disk.now.setup }
 {
     let medium = disk.medium();
     View {

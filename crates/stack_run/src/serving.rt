@@ -3,10 +3,11 @@ ghost use Rattle.medium.specs.Counts.{adds, Rose};
 ghost use Rattle.medium.specs.Device.{IsFresh};
 ghost use Rattle.image_store.specs.Edge.{Appends, AppendsFront, HasCauseOf, PutsText};
 ghost use Rattle.image_store.specs.Place.{IsFree, IsTaken, IsTaking, ChangesOnly, MayBeShort, put_place};
+ghost use Rattle.history.specs.Setup.{Setup};
 ghost use Rattle.disk_core.specs.State.{setup_of};
 ghost use Rattle.script_text.specs.Fit.{IsDisk, AreOrders};
 ghost use Rattle.script_text.specs.Report.{AreEnds};
-ghost use Rattle.stack_run.specs.Serving.{RanOver, RanSome, RanDisk, Served, ImageFails, MayLeave, LacksBlock, run_report};
+ghost use Rattle.stack_run.specs.Serving.{RanOver, RanSome, RanDisk, Served, ImageFails, MayLeave, LacksBlock, blocks_alone, run_report};
 
 use crate::plain_run::run_lines;
 use crate::refusal::{NotRun, Unserved};
@@ -156,9 +157,9 @@ fn write_report<O: Sink>(
     run: &Run,
     out: &mut O,
 ) -> Result<(), ReportFault>
-    requires ends { AreEnds plan.now.size run.now.history.entries run.now.ends.items }
     requires fits { run.now.blocks * plan.now.size < 2 ^ 64 }
-    ensures text { PutsText (O.wrote out.old) (O.wrote out.new) result (run_report plan.now run.now) }
+    ensures text { (S : Setup) → S.geometry ≡ blocks_alone plan.now → AreEnds S run.now.history.entries run.now.ends.items
+        → PutsText (O.wrote out.old) (O.wrote out.new) result (run_report plan.now S run.now) }
     ensures cause { HasCauseOf ReportFault.Failed (O.faults out.old) (O.faults out.new) result }
 {
     let media = match kept_media(alloc, plan, run.blocks * u64::from(plan.size)) {
@@ -169,7 +170,7 @@ fn write_report<O: Sink>(
         Ok(()) => {}
         Err(fault) => return Err(fault),
     }
-    report_body(alloc, plan, &run.history, &run.ends, &media, out)
+    report_body(alloc, 1, &run.history, &run.ends, &media, out)
 }
 
 // Runs the client's lines over the disk's image by the plain schedule, puts the image back, and writes the report.

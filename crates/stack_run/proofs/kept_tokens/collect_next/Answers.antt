@@ -5,7 +5,7 @@ use Rattle.stack_run.proofs.kept_tokens.collect_next.Goals as goal
 pub unreachable-requires : goal.unreachable-requires
 unreachable-requires g c =
     let answer = rw (c.in-Err-Outstanding.is, c.in-Err-Outstanding.field-0-is) at c.collect.ensures in
-    none-outstanding c.args.disk.now.setup.geometry.size c.args.disk.now.entries c.len-number.result c.requires.drained answer.0 answer.1
+    none-outstanding c.args.disk.now.setup c.args.disk.now.entries c.len-number.result c.requires.drained answer.0 answer.1
 
 pub unreachable-requires-in-Err-Unknown : goal.unreachable-requires-in-Err-Unknown
 unreachable-requires-in-Err-Unknown g c =

@@ -34,7 +34,7 @@ returns-clause-plain g c =
     let waits = rw c.loop-line.invariant.setup at c.drain.ensures.waits in
     let drained = rw c.loop-line.invariant.setup at c.drain.ensures.drained in
     let all = rw (c.drain.ensures.setup, c.loop-line.invariant.setup) at c.in_ok-collect_rest.ensures.all in
-    plain-run _ _ _ _ _ _ _ c.whole_medium-view.ensures.size (leads-last _ c.args.orders.now _ c.loop-line.line-index c.loop-line-test.false c.loop-line.invariant.leads) waits drained all
+    plain-run _ _ _ _ _ _ _ c.whole_medium-view.ensures.setup (leads-last _ c.args.orders.now _ c.loop-line.line-index c.loop-line-test.false c.loop-line.invariant.leads) waits drained all
 
 pub returns-clause-faultless : goal.returns-clause-faultless
 returns-clause-faultless g c = faultless _ _ _ (returns-clause-plain g c)
