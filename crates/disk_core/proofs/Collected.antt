@@ -8,28 +8,23 @@ use Rattle.history.specs.declared.entry.Entry.TheVariants.{Collect}
 use Rattle.history.specs.Setup.{Setup}
 use Rattle.history.specs.Eras.{is_protected}
 use Rattle.history.specs.Tokens.{Request, was_collected}
-use Rattle.history.specs.Marks.{mark_of, ending, Holds}
+use Rattle.history.specs.Marks.{mark_of, Holds}
 use Rattle.history.specs.Rules.{MayFollow}
-use Rattle.history_laws.proofs.CountLemmas.{accepted-same}
-use Rattle.history_laws.proofs.TokenLemmas.{or_else-none, collect-concerns, request-same, collected-collect}
-use Rattle.history_laws.proofs.EndLemmas.{mark-stays}
+use Rattle.history_laws.proofs.TokenLemmas.{collect-concerns, request-same, collected-collect}
+use Rattle.history_laws.proofs.HolderLemmas.{holds-before, holds-stays, end-frees}
+use Rattle.history_laws.proofs.PlainLemmas.{mark-collect}
 use Rattle.history_laws.proofs.SpareLemmas.{entries-collect}
 use Rattle.disk_core.specs.declared.record.Record.{Record}
 use Rattle.disk_core.specs.declared.record.Core.{Core}
 use Rattle.disk_core.specs.Bookkeeping.{HandsBack}
 use Rattle.disk_core.specs.Sound.{IsSound, Tracks, IsGate}
 use Rattle.disk_core.proofs.Followed.{meets-quiet, quiet-contents, collect-quiet}
-use Rattle.disk_core.proofs.Gates.{holds-same, holds-still}
 use Rattle.disk_core.proofs.Places.{get-set-other}
 use Rattle.disk_core.proofs.Stepped.{IsOwn, sound-after}
 
 collect-own : (S : Setup) (H : List Entry) (tag t : ℕ) → IsOwn S H (Collect tag t) t
 unfolding is_protected
 collect-own S H tag t = record { other = λ u ne. collect-concerns H tag t u ne; no_accept = refl; no_eject = refl; no_insert = refl; no_protect = refl }
-
-collect-mark : (S : Setup) (H : List Entry) (tag t u : ℕ) → mark_of S (Collect tag t ∷ H) u ≡ mark_of S H u
-unfolding mark_of ending
-collect-mark S H tag t u = or_else-none (mark_of S H u)
 
 may-collect : (S : Setup) (H : List Entry) (tag t : ℕ) (status : Status) → mark_of S H t ≡ Some status → was_collected H t ≡ false → MayFollow S H (Collect tag t)
 unfolding MayFollow
@@ -44,7 +39,7 @@ tracks-collect S H tag t r r' q c c' status tracks ended back = record {
   from = back.from ∙ tracks.from;
   units = rw back.units tracks.units;
   within = tracks.within;
-  status = collect-mark S H tag t t ∙ (tracks.status ∙ sym back.status);
+  status = mark-collect S H tag t t ∙ (tracks.status ∙ sym back.status);
   collected = collected-collect H tag t ∙ sym back.collected;
   unfinished = λ open_. absurd (clash (sym ended ∙ (sym back.status ∙ open_)));
   moved = λ open_. absurd (clash (sym ended ∙ (sym back.status ∙ open_)));
@@ -66,8 +61,10 @@ collect-gate : (S : Setup) (d : Device) (prepared : ℕ → Type 0) (c c' : Core
 collect-gate S d prepared c c' tag t r r' status sound was marked back =
     let H = c.history.entries in
     rw (back.records, back.block, back.held) (record {
-      only = λ u b holds. sound.gate.only u b (holds-same S H (Collect tag t) u b refl refl holds);
-      holds = λ b held. holds-still S H (Collect tag t) c.first b (omega (arith, accepted-same H (Collect tag t) refl)) refl (collect-mark S H tag t c.first) (sound.gate.holds b held);
+      only = λ u b holds. elim (holds-before S H (Collect tag t) u b sound.legal holds) [ inl before ↦ sound.gate.only u b before | inr now ↦ cc ];
+      holds = λ b held.
+          let holds : Holds S H c.first b = sound.gate.holds b held in
+          holds-stays S H (Collect tag t) c.first b (collect-concerns H tag t c.first (λ same. end-frees S H t b status marked (rw (sym same) at holds))) holds;
       copy = λ b held. rw (quiet-contents S H (Collect tag t) (collect-quiet S H tag t)) (sound.gate.copy b held);
       unit = λ b x u held is unit. elim (cases_eq t c.first) [
         | inl same ↦ absurd (clash (sym marked ∙ (rw (sym same) at (sound.gate.holds b held).outstanding.unmarked)))

@@ -1,6 +1,5 @@
 -- How a command ends: what its end leaves, a failed command, and a done one of a write.
-use Rattle.std.proofs.Common.{inl, inr, ◌≡◌, ℕ, zero, suc, ◌+◌, ◌^◌, ◌<◌, ◌≤◌, Bool, true, false, List, ◌∷◌, slice_get, set, length, Option, None, Some, Ok, Err, refl, sym, ◌∙◌, ap, arith, if◌then◌else◌, get_or, nat_eq}
-use Rattle.std.proofs.lemmas.Bool.{cases_eq}
+use Rattle.std.proofs.Common.{◌≡◌, ℕ, ◌+◌, ◌^◌, ◌<◌, ◌≤◌, Bool, true, false, List, ◌∷◌, slice_get, set, length, Option, None, Some, Ok, Err, refl, sym, ◌∙◌, ap, arith, if◌then◌else◌, get_or, nat_eq}
 use Rattle.efi_status.specs.declared.Status.TheVariants.{Success}
 use Rattle.disk_split.specs.declared.span.Span.{Span}
 use Rattle.medium.specs.declared.block_failed.BlockFailed.{BlockFailed}
@@ -12,15 +11,15 @@ use Rattle.history.specs.declared.entry.Command.TheVariants.{Fetch, Store, Put, 
 use Rattle.history.specs.declared.entry.Entry.{Entry}
 use Rattle.history.specs.declared.entry.Entry.TheVariants.{Done, Fault}
 use Rattle.history.specs.Setup.{Setup, IsSetup}
-use Rattle.history.specs.Tokens.{Request, accepted}
+use Rattle.history.specs.Tokens.{Request}
 use Rattle.history.specs.Contents.{contents}
 use Rattle.history.specs.Commands.{is_sync}
 use Rattle.history.specs.Marks.{mark_of}
-use Rattle.history.specs.Room.{token_owed, tokens_owed, owed_entries}
+use Rattle.history.specs.Room.{owed_entries}
 use Rattle.history.specs.Rules.{IsLegal, MayFollow, MayCommand, StopsAt}
 use Rattle.history.specs.Next.{next_turn, Made, Failed}
 use Rattle.history_laws.proofs.RoomLemmas.{open-owed}
-use Rattle.history_laws.proofs.SpareLemmas.{entries-done, entries-done-end, entries-fault}
+use Rattle.history_laws.proofs.SpareLemmas.{owed-within, entries-done, entries-done-end, entries-fault}
 use Rattle.disk_core.specs.declared.answers.Step.TheVariants as step
 use Rattle.disk_core.specs.declared.record.Record.{Record}
 use Rattle.disk_core.specs.declared.record.Core.{Core}
@@ -128,7 +127,7 @@ faulted S d d' prepared prepared' c c' r r' q u command done failure sound stay 
     let tracks : Tracks S H c.first r q = is.tracks in
     let few : length H + 1 < 2 ^ 63 = omega (arith, sound.few, ends.spare) in
     let none : NoneHeld S (Fault c.first command done ∷ H) =
-    none-after-fault S H c.first command done (λ t b holds. (sound.gate.only t b holds).0) (tracks.status ∙ is.unended) in
+    none-after-fault S H c.first command done sound.legal (λ t b holds. (sound.gate.only t b holds).0) (tracks.status ∙ is.unended) in
     did S d d' prepared prepared' c c' (Fault c.first command done) r (failed_record r') q (record { token = c.first; command = command }) (Failed done) sound stay
     (record {
       was = was;
@@ -199,22 +198,10 @@ wrote S d d' prepared prepared' c c' r q u command sound stay is was writes made
     (fills (buffers_of c.records.items) (buffers_of c'.records.items) (buffers-same c.records.items c'.records.items c.first r (finished_record r) was ends.records refl))
     made.later (λ n failed. absurd (made-failed n failed)) answer
 
-token-within : (S : Setup) (H : List Entry) (n t : ℕ) → t < n → token_owed S H t ≤ tokens_owed S H n
-unfolding tokens_owed
-token-within S H zero t lt = absurd (omega arith)
-token-within S H (suc n) t lt = elim (cases_eq t n) [
-  | inl same ↦ rw same (omega arith)
-  | inr other ↦ omega (arith, token-within S H n t (omega (arith, other)))
-]
-
-entries-within : (S : Setup) (H : List Entry) (t : ℕ) → t < accepted H → token_owed S H t ≤ owed_entries S H
-unfolding owed_entries
-entries-within S H t token = omega (arith, token-within S H (accepted H) t token)
-
 -- an open token's disk owes two entries and more
 pub owed-some : (S : Setup) (d : Device) (prepared : ℕ → Type 0) (c : Core) (r : Record) (q : Request) (u : Span) → IsSound S d prepared c → IsNext S c.history.entries c.first r q u → 2 ≤ c.owed
 owed-some S d prepared c r q u sound is =
-    omega (arith, sound.room, entries-within S c.history.entries c.first is.token, open-owed S c.history.entries c.first q is.tracks.named (is.tracks.status ∙ is.unended))
+    omega (arith, sound.room, owed-within S c.history.entries c.first is.token, open-owed S c.history.entries c.first q is.tracks.named (is.tracks.status ∙ is.unended))
 
 -- an element that was read from a list
 pub read-is : (records : List Record) (k : ℕ) (r x : Record) → slice_get records k ≡ Some r → x ≡ get_or records k x → x ≡ r

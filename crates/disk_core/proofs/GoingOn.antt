@@ -1,6 +1,6 @@
 -- Each call lets a disk go on, and what goes on twice goes on.
 use Rattle.std.proofs.Common.{◌≡◌, ℕ, ◌+◌, ◌-◌, ◌*◌, ◌<◌, ◌≤◌, min, max, inl, inr, true, false, List, [], ◌∷◌, ◌++◌, length, slice_get, Some, Ok, Err, refl, sym, ◌∙◌, ap, subst, arith}
-use Rattle.std.proofs.lemmas.Bool.{cases_eq, cases_lt, cases_Bool, eq-eqb, le-leb, ltb-false, or_parts, false_from_ne_true, both_ways}
+use Rattle.std.proofs.lemmas.Bool.{cases_eq, cases_lt, le-leb, ltb-false, or_parts}
 use Rattle.std.proofs.lemmas.List.{append_assoc}
 use Rattle.byte_lists.specs.Patching.{patch}
 use Rattle.byte_lists.proofs.Patched.{length-patch}
@@ -9,11 +9,12 @@ use Rattle.history.specs.declared.entry.Command.TheVariants.{Fetch, Store, Put, 
 use Rattle.history.specs.declared.entry.Entry.{Entry}
 use Rattle.history.specs.declared.entry.Entry.TheVariants.{Accept, Done, Collect}
 use Rattle.history.specs.Setup.{Setup, size_of}
-use Rattle.history.specs.Tokens.{Request, is_accept, accepted, request, is_collect_of, was_collected, from_of, until_of}
+use Rattle.history.specs.Tokens.{Request, accepted, request, was_collected, from_of, until_of}
 use Rattle.history.specs.Commands.{lies_in, moves, is_moved}
 use Rattle.history.specs.Next.{Outcome, Made, Failed, entry_of}
-use Rattle.history_laws.proofs.CountLemmas.{accepted-more, accepted-same}
-use Rattle.history_laws.proofs.TokenLemmas.{request-kept, request-same, has_done-done, has_done-stays, collected-collect}
+use Rattle.history_laws.proofs.CountLemmas.{accepted-more}
+use Rattle.history_laws.proofs.TokenLemmas.{request-same, has_done-done, collected-collect}
+use Rattle.history_laws.proofs.LaterLemmas.{Later, later-more}
 use Rattle.disk_core.specs.declared.answers.Why.{Why}
 use Rattle.disk_core.specs.declared.answers.Why.TheVariants as why
 use Rattle.disk_core.specs.declared.answers.Step.TheVariants as step
@@ -23,34 +24,6 @@ use Rattle.disk_core.specs.Calls.{Gets, Fills, RefusesFor, asked_of, buffer_of}
 use Rattle.disk_core.specs.GoingOn.{IsRest, GoesOn, SubmitGoesOn, StepGoesOn, CollectGoesOn, GoesOnTwice, RestComesBack}
 use Rattle.disk_core.proofs.Patches.{patch-before, patch-behind}
 use Rattle.disk_core.proofs.Places.{get-set-same, get-set-other, before-last}
-
--- what a history with more entries still says of a token
-record Later (S : Setup) (H H' : List Entry) (t x : ℕ) : Type 0 where
-  tokens : accepted H ≤ accepted H'
-  named : t < accepted H → request H' t ≡ request H t
-  unmoved : is_moved S H' t x ≡ false → is_moved S H t x ≡ false
-  uncollected : was_collected H' t ≡ false → was_collected H t ≡ false
-
-later-one : (S : Setup) (e : Entry) (H : List Entry) (t x : ℕ) → Later S H (e ∷ H) t x
-unfolding was_collected
-later-one S e H t x = record {
-  tokens = elim (cases_Bool (is_accept e)) [ inl is ↦ omega (arith, accepted-more H e is) | inr isnt ↦ omega (arith, accepted-same H e isnt) ];
-  named = λ token. request-kept H e t (λ same. absurd (omega (arith, same)));
-  unmoved = λ none. false_from_ne_true (is_moved S H t x) (λ was. both_ways (is_moved S (e ∷ H) t x) none (has_done-stays (moves S x) H e t was));
-  uncollected = λ none. (or_parts (is_collect_of t e) _ none).1;
-}
-
-later-more : (S : Setup) (more H : List Entry) (t x : ℕ) → Later S H (more ++ H) t x
-later-more S [] H t x = record { tokens = omega arith; named = λ _. refl; unmoved = λ none. none; uncollected = λ none. none }
-later-more S (e ∷ more) H t x =
-    let first : Later S H (more ++ H) t x = later-more S more H t x in
-    let next : Later S (more ++ H) (e ∷ (more ++ H)) t x = later-one S e (more ++ H) t x in
-    record {
-      tokens = omega (arith, first.tokens, next.tokens);
-      named = λ token. next.named (omega (arith, first.tokens)) ∙ first.named token;
-      unmoved = λ none. first.unmoved (next.unmoved none);
-      uncollected = λ none. first.uncollected (next.uncollected none);
-    }
 
 pub goes_on_twice : GoesOnTwice
 goes_on_twice a b c first second =

@@ -77,7 +77,7 @@ got S d d' prepared prepared' c c' r r' u shaped sound stay next same fills ends
               (fills.now ∙ (sound.meets.now ∙ sym (contents-same S 1 H (Done c.first command) (piece-unchanged S H c.first command refl))))
               (kept-same d.cached d.kept d.now d'.now d'.kept shaped.uncached fills.now fills.kept);
           tracks = after;
-          gate = gate-none S (Done c.first command ∷ H) c'.records.items c.first c'.block.items c'.held (none-after S H c.first command free refl) ends.held;
+          gate = gate-none S (Done c.first command ∷ H) c'.records.items c.first c'.block.items c'.held (none-after S H c.first command sound.legal free refl) ends.held;
           more = end_paid r';
           pays = ends.owed;
           owed = finish-owed S H c.first command r' is.setup is.legal (may-get S H c.first r q u is next.of_kind) after.status;

@@ -1,6 +1,6 @@
 -- A disk stays sound as a request is accepted.
 use Rattle.std.proofs.Common.{◌≡◌, ◌≢◌, ℕ, ◌+◌, ◌*◌, ◌^◌, ◌<◌, ◌≤◌, inl, inr, Bool, true, false, List, [], ◌∷◌, ◌++◌, slice_get, length, Option, None, Some, refl, sym, ◌∙◌, ap, arith, length-append, nat_eq, if◌then◌else◌}
-use Rattle.std.proofs.lemmas.Bool.{cases_lt, eq-eqb, le-ltb}
+use Rattle.std.proofs.lemmas.Bool.{eq-eqb, le-ltb}
 use Rattle.efi_status.specs.declared.Status.{Status}
 use Rattle.efi_status.specs.declared.Status.TheVariants.{Success}
 use Rattle.disk_split.specs.declared.span.Span.{Span}
@@ -15,15 +15,16 @@ use Rattle.history.specs.declared.entry.Entry.{Entry}
 use Rattle.history.specs.declared.entry.Entry.TheVariants.{Accept}
 use Rattle.history.specs.Setup.{Setup, size_of, blocks_of, IsSetup}
 use Rattle.history.specs.Tokens.{Request, accepted, was_collected, from_of, until_of}
-use Rattle.history.specs.Commands.{is_fetch, is_store, is_at, moves, is_moved}
+use Rattle.history.specs.Commands.{moves, is_moved}
 use Rattle.history.specs.Contents.{contents, bytes_read}
 use Rattle.history.specs.Marks.{mark_of, Holds}
 use Rattle.history.specs.Rules.{IsLegal, MayFollow, IsPayload}
 use Rattle.history.specs.Room.{token_owed}
 use Rattle.history_laws.specs.Told.{IsUntold, concerns}
 use Rattle.history_laws.proofs.CountLemmas.{accepted-more}
-use Rattle.history_laws.proofs.TokenLemmas.{request-accept, accept-concerns, mark-other, has_done-same, collected-same}
-use Rattle.history_laws.proofs.EndLemmas.{mark-before, unaccepted, untold-has_done, untold-collected}
+use Rattle.history_laws.proofs.TokenLemmas.{request-accept, accept-concerns, has_done-same, collected-same}
+use Rattle.history_laws.proofs.HolderLemmas.{holds-before, holds-stays}
+use Rattle.history_laws.proofs.EndLemmas.{unaccepted, untold-has_done, untold-collected}
 use Rattle.history_laws.proofs.RoomLemmas.{open-owed, ended-owed-most}
 use Rattle.history_laws.proofs.SpareLemmas.{entries-accept}
 use Rattle.disk_core.specs.declared.record.Record.{Record}
@@ -31,7 +32,6 @@ use Rattle.disk_core.specs.declared.record.Core.{Core}
 use Rattle.disk_core.specs.Sound.{IsSound, IsPlain, Tracks, low_or}
 use Rattle.disk_core.specs.Submitting.{cost_of, first_owed, payload_of, AreReadyFor, IsMoving}
 use Rattle.disk_core.proofs.Costs.{commands-few}
-use Rattle.disk_core.proofs.Gates.{holds-same, holds-still}
 use Rattle.disk_core.proofs.Places.{inside-some}
 use Rattle.disk_core.proofs.Followed.{accept-quiet, meets-quiet, plain-quiet, quiet-contents}
 use Rattle.disk_core.proofs.Refusing.{well-asked}
@@ -135,27 +135,6 @@ owes-first S H t r q tracks status = by (nat_eq (length r.buffer.items) 0) (trac
     by true ended = ended-owed-most S H t Success ended
     by false _ = new-owes S H t r q tracks
 
-holds-before : (S : Setup) (H : List Entry) (tag : ℕ) (view : View) (asked : Asked) (bytes : List ℕ) (t b : ℕ) → IsLegal S H → Holds S (Accept tag view asked bytes ∷ H) t b → Holds S H t b
-holds-before S H tag view asked bytes t b legal holds =
-    let e : Entry = Accept tag view asked bytes in
-    elim (cases_lt t (accepted H)) [
-      | inl token ↦ record {
-        outstanding = record { token = token; unmarked = mark-before S H e t holds.outstanding.unmarked };
-        fetched = sym (has_done-same (is_at is_fetch b) H e t refl) ∙ holds.fetched;
-        unstored = sym (has_done-same (is_at is_store b) H e t refl) ∙ holds.unstored;
-      }
-      | inr past ↦ absurd (clash (sym (untold-has_done S (is_at is_fetch b) H t (unaccepted S H t legal past)) ∙ (sym (has_done-same (is_at is_fetch b) H e t refl) ∙ holds.fetched)))
-    ]
-  where
-    clash : false ≡ true → ⊥
-    clash e = cc
-
-holds-after : (S : Setup) (H : List Entry) (tag : ℕ) (view : View) (asked : Asked) (bytes : List ℕ) (t b : ℕ) → Holds S H t b → Holds S (Accept tag view asked bytes ∷ H) t b
-holds-after S H tag view asked bytes t b holds =
-    let e : Entry = Accept tag view asked bytes in
-    let token : t < accepted H = holds.outstanding.token in
-    holds-still S H e t b (omega (arith, accepted-more H e refl)) refl (mark-other S H e t (accept-concerns H tag view asked bytes t (λ same. absurd (omega (arith, same, token))))) holds
-
 legal-more : (S : Setup) (H : List Entry) (e : Entry) → IsLegal S H → MayFollow S H e → IsLegal S (e ∷ H)
 unfolding IsLegal
 legal-more S H e legal may = (legal, may)
@@ -202,8 +181,10 @@ keeps-sound S d prepared prepared' c c' tag view media_id asked buffer r setup s
       bound = rw (keeps.first, keeps.records) (omega (arith, sound.bound, length-append c.records.items (r ∷ [])));
       block = rw keeps.block sound.block;
       gate = rw (keeps.entries, keeps.records, keeps.first, keeps.block, keeps.held) (record {
-        only = λ t b holds. sound.gate.only t b (holds-before S H tag view asked bytes t b sound.legal holds);
-        holds = λ b held. holds-after S H tag view asked bytes c.first b (sound.gate.holds b held);
+        only = λ t b holds. elim (holds-before S H e t b sound.legal holds) [ inl before ↦ sound.gate.only t b before | inr now ↦ cc ];
+        holds = λ b held.
+            let holds : Holds S H c.first b = sound.gate.holds b held in
+            holds-stays S H e c.first b (others c.first (λ same. absurd (omega (arith, same, holds.outstanding.token)))) holds;
         copy = λ b held. rw same (sound.gate.copy b held);
         unit = λ b x u held is_ unit. elim (last-or c.records.items r x c.first is_) [
           | inl before ↦ sound.gate.unit b x u held before unit

@@ -1,5 +1,5 @@
 -- A disk that refuses a request.
-use Rattle.std.proofs.Common.{◌≡◌, ℕ, ◌+◌, ◌^◌, ◌<◌, ◌≤◌, true, false, List, ◌∷◌, length, Some, refl, sym, ◌∙◌, arith}
+use Rattle.std.proofs.Common.{◌≡◌, ℕ, ◌+◌, ◌^◌, ◌<◌, ◌≤◌, true, false, List, ◌∷◌, length, Some, inl, inr, refl, sym, ◌∙◌}
 use Rattle.efi_status.specs.declared.Status.{Status}
 use Rattle.medium.specs.Device.{Device}
 use Rattle.history.specs.declared.entry.View.{View}
@@ -11,13 +11,12 @@ use Rattle.history.specs.declared.entry.Entry.TheVariants.{Refuse}
 use Rattle.history.specs.Setup.{Setup}
 use Rattle.history.specs.Rules.{IsLegal, MayFollow, IsAsked, refusal_of}
 use Rattle.history_laws.proofs.CountLemmas.{accepted-same}
-use Rattle.history_laws.proofs.TokenLemmas.{mark-other}
+use Rattle.history_laws.proofs.HolderLemmas.{holds-before, holds-stays}
 use Rattle.history_laws.proofs.SpareLemmas.{entries-refuse}
 use Rattle.disk_core.specs.declared.record.Core.{Core}
 use Rattle.disk_core.specs.Sound.{IsSound}
 use Rattle.disk_core.specs.Submitting.{has_buffer, IsMoving}
 use Rattle.disk_core.proofs.Followed.{IsQuiet, meets-quiet, plain-quiet, quiet-contents, refuse-quiet}
-use Rattle.disk_core.proofs.Gates.{holds-same, holds-still}
 use Rattle.disk_core.proofs.Tracked.{tracks-other}
 
 pub well-asked : (asked : Asked) (kind : Kind) → has_buffer kind ≡ true → IsAsked kind asked.unit asked.at asked.length
@@ -58,8 +57,8 @@ refused-sound S d prepared c c' tag view asked media_id status buffer sound is r
       bound = rw (leaves.first, leaves.records) sound.bound;
       block = rw leaves.block sound.block;
       gate = rw (leaves.entries, leaves.records, leaves.first, leaves.block, leaves.held) (record {
-        only = λ t b holds. sound.gate.only t b (holds-same S H e t b refl refl holds);
-        holds = λ b held. holds-still S H e c.first b (omega (arith, accepted-same H e refl)) refl (mark-other S H e c.first refl) (sound.gate.holds b held);
+        only = λ t b holds. elim (holds-before S H e t b sound.legal holds) [ inl before ↦ sound.gate.only t b before | inr now ↦ cc ];
+        holds = λ b held. holds-stays S H e c.first b refl (sound.gate.holds b held);
         copy = λ b held. rw (quiet-contents S H e quiet) (sound.gate.copy b held);
         unit = sound.gate.unit;
       });

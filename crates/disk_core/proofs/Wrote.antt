@@ -76,7 +76,7 @@ put-done S d d' prepared prepared' c c' r u shaped sound stay next whole write e
         let low : u.block * d.size ≡ u.low = sym (lies.whole_low whole) in
         let free : NoneHeld S H = put-free S H c r u sound.gate next whole in
         wrote S d d' prepared prepared' c c' r q u (Put u.block u.count) sound stay is next.is next.of_kind write.command refl (moves-put S H c.first r q u is next.of_kind whole)
-        (may-put S H c.first r q u is free next.of_kind whole) (none-after S H c.first (Put u.block u.count) free refl)
+        (may-put S H c.first r q u is free next.of_kind whole) (none-after S H c.first (Put u.block u.count) sound.legal free refl)
         (write.now ∙ (rw (low, bytes, sound.meets.now) (sym (done-told S H c.first (Put u.block u.count) q u sound.plain is.tracks.named (moves-put S H c.first r q u is next.of_kind whole) refl))))
         write.kept
         (λ old new same. same) refl (turn-put S d prepared c r q u sound is next.of_kind whole) ends
@@ -117,7 +117,7 @@ store-done S d d' prepared prepared' c c' r u shaped sound stay next part held w
         let holds : Holds S H c.first u.block = sound.gate.holds u.block held in
         wrote S d d' prepared prepared' c c' r q u (Store u.block) sound stay is next.is next.of_kind write.command refl (moves-store S H c.first r q u is next.of_kind part)
         (may-store S H c.first u.block holds)
-        (none-after-store S H c.first u.block (λ t b held_too. ((sound.gate.only t b held_too).0, sym (some-is u.block b (sym held ∙ (sound.gate.only t b held_too).1)))))
+        (none-after-store S H c.first u.block is.setup sound.legal (may-store S H c.first u.block holds) (λ t b held_too. ((sound.gate.only t b held_too).0, sym (some-is u.block b (sym held ∙ (sound.gate.only t b held_too).1)))))
         (write.written ∙ (rw (bytes, sound.meets.now) (sym (done-told S H c.first (Store u.block) q u sound.plain is.tracks.named (moves-store S H c.first r q u is next.of_kind part) refl))))
         write.kept
         (λ old new same. same) refl (turn-store S d prepared c r q u sound is next.of_kind part holds.fetched) ends
@@ -187,7 +187,7 @@ fetch-done S d d' prepared prepared' c c' r u block block' shaped sound stay nex
           meets = meets-command S H d d' (Done c.first (Fetch u.block)) 0 (Ok tt) sound.meets read.command (done-command c.first (Fetch u.block) refl) refl few
               (read.now ∙ (sound.meets.now ∙ sym same)) (kept-same d.cached d.kept d.now d'.now d'.kept shaped.uncached read.now read.kept);
           tracks = after;
-          gate = rw (ends.records, ends.block) (gate-fetch S H c.records.items c.first r u block' c'.held none ends.held is.token (after.status ∙ is.unended) (next-unstored S H c.first r q u is) told next.is next.unit next.of_kind part);
+          gate = rw (ends.records, ends.block) (gate-fetch S H c.records.items c.first r u block' c'.held is.setup sound.legal (may-fetch S H c.first r q u is none next.of_kind part) none ends.held told next.is next.unit next.of_kind part);
           more = 0;
           pays = ends.owed;
           owed = omega (arith, entries-done S H c.first (Fetch u.block) is.setup is.legal (may-fetch S H c.first r q u is none next.of_kind part));

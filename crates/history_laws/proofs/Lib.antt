@@ -26,3 +26,4 @@ pub mod TicketLemmas
 pub mod Worked
 pub mod PlainLemmas
 pub mod WeightLemmas
+pub mod LaterLemmas

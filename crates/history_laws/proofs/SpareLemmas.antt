@@ -1,6 +1,6 @@
 -- What each entry does to all the entries that a history must still have room for.
-use Rattle.std.proofs.Common.{◌≡◌, ℕ, suc, ◌+◌, ◌<◌, ◌≤◌, inl, inr, Bool, true, false, List, [], ◌∷◌, length, Option, None, Some, refl, sym, ◌∙◌, arith, is_some}
-use Rattle.std.proofs.lemmas.Bool.{cases_lt, cases_Bool, eq-eqb, eqb-true, or_right, lt-ltb}
+use Rattle.std.proofs.Common.{◌≡◌, ℕ, zero, suc, ◌+◌, ◌<◌, ◌≤◌, inl, inr, Bool, true, false, List, [], ◌∷◌, length, Option, None, Some, refl, sym, ◌∙◌, arith, is_some}
+use Rattle.std.proofs.lemmas.Bool.{cases_eq, cases_lt, cases_Bool, eq-eqb, eqb-true, or_right, lt-ltb}
 use Rattle.efi_status.specs.declared.Status.{Status}
 use Rattle.efi_status.specs.declared.Status.TheVariants.{Aborted}
 use Rattle.history.specs.declared.entry.View.{View}
@@ -173,3 +173,16 @@ unfolding MayFollow owed_entries
 entries-insert S H tag k (out, is, within) =
     rw (accepted-same H (Insert tag k) refl)
     (omega (arith, tokens-less S H (Insert tag k ∷ H) (accepted H) (λ t below. owed-stays S H (Insert tag k) t below), ejects-same H (Insert tag k) refl, inserts-more H (Insert tag k) refl))
+
+token-within : (S : Setup) (H : List Entry) (n t : ℕ) → t < n → token_owed S H t ≤ tokens_owed S H n
+unfolding tokens_owed
+token-within S H zero t lt = absurd (omega arith)
+token-within S H (suc n) t lt = elim (cases_eq t n) [
+  | inl same ↦ rw same (omega arith)
+  | inr other ↦ omega (arith, token-within S H n t (omega (arith, other)))
+]
+
+-- what a token owes is among the entries that are owed
+pub owed-within : (S : Setup) (H : List Entry) (t : ℕ) → t < accepted H → token_owed S H t ≤ owed_entries S H
+unfolding owed_entries
+owed-within S H t token = omega (arith, token-within S H (accepted H) t token)
