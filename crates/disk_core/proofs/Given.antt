@@ -13,7 +13,7 @@ use Rattle.history.specs.Eras.{inserts}
 use Rattle.history.specs.Tokens.{Request, from_of, until_of}
 use Rattle.history.specs.Contents.{contents, bytes_read, byte_at}
 use Rattle.history.specs.Commands.{lies_in}
-use Rattle.disk_core.specs.State.{AreGiven}
+use Rattle.disk_core.specs.State.{HasBytesRead}
 use Rattle.history_laws.proofs.UnitLemmas.{lies-in-unit}
 use Rattle.disk_core.proofs.Patches.{patch-in, patch-before, patch-behind, part-byte}
 
@@ -34,8 +34,8 @@ told-byte (Some bytes) at piece x v same from until is =
     ap (λ p. slice_get p (x - at)) same ∙ (part-byte bytes at (length piece) (x - at) (omega arith) ∙ (ap (slice_get bytes) place ∙ is))
 
 pub given-get : (S : Setup) (H : List Entry) (t : ℕ) (q : Request) (u : Span) (buffer buffer' piece : List ℕ) → inserts H ≡ 0 → IsUnit S.geometry (from_of S q) (until_of S q) u
-    → length buffer ≡ q.asked.length → AreGiven S H t q buffer → length piece ≡ u.high - u.low → buffer' ≡ patch buffer (u.low - from_of S q) piece → AreToldAt (contents S 1 H) u.low piece
-    → AreGiven S (Done t (Get u.block u.count) ∷ H) t q buffer'
+    → length buffer ≡ q.asked.length → HasBytesRead S H t q buffer → length piece ≡ u.high - u.low → buffer' ≡ patch buffer (u.low - from_of S q) piece → AreToldAt (contents S 1 H) u.low piece
+    → HasBytesRead S (Done t (Get u.block u.count) ∷ H) t q buffer'
 given-get S H t q u buffer buffer' piece one unit long given counted filled told x v from until got =
     let low : from_of S q ≤ u.low = omega (arith, unit.low) in
     let high : u.high ≤ until_of S q = omega (arith, unit.high) in

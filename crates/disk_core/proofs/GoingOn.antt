@@ -21,7 +21,7 @@ use Rattle.disk_core.specs.declared.answers.Step.TheVariants as step
 use Rattle.disk_core.specs.declared.answers.NotThere.TheVariants as not_there
 use Rattle.disk_core.specs.State.{State}
 use Rattle.disk_core.specs.Calls.{Gets, Fills, RefusesFor, asked_of, buffer_of}
-use Rattle.disk_core.specs.GoingOn.{IsRest, GoesOn, SubmitGoesOn, StepGoesOn, CollectGoesOn, GoesOnTwice, RestComesBack}
+use Rattle.disk_core.specs.GoingOn.{IsBufferRest, GoesOn, SubmitGoesOn, StepGoesOn, CollectGoesOn, GoesOnTwice, RestComesBack}
 use Rattle.disk_core.proofs.Patches.{patch-before, patch-behind}
 use Rattle.disk_core.proofs.Places.{get-set-same, get-set-other, before-last}
 
@@ -46,7 +46,7 @@ some-list a b e = cc
 some-request : (a b : Request) → Some a ≡ Some b → a ≡ b
 some-request a b e = cc
 
-rest-same : (s : State) (t : ℕ) (q : Request) (buffer : List ℕ) → IsRest s t q buffer buffer
+rest-same : (s : State) (t : ℕ) (q : Request) (buffer : List ℕ) → IsBufferRest s t q buffer buffer
 rest-same s t q buffer = record { long = refl; same = λ x from until none. refl }
 
 -- where one entry is added and the buffers stay
@@ -73,7 +73,7 @@ outside S b n from until x buffer piece counted fits after out =
     ]
 
 got-rest : (old : State) (new : State) (t b n : ℕ) (q p : Request) (buffer : List ℕ) → new.setup ≡ old.setup → new.entries ≡ Done t (Get b n) ∷ old.entries → (gets : Gets old.setup old.entries t b n old.buffers new.buffers q)
-    → request (Done t (Get b n) ∷ old.entries) t ≡ Some p → slice_get old.buffers t ≡ Some buffer → (buffer' : List ℕ) × (slice_get new.buffers t ≡ Some buffer') × IsRest new t p buffer buffer'
+    → request (Done t (Get b n) ∷ old.entries) t ≡ Some p → slice_get old.buffers t ≡ Some buffer → (buffer' : List ℕ) × (slice_get new.buffers t ≡ Some buffer') × IsBufferRest new t p buffer buffer'
 got-rest old new t b n q p buffer setup entries gets named there =
     let place : ℕ = max (from_of old.setup q) (b * old.setup.geometry.size) - from_of old.setup q in
     let one : gets.buffer ≡ buffer = some-list gets.buffer buffer (sym gets.there ∙ there) in

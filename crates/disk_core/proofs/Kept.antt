@@ -105,7 +105,7 @@ kept-before S H e records r count others each new t x is =
     ]
 
 -- what a call that adds a record leaves of the disk
-pub record Keeps (S : Setup) (c c' : Core) (e : Entry) (r : Record) : Type 0 where
+pub record AddsRecord (S : Setup) (c c' : Core) (e : Entry) (r : Record) : Type 0 where
   pub entries : c'.history.entries ≡ e ∷ c.history.entries
   pub few : length c'.history.entries + c'.history.spare < 2 ^ 63
   pub records : c'.records.items ≡ c.records.items ++ (r ∷ [])
@@ -157,7 +157,7 @@ may-accept S H tag view media_id asked buffer plain is lies = record {
 -- the disk is sound with one more token
 pub keeps-sound : (S : Setup) (d : Device) (prepared prepared' : ℕ → Type 0) (c c' : Core) (tag : ℕ) (view : View) (media_id : ℕ) (asked : Asked) (buffer : List ℕ) (r : Record)
     → IsSetup S → IsSound S d prepared c → StayPrepared prepared prepared' → IsMoving asked buffer → IsNew S asked view buffer r → IsWithin (blocks_of S 1 * size_of S) view media_id asked.at asked.length
-    → Keeps S c c' (Accept tag view asked (payload_of asked.kind buffer)) r → (r.kind ≡ Write → AreReadyFor prepared' r.units.items)
+    → AddsRecord S c c' (Accept tag view asked (payload_of asked.kind buffer)) r → (r.kind ≡ Write → AreReadyFor prepared' r.units.items)
     → IsSound S d prepared' c'
 keeps-sound S d prepared prepared' c c' tag view media_id asked buffer r setup sound stay is new lies keeps ready =
     let H = c.history.entries in

@@ -50,7 +50,7 @@ pub record Becomes (r r' : Record) : Type 0 where
   pub unended : r'.status ≡ None → r.status ≡ None
 
 -- what an entry of token t leaves, where so many entries more are owed no longer
-pub record Leaves (S : Setup) (d d' : Device) (c c' : Core) (e : Entry) (t : ℕ) (r r' : Record) (q : Request) : Type 0 where
+pub record LeavesDisk (S : Setup) (d d' : Device) (c c' : Core) (e : Entry) (t : ℕ) (r r' : Record) (q : Request) : Type 0 where
   pub was : slice_get c.records.items t ≡ Some r
   pub entries : c'.history.entries ≡ e ∷ c.history.entries
   pub spare : c'.history.spare + 1 ≡ c.history.spare
@@ -117,7 +117,7 @@ prior-after records first t r r' was becomes prior u x lt is unended =
     some-is a b e = cc
 
 -- the disk is sound after the entry
-pub sound-after : (S : Setup) (d d' : Device) (prepared prepared' : ℕ → Type 0) (c c' : Core) (e : Entry) (t : ℕ) (r r' : Record) (q : Request) → IsSound S d prepared c → StayPrepared prepared prepared' → Leaves S d d' c c' e t r r' q → IsSound S d' prepared' c'
+pub sound-after : (S : Setup) (d d' : Device) (prepared prepared' : ℕ → Type 0) (c c' : Core) (e : Entry) (t : ℕ) (r r' : Record) (q : Request) → IsSound S d prepared c → StayPrepared prepared prepared' → LeavesDisk S d d' c c' e t r r' q → IsSound S d' prepared' c'
 sound-after S d d' prepared prepared' c c' e t r r' q sound stay leaves =
     let H = c.history.entries in
     let long : length (e ∷ H) ≡ suc (length H) = refl in

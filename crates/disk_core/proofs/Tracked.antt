@@ -28,7 +28,7 @@ use Rattle.history_laws.proofs.EndLemmas.{mark-done, mark-fault}
 use Rattle.history_laws.proofs.ScanLemmas.{all_from-true, all_from-false}
 use Rattle.history_laws.proofs.UnitLemmas.{is_within, moved-more, moved-same}
 use Rattle.disk_core.specs.declared.record.Record.{Record}
-use Rattle.disk_core.specs.State.{AreGiven}
+use Rattle.disk_core.specs.State.{HasBytesRead}
 use Rattle.disk_core.specs.Sound.{Tracks, low_or}
 use Rattle.disk_core.specs.Submitting.{has_buffer}
 use Rattle.disk_core.specs.Bookkeeping.{failed_record}
@@ -153,7 +153,7 @@ get-some (x ∷ xs) (suc k) lt = get-some xs k (omega arith)
 -- a unit of the token is finished
 pub tracks-unit : (S : Setup) (H : List Entry) (t : ℕ) (c : Command) (r r' : Record) (q : Request) (u : Span) → Tracks S H t r q → r.status ≡ None → HasUnit S r q u → MovesUnit S q c u → Finishes r r'
     → length r'.buffer.items ≡ length r.buffer.items → (r.kind ≡ Write → r'.buffer.items ≡ r.buffer.items)
-    → (r.kind ≡ Read → AreGiven S (Done t c ∷ H) t q r'.buffer.items)
+    → (r.kind ≡ Read → HasBytesRead S (Done t c ∷ H) t q r'.buffer.items)
     → Tracks S (Done t c ∷ H) t r' q
 tracks-unit S H t c r r' q u tracks open_ has same made long written read =
     let within : r.finished < length r.units.items = tracks.unfinished open_ in

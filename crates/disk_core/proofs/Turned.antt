@@ -25,7 +25,7 @@ use Rattle.disk_core.proofs.Places.{some-inside, map-set, set-itself, get-map}
 use Rattle.disk_core.proofs.May.{IsNext, next-unstored}
 use Rattle.disk_core.proofs.Gates.{NoneHeld}
 use Rattle.disk_core.proofs.NextTurn.{next-unit-is}
-use Rattle.disk_core.proofs.Stepped.{Leaves, sound-after}
+use Rattle.disk_core.proofs.Stepped.{LeavesDisk, sound-after}
 
 none-marked : (S : Setup) (d : Device) (prepared : ℕ → Type 0) (c : Core) → IsSound S d prepared c → (u : ℕ) → u < c.first → mark_of S c.history.entries u ≢ None
 none-marked S d prepared c sound u below unmarked =
@@ -111,7 +111,7 @@ buffers-same records records' t r r' was is same =
 
 -- a step with this command and outcome
 pub moves-by : (S : Setup) (d d' : Device) (prepared : ℕ → Type 0) (c c' : Core) (e : Entry) (r r' : Record) (q : Request) (turn : Turn) (outcome : Outcome)
-    → IsSound S d prepared c → Leaves S d d' c c' e c.first r r' q → next_turn S c.history.entries ≡ Some turn → e ≡ entry_of turn outcome
+    → IsSound S d prepared c → LeavesDisk S d d' c c' e c.first r r' q → next_turn S c.history.entries ≡ Some turn → e ≡ entry_of turn outcome
     → Fills S c.history.entries turn.token turn.command outcome (buffers_of c.records.items) (buffers_of c'.records.items) → d.faults ≤ d'.faults → ((done : ℕ) → outcome ≡ Failed done → Rose d.faults d'.faults)
     → MakesNext S c.history.entries c'.history.entries (buffers_of c.records.items) (buffers_of c'.records.items) d.faults d'.faults turn outcome
 moves-by S d d' prepared c c' e r r' q turn outcome sound leaves next is fills later cause =
@@ -125,7 +125,7 @@ moves-by S d d' prepared c c' e r r' q turn outcome sound leaves next is fills l
     }
 
 pub did : (S : Setup) (d d' : Device) (prepared prepared' : ℕ → Type 0) (c c' : Core) (e : Entry) (r r' : Record) (q : Request) (turn : Turn) (outcome : Outcome)
-    → IsSound S d prepared c → StayPrepared prepared prepared' → Leaves S d d' c c' e c.first r r' q → next_turn S c.history.entries ≡ Some turn → e ≡ entry_of turn outcome
+    → IsSound S d prepared c → StayPrepared prepared prepared' → LeavesDisk S d d' c c' e c.first r r' q → next_turn S c.history.entries ≡ Some turn → e ≡ entry_of turn outcome
     → Fills S c.history.entries turn.token turn.command outcome (buffers_of c.records.items) (buffers_of c'.records.items) → d.faults ≤ d'.faults → ((done : ℕ) → outcome ≡ Failed done → Rose d.faults d'.faults)
     → is_fetched turn.command outcome ≡ false → Stepped S d d' prepared' c c' step.Did
 did S d d' prepared prepared' c c' e r r' q turn outcome sound stay leaves next is fills later cause answer = record {

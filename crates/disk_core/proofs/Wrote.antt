@@ -33,7 +33,7 @@ use Rattle.disk_core.proofs.Gates.{NoneHeld, none-held, gate-fetch, none-after, 
 use Rattle.disk_core.proofs.May.{IsNext, may-fetch, may-store, may-put, moves-put, moves-store, next-unstored}
 use Rattle.disk_core.proofs.Places.{set-itself}
 use Rattle.disk_core.proofs.Setups.{size-of}
-use Rattle.disk_core.proofs.Stepped.{Leaves, done-own, sound-after}
+use Rattle.disk_core.proofs.Stepped.{LeavesDisk, done-own, sound-after}
 use Rattle.disk_core.proofs.Tracked.{MovesUnit, tracks-fetch}
 use Rattle.disk_core.proofs.Turned.{moves-by, turn-fetch, turn-store, turn-put, unfetched}
 
@@ -175,7 +175,7 @@ fetch-done S d d' prepared prepared' c c' r u block block' shaped sound stay nex
         let after : Tracks S (Done c.first (Fetch u.block) ∷ H) c.first r q = tracks-fetch S H c.first u.block r q u is.tracks is.unended is.has in
         let same : contents S 1 (Done c.first (Fetch u.block) ∷ H) ≡ contents S 1 H = contents-same S 1 H (Done c.first (Fetch u.block)) (piece-unchanged S H c.first (Fetch u.block) refl) in
         let told : AreToldAt (contents S 1 (Done c.first (Fetch u.block) ∷ H)) (u.block * S.geometry.size) block' = rw (same, sym sound.meets.now, sym (size-of S d sound.meets.setup)) read.given in
-        let leaves : Leaves S d d' c c' (Done c.first (Fetch u.block)) c.first r r q = record {
+        let leaves : LeavesDisk S d d' c c' (Done c.first (Fetch u.block)) c.first r r q = record {
           was = next.is;
           entries = ends.entries;
           spare = ends.spare;

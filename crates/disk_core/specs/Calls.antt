@@ -31,7 +31,7 @@ use Rattle.disk_core.specs.declared.answers.Step.TheVariants as step
 use Rattle.disk_core.specs.declared.answers.Done.{Done}
 use Rattle.disk_core.specs.declared.answers.NotThere.{NotThere}
 use Rattle.disk_core.specs.declared.answers.NotThere.TheVariants as not_there
-use Rattle.disk_core.specs.State.{State, AreGiven}
+use Rattle.disk_core.specs.State.{State, HasBytesRead}
 
 -- the buffer that a caller hands in
 abbrev pub buffer_of : Ask → List ℕ
@@ -49,13 +49,13 @@ bytes_of (ask.Read at buffer) = []
 bytes_of (ask.Write at buffer) = buffer.items
 
 -- the disk has one more entry, may have it, and is the same disk
-pub record Adds (old new : State) (e : Entry) : Type 0 where
+pub record AddsEntry (old new : State) (e : Entry) : Type 0 where
   pub setup : new.setup ≡ old.setup
   pub entries : new.entries ≡ e ∷ old.entries
   pub legal : IsLegal new.setup new.entries
 
 pub record Accepts (old : State) (tag : ℕ) (view : View) (media_id : ℕ) (asked : Asked) (bytes buffer : List ℕ) (token : ℕ) (new : State) : Type 0 where
-  pub adds : Adds old new (Accept tag view asked bytes)
+  pub adds : AddsEntry old new (Accept tag view asked bytes)
   pub unrefused : refusal_of old.setup old.entries view asked media_id ≡ None
   pub numbered : token ≡ accepted old.entries
   pub buffers : new.buffers ≡ old.buffers ++ (buffer ∷ [])
@@ -63,7 +63,7 @@ pub record Accepts (old : State) (tag : ℕ) (view : View) (media_id : ℕ) (ask
   pub faults : new.faults ≡ old.faults
 
 pub record Refuses (old : State) (tag : ℕ) (view : View) (media_id : ℕ) (asked : Asked) (status : Status) (buffer handed : List ℕ) (new : State) : Type 0 where
-  pub adds : Adds old new (Refuse tag view asked media_id status)
+  pub adds : AddsEntry old new (Refuse tag view asked media_id status)
   pub refused : refusal_of old.setup old.entries view asked media_id ≡ Some status
   pub handed_back : handed ≡ buffer
   pub buffers : new.buffers ≡ old.buffers
@@ -127,7 +127,7 @@ is_fetched (Wipe b n) outcome = false
 is_fetched Sync outcome = false
 
 -- a step with a command, which was a done fetch or not
-pub record Steps (S : Setup) (H H' : List Entry) (buffers buffers' : List (List ℕ)) (faults faults' : ℕ) (fetched : Bool) : Type 0 where
+pub record MakesStep (S : Setup) (H H' : List Entry) (buffers buffers' : List (List ℕ)) (faults faults' : ℕ) (fetched : Bool) : Type 0 where
   pub turn : Turn
   pub outcome : Outcome
   pub moves : MakesNext S H H' buffers buffers' faults faults' turn outcome
@@ -135,19 +135,19 @@ pub record Steps (S : Setup) (H H' : List Entry) (buffers buffers' : List (List 
 
 -- a step makes the command that comes next, and none exactly where no token is outstanding
 abbrev pub StepsTo : Setup → List Entry → List Entry → List (List ℕ) → List (List ℕ) → ℕ → ℕ → Step → Type 0
-StepsTo S H H' buffers buffers' faults faults' step.Did = Steps S H H' buffers buffers' faults faults' false
-StepsTo S H H' buffers buffers' faults faults' step.Fetched = Steps S H H' buffers buffers' faults faults' true
+StepsTo S H H' buffers buffers' faults faults' step.Did = MakesStep S H H' buffers buffers' faults faults' false
+StepsTo S H H' buffers buffers' faults faults' step.Fetched = MakesStep S H H' buffers buffers' faults faults' true
 StepsTo S H H' buffers buffers' faults faults' step.Drained = (first_open S H ≡ None) × (H' ≡ H) × (buffers' ≡ buffers) × (faults' ≡ faults)
 
 -- the ended token is handed back: a write's bytes as they came, a read's with the bytes that it got
 pub record Collects (old : State) (tag number : ℕ) (status : Status) (buffer : List ℕ) (new : State) (q : Request) : Type 0 where
-  pub adds : Adds old new (Collect tag number)
+  pub adds : AddsEntry old new (Collect tag number)
   pub named : request old.entries number ≡ Some q
   pub marked : mark_of old.setup old.entries number ≡ Some status
   pub uncollected : was_collected old.entries number ≡ false
   pub handed_back : slice_get old.buffers number ≡ Some buffer
   pub written : q.asked.kind ≡ Write → buffer ≡ q.bytes
-  pub read : q.asked.kind ≡ Read → AreGiven old.setup old.entries number q buffer
+  pub read : q.asked.kind ≡ Read → HasBytesRead old.setup old.entries number q buffer
   pub long : length buffer ≡ q.asked.length
   pub buffers : new.buffers ≡ set old.buffers number []
   pub faults : new.faults ≡ old.faults

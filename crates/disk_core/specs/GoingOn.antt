@@ -16,7 +16,7 @@ use Rattle.disk_core.specs.declared.answers.NotThere.{NotThere}
 use Rattle.disk_core.specs.Calls.{Accepts, Submits, StepsTo, Collects, CollectsOr}
 
 -- what became of a token's buffer: it is as long, and each byte that no done command of the token moved is as it was
-pub record IsRest (s : State) (t : ℕ) (q : Request) (buffer buffer' : List ℕ) : Type 0 where
+pub record IsBufferRest (s : State) (t : ℕ) (q : Request) (buffer buffer' : List ℕ) : Type 0 where
   pub long : length buffer' ≡ length buffer
   pub same : (x : ℕ) → from_of s.setup q ≤ x → x < until_of s.setup q → is_moved s.setup s.entries t x ≡ false
       → slice_get buffer' (x - from_of s.setup q) ≡ slice_get buffer (x - from_of s.setup q)
@@ -27,7 +27,7 @@ pub record GoesOn (old new : State) : Type 0 where
   pub more : List Entry
   pub entries : new.entries ≡ more ++ old.entries
   pub kept : (t : ℕ) (q : Request) (buffer : List ℕ) → t < accepted old.entries → request new.entries t ≡ Some q → was_collected new.entries t ≡ false → slice_get old.buffers t ≡ Some buffer
-      → (buffer' : List ℕ) × (slice_get new.buffers t ≡ Some buffer') × IsRest new t q buffer buffer'
+      → (buffer' : List ℕ) × (slice_get new.buffers t ≡ Some buffer') × IsBufferRest new t q buffer buffer'
 
 -- each call lets the disk go on
 abbrev pub SubmitGoesOn : Type 0
@@ -47,4 +47,4 @@ GoesOnTwice = (a b c : State) → GoesOn a b → GoesOn b c → GoesOn a c
 abbrev pub RestComesBack : Type 0
 RestComesBack =
     (a b c d : State) (tag tag' : ℕ) (view : View) (media_id : ℕ) (asked : Asked) (bytes buffer buffer' : List ℕ) (token : ℕ) (status : Status) (q : Request)
-    → Accepts a tag view media_id asked bytes buffer token b → GoesOn b c → Collects c tag' token status buffer' d q → IsRest c token q buffer buffer'
+    → Accepts a tag view media_id asked bytes buffer token b → GoesOn b c → Collects c tag' token status buffer' d q → IsBufferRest c token q buffer buffer'

@@ -15,7 +15,7 @@ use Rattle.history.specs.Rules.{IsLegal}
 use Rattle.history.specs.Room.{owed_entries}
 use Rattle.disk_core.specs.declared.record.Record.{Record}
 use Rattle.disk_core.specs.declared.record.Core.{Core}
-use Rattle.disk_core.specs.State.{Meets, AreGiven}
+use Rattle.disk_core.specs.State.{Meets, HasBytesRead}
 use Rattle.disk_core.specs.Submitting.{has_buffer}
 
 -- the first byte of the first unit that is not finished, and the end of the range where all are
@@ -39,7 +39,7 @@ pub record Tracks (S : Setup) (H : List Entry) (t : ℕ) (r : Record) (q : Reque
   pub uncollected : r.status ≡ None → r.collected ≡ false
   pub long : r.collected ≡ false → length r.buffer.items ≡ q.asked.length
   pub bytes : r.collected ≡ false → r.kind ≡ Write → r.buffer.items ≡ q.bytes
-  pub given : r.collected ≡ false → r.kind ≡ Read → AreGiven S H t q r.buffer.items
+  pub given : r.collected ≡ false → r.kind ≡ Read → HasBytesRead S H t q r.buffer.items
   pub emptied : r.collected ≡ true → r.buffer.items ≡ []
 
 -- the only block that is held is the kept copy's, and the copy is the block

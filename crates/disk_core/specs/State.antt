@@ -25,8 +25,8 @@ setup_of d = record {
 }
 
 -- a read's buffer has each byte that the read got
-abbrev pub AreGiven : Setup → List Entry → ℕ → Request → List ℕ → Type 0
-AreGiven S H t q buffer =
+abbrev pub HasBytesRead : Setup → List Entry → ℕ → Request → List ℕ → Type 0
+HasBytesRead S H t q buffer =
     (x v : ℕ) → from_of S q ≤ x → x < until_of S q → bytes_read S H t x ≡ Some v → slice_get buffer (x - from_of S q) ≡ Some v
 
 -- the medium follows the history

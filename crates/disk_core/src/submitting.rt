@@ -157,7 +157,7 @@ fn first_status(length: usize) -> Option<Status>
     }
 }
 
-// Adds the new request's record and entry, in room that was taken beforehand.
+// AddsEntry the new request's record and entry, in room that was taken beforehand.
 fn keep(core: &mut Core, tag: u32, view: &View, asked: Asked, room: Room, buffer: Vec<u8>) -> Token
     requires from { view.now.start + asked.at < 2 ^ 64 }
     requires spare { 0 < core.old.history.spare }

@@ -41,8 +41,8 @@ abbrev pub whole_length : ℕ → ℕ → ℕ
 whole_length size n = n / size * size
 
 -- the whole blocks of an image
-abbrev pub whole_blocks : ℕ → List ℕ → List ℕ
-whole_blocks size bytes = take (whole_length size (length bytes)) bytes
+abbrev pub whole_block_bytes : ℕ → List ℕ → List ℕ
+whole_block_bytes size bytes = take (whole_length size (length bytes)) bytes
 
 -- the rest of less than a block
 abbrev pub tail_of : ℕ → List ℕ → List ℕ
@@ -54,12 +54,12 @@ pub record IsCut (block : ℕ) (bytes : List ℕ) (medium : Device) (rest : List
   pub size : medium.size ≡ block
   pub cached : medium.cached ≡ false
   pub blocks : medium.blocks ≡ length bytes / block
-  pub first : medium.first ≡ Some (whole_blocks block bytes)
+  pub first : medium.first ≡ Some (whole_block_bytes block bytes)
   pub tail : rest ≡ tail_of block bytes
 
 -- the medium has the image's whole blocks, and the name keeps its tail; an image that is missing or taken gives none
 unfoldable pub GivesBlocks : Place → Place → ℕ → Device → Type 0
-GivesBlocks (Here bytes) new size medium = (size ≤ length bytes) × (new ≡ Taken (Some (tail_of size bytes))) × (medium.first ≡ Some (whole_blocks size bytes)) × (medium.blocks ≡ length bytes / size)
+GivesBlocks (Here bytes) new size medium = (size ≤ length bytes) × (new ≡ Taken (Some (tail_of size bytes))) × (medium.first ≡ Some (whole_block_bytes size bytes)) × (medium.blocks ≡ length bytes / size)
 GivesBlocks Untold new size medium = new ≡ Taken None
 GivesBlocks Missing new size medium = ⊥
 GivesBlocks (Taken tail) new size medium = ⊥

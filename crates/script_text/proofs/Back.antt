@@ -13,7 +13,7 @@ use Rattle.hex.proofs.HexLemmas.{decode_of-encode_lower, length-encode_with}
 use Rattle.history.specs.declared.entry.View.{View}
 use Rattle.script_text.specs.Words.{number_of, hex_of}
 use Rattle.script_text.specs.Text.{hex_text, view_text}
-use Rattle.script_text.specs.Law.{IsShort, IsShortView}
+use Rattle.script_text.specs.Law.{IsWord64, IsShortView}
 use Rattle.script_text.proofs.Numbers.{own}
 use Rattle.script_text.proofs.FitLemmas.{both_true}
 
@@ -39,10 +39,10 @@ last_word p (x ∷ w) none =
     slice_split-cons_no p x w (was_false (p x) one) ∙ ap (onto_first x) (last_word p w more)
 
 -- digits
-pub decimal_digits : (n : ℕ) → IsShort n → list_all is_ascii_digit (decimal n) ≡ true
+pub decimal_digits : (n : ℕ) → IsWord64 n → list_all is_ascii_digit (decimal n) ≡ true
 decimal_digits n short = IsNumeralModel.from own (decimal n) (decimal_is_IsNumeral n short).0.1
 
-pub number_back : (n : ℕ) → IsShort n → number_of (decimal n) ≡ Some n
+pub number_back : (n : ℕ) → IsWord64 n → number_of (decimal n) ≡ Some n
 unfolding number_of
 number_back n short =
     let numeral = decimal_is_IsNumeral n short in
@@ -64,7 +64,7 @@ is_end c = c == 32 || c == 10
 end_no_digit : (c : ℕ) → is_ascii_digit c ≡ true → not (is_end c) ≡ true
 end_no_digit c digit = grind (arith, nat_tests)
 
-pub decimal_lacks : (n : ℕ) → IsShort n → lacks is_end (decimal n) ≡ true
+pub decimal_lacks : (n : ℕ) → IsWord64 n → lacks is_end (decimal n) ≡ true
 decimal_lacks n short = digits_lack is_end end_no_digit (decimal n) (decimal_digits n short)
 
 -- what ends a number of a view
@@ -74,7 +74,7 @@ is_mark c = not (is_ascii_digit c)
 mark_no_digit : (c : ℕ) → is_ascii_digit c ≡ true → not (is_mark c) ≡ true
 mark_no_digit c digit = rw digit refl
 
-number_lacks : (n : ℕ) → IsShort n → lacks is_mark (decimal n) ≡ true
+number_lacks : (n : ℕ) → IsWord64 n → lacks is_mark (decimal n) ≡ true
 number_lacks n short = digits_lack is_mark mark_no_digit (decimal n) (decimal_digits n short)
 
 -- a number that a word writes, handed on

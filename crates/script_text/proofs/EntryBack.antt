@@ -17,7 +17,7 @@ use Rattle.history.specs.declared.entry.Entry.TheVariants.{Accept, Refuse, Done,
 use Rattle.script_text.specs.Words.{number_of, hex_of}
 use Rattle.script_text.specs.Text.{line_of, hex_text, view_text, asked_text, kind_text, unit_text}
 use Rattle.script_text.specs.Entries.{line_text, entry_words, accepted_words, done_words, failed_words, switch_text}
-use Rattle.script_text.specs.Law.{IsShort, IsShortAsked, AsksWell, IsWell, LinesTellEntries}
+use Rattle.script_text.specs.Law.{IsWord64, IsShortAsked, AsksWell, IsWell, LinesTellEntries}
 use Rattle.script_text.proofs.Back.{lacks, is_end, cut_word, number_back, decimal_lacks, with_number, view_of, view_back, view_lacks, hex_back, hex_lacks}
 
 -- the words of what was asked
@@ -114,7 +114,7 @@ accepted_are_words Write asked bytes s = asked_are_words asked (hex_text bytes �
 accepted_are_words Erase asked bytes s = asked_are_words asked [] s tt
 accepted_are_words Flush asked bytes s = (refl, tt)
 
-are_words : (per : ℕ) → IsShort per → (e : Entry) → IsWell e → AreWords (spread per e)
+are_words : (per : ℕ) → IsWord64 per → (e : Entry) → IsWell e → AreWords (spread per e)
 unfolding spread
 are_words per few (Accept tag view asked bytes) well = (refl, (decimal_lacks tag well.0, (view_lacks view well.1, accepted_are_words asked.kind asked bytes well.2)))
 are_words per few (Refuse tag view asked media_id status) well = (refl, (decimal_lacks tag well.0, (view_lacks view well.1, asked_are_words asked (decimal media_id ∷ name_of status ∷ []) well.2 (decimal_lacks media_id well.3, (name_lacks status, tt)))))
@@ -150,7 +150,7 @@ all_but_last (x ∷ []) = refl
 all_but_last (x ∷ y ∷ more) = ap (λ l. x ∷ l) (all_but_last (y ∷ more))
 
 -- the text tells the words
-words_told : (per place : ℕ) (e : Entry) → IsShort per → IsShort place → IsWell e → without_last (slice_split is_end (line_text per place e)) ≡ decimal place ∷ spread per e
+words_told : (per place : ℕ) (e : Entry) → IsWord64 per → IsWord64 place → IsWell e → without_last (slice_split is_end (line_text per place e)) ≡ decimal place ∷ spread per e
 words_told per place e few short well =
     ap (λ t. without_last (slice_split is_end t)) (line_is per place e)
     ∙ ap without_last (line_cut (decimal place) (spread per e) (decimal_lacks place short, are_words per few e well))
@@ -291,7 +291,7 @@ unfolding number_of
 zero_back = refl
 
 -- an entry is read back from its words
-entry_back : (per place : ℕ) → IsShort per → (e : Entry) → IsWell e → entry_of (decimal place ∷ spread per e) ≡ Some e
+entry_back : (per place : ℕ) → IsWord64 per → (e : Entry) → IsWell e → entry_of (decimal place ∷ spread per e) ≡ Some e
 unfolding entry_of spread accept_of refused_of failed_of collect_of cancel_of insert_of protect_of one_of done_of
 entry_back per place few (Accept tag view asked bytes) well = rw (number_back tag well.0, view_back view well.1) (accepted_back asked.kind tag view asked bytes refl well.2 well.3)
 entry_back per place few (Refuse tag view asked media_id status) well =

@@ -13,7 +13,7 @@ use Rattle.script_text.specs.declared.grammar.refusal.Reason.{Reason}
 use Rattle.script_text.specs.declared.grammar.refusal.Reason.TheVariants.{Form, Number, Hex, Size}
 use Rattle.script_text.specs.declared.grammar.refusal.Reason.TheVariants as why
 use Rattle.script_text.specs.Words.{lines_of, words_of, is_comment, is_line_byte, is_fixed, number_of, hex_of}
-use Rattle.script_text.specs.Plans.{on_last, last_is, disk_plan, with_disk, add_client, with_client, add_order, add_last_order, with_order, request_bytes, is_single}
+use Rattle.script_text.specs.Plans.{on_last, last_is, disk_plan, with_disk, add_client, with_client, add_order, add_last_order, with_order, asked_bytes, is_single}
 use Rattle.script_text.specs.Script.{◌>>=◌, planned_disk, planned_client, planned_order, write_order, read_order, disk_line, client_line, write_line, read_line, wait_line, kind_of_line, line_of_words, line_says, at_line, lines_say, whole_script, script_of}
 use Rattle.script_text.specs.Fit.{is_name_byte, IsOrder, AreOrders, AreClients, IsDisk, AreDisks, IsSingle}
 
@@ -137,14 +137,14 @@ client_fits plans next all is =
     let same : with_client plans ≡ next = ok_same _ _ added in
     rw (← same) (disks_on_last (add_client (record { orders = [] })) (λ disk one. record { name = one.name; size = one.size; clients = clients_pushed disk.clients one.clients }) plans all)
 
-order_fits : (plans next : List DiskPlan) (order : Order) → AreDisks plans → (request_bytes order ≤ REQUEST_BYTES → IsOrder order) → planned_order plans order ≡ Ok next → AreDisks next
+order_fits : (plans next : List DiskPlan) (order : Order) → AreDisks plans → (asked_bytes order ≤ REQUEST_BYTES → IsOrder order) → planned_order plans order ≡ Ok next → AreDisks next
 unfolding planned_order
 order_fits plans next order all one is =
     let (some, rest) = else_ok _ _ _ next is in
     let (room, added) = then_ok _ _ _ next rest in
     let few = (both_true _ _ room).0 in
     let same : with_order order plans ≡ next = ok_same _ _ added in
-    let most : request_bytes order ≤ REQUEST_BYTES = most_of (request_bytes order) few in
+    let most : asked_bytes order ≤ REQUEST_BYTES = most_of (asked_bytes order) few in
     rw (← same) (disks_on_last (add_last_order order) (λ disk d. record { name = d.name; size = d.size; clients = clients_on_last order (one most) disk.clients d.clients }) plans all)
 
 -- numbers have 64 bits

@@ -5,7 +5,7 @@ use Rattle.std.proofs.lemmas.List.Sums.{sum_by-cons, sum_by_push}
 use Rattle.std.proofs.lemmas.Option.{get_or_from_slice_get, slice_get-get_or}
 use Rattle.history.specs.declared.order.Order.{Order}
 use Rattle.script_text.specs.declared.grammar.plans.DiskPlan.{DiskPlan}
-use Rattle.script_text.specs.Plans.{on_last, last_is, has_some, disk_plan, with_disk, add_client, with_client, add_order, add_last_order, with_order, has_client, request_bytes, client_bytes, disk_bytes, requested}
+use Rattle.script_text.specs.Plans.{on_last, last_is, has_some, disk_plan, with_disk, add_client, with_client, add_order, add_last_order, with_order, has_client, asked_bytes, client_bytes, disk_bytes, requested}
 
 set_at_end : {X : Type 0} (f : X → X) (y : X) (more : List X) (x : X) → x ≡ get_or (y ∷ more) (length more) x → set (y ∷ more) (length more) (f x) ≡ on_last f (y ∷ more)
 unfolding on_last
@@ -66,11 +66,11 @@ some_last (x ∷ []) has = refl
 some_last (x ∷ y ∷ more) has = some_last (y ∷ more) refl
 
 -- a further line asks for its bytes
-pub requested_order : (order : Order) (plans : List DiskPlan) → has_client plans ≡ true → requested (with_order order plans) ≡ requested plans + request_bytes order
+pub requested_order : (order : Order) (plans : List DiskPlan) → has_client plans ≡ true → requested (with_order order plans) ≡ requested plans + asked_bytes order
 unfolding requested
 requested_order order plans has =
-    sum_on_last disk_bytes (add_last_order order) (λ disk. has_some disk.clients) (request_bytes order)
-    (λ disk some. sum_on_last client_bytes (add_order order) (λ client. true) (request_bytes order) (λ client _. sum_by_push request_bytes client.orders order) disk.clients (some_last disk.clients some))
+    sum_on_last disk_bytes (add_last_order order) (λ disk. has_some disk.clients) (asked_bytes order)
+    (λ disk some. sum_on_last client_bytes (add_order order) (λ client. true) (asked_bytes order) (λ client _. sum_by_push asked_bytes client.orders order) disk.clients (some_last disk.clients some))
     plans has
 
 -- a further client asks for none

@@ -13,18 +13,18 @@ use Rattle.history.specs.declared.entry.Entry.TheVariants.{Accept, Refuse, Done,
 use Rattle.script_text.specs.Entries.{line_text}
 
 -- a number of 64 bits
-abbrev pub IsShort : ℕ → Type 0
-IsShort n = n < 2 ^ 64
+abbrev pub IsWord64 : ℕ → Type 0
+IsWord64 n = n < 2 ^ 64
 
 pub record IsShortView (v : View) : Type 0 where
-  pub start : IsShort v.start
-  pub length : IsShort v.length
-  pub media_id : IsShort v.media_id
-  pub index : IsShort v.index
+  pub start : IsWord64 v.start
+  pub length : IsWord64 v.length
+  pub media_id : IsWord64 v.media_id
+  pub index : IsWord64 v.index
 
 pub record IsShortAsked (a : Asked) : Type 0 where
-  pub at : IsShort a.at
-  pub length : IsShort a.length
+  pub at : IsWord64 a.at
+  pub length : IsWord64 a.length
 
 -- only a write brings bytes, and a flush has the unit bytes and zeros
 abbrev pub AsksWell : Kind → Asked → List ℕ → Type 0
@@ -34,26 +34,26 @@ AsksWell Erase asked bytes = bytes ≡ []
 AsksWell Flush asked bytes = (asked.unit ≡ unit.Bytes) × (asked.at ≡ 0) × (asked.length ≡ 0) × (bytes ≡ [])
 
 abbrev pub IsShortCommand : Command → Type 0
-IsShortCommand (Fetch block) = IsShort block
-IsShortCommand (Store block) = IsShort block
-IsShortCommand (Put block count) = IsShort block × IsShort count
-IsShortCommand (Get block count) = IsShort block × IsShort count
-IsShortCommand (Wipe block count) = IsShort block × IsShort count
+IsShortCommand (Fetch block) = IsWord64 block
+IsShortCommand (Store block) = IsWord64 block
+IsShortCommand (Put block count) = IsWord64 block × IsWord64 count
+IsShortCommand (Get block count) = IsWord64 block × IsWord64 count
+IsShortCommand (Wipe block count) = IsWord64 block × IsWord64 count
 IsShortCommand Sync = Unit {0}
 
 -- an entry as it can be: its numbers have 64 bits, and what it accepted was asked well
 abbrev pub IsWell : Entry → Type 0
-IsWell (Accept tag view asked bytes) = IsShort tag × IsShortView view × IsShortAsked asked × AsksWell asked.kind asked bytes
-IsWell (Refuse tag view asked media_id status) = IsShort tag × IsShortView view × IsShortAsked asked × IsShort media_id
-IsWell (Done token command) = IsShort token × IsShortCommand command
-IsWell (Fault token command done) = IsShort token × IsShortCommand command × IsShort done
-IsWell (Collect tag token) = IsShort tag × IsShort token
-IsWell (Cancel tag view) = IsShort tag × IsShortView view
-IsWell (Reset tag) = IsShort tag
-IsWell (Eject tag) = IsShort tag
-IsWell (Insert tag media_id) = IsShort tag × IsShort media_id
-IsWell (Protect tag on) = IsShort tag
+IsWell (Accept tag view asked bytes) = IsWord64 tag × IsShortView view × IsShortAsked asked × AsksWell asked.kind asked bytes
+IsWell (Refuse tag view asked media_id status) = IsWord64 tag × IsShortView view × IsShortAsked asked × IsWord64 media_id
+IsWell (Done token command) = IsWord64 token × IsShortCommand command
+IsWell (Fault token command done) = IsWord64 token × IsShortCommand command × IsWord64 done
+IsWell (Collect tag token) = IsWord64 tag × IsWord64 token
+IsWell (Cancel tag view) = IsWord64 tag × IsShortView view
+IsWell (Reset tag) = IsWord64 tag
+IsWell (Eject tag) = IsWord64 tag
+IsWell (Insert tag media_id) = IsWord64 tag × IsWord64 media_id
+IsWell (Protect tag on) = IsWord64 tag
 
 -- two entries of a disk with one line at one place are equal; its groups have so many blocks
 abbrev pub LinesTellEntries : Type 0
-LinesTellEntries = (per place : ℕ) (e f : Entry) → IsShort per → IsShort place → IsWell e → IsWell f → line_text per place e ≡ line_text per place f → e ≡ f
+LinesTellEntries = (per place : ℕ) (e f : Entry) → IsWord64 per → IsWord64 place → IsWell e → IsWell f → line_text per place e ≡ line_text per place f → e ≡ f

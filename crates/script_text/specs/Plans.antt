@@ -55,12 +55,12 @@ abbrev pub has_image : List ℕ → List DiskPlan → Bool
 has_image image plans = list_any (λ disk. bytes_eq disk.image image) plans
 
 -- the bytes that a line asks for
-abbrev pub request_bytes : Order → ℕ
-request_bytes (Request asked payload media_id) = asked.length
-request_bytes Wait = 0
+abbrev pub asked_bytes : Order → ℕ
+asked_bytes (Request asked payload media_id) = asked.length
+asked_bytes Wait = 0
 
 abbrev pub client_bytes : ClientPlan → ℕ
-client_bytes client = sum_by request_bytes client.orders
+client_bytes client = sum_by asked_bytes client.orders
 
 abbrev pub disk_bytes : DiskPlan → ℕ
 disk_bytes disk = sum_by client_bytes disk.clients

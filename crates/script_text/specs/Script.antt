@@ -13,7 +13,7 @@ use Rattle.script_text.specs.declared.grammar.refusal.Reason.TheVariants.{Form, 
 use Rattle.script_text.specs.declared.grammar.refusal.Reason.TheVariants as why
 use Rattle.script_text.specs.declared.grammar.plans.DiskPlan.{DiskPlan}
 use Rattle.script_text.specs.Words.{lines_of, words_of, is_comment, is_line_byte, number_of, hex_of, is_fixed}
-use Rattle.script_text.specs.Plans.{has_some, last_is, disk_plan, with_disk, with_client, with_order, has_client, has_image, requested, request_bytes, is_single}
+use Rattle.script_text.specs.Plans.{has_some, last_is, disk_plan, with_disk, with_client, with_order, has_client, has_image, requested, asked_bytes, is_single}
 
 -- the next step, where the one before has an answer
 infixl 10 ◌>>=◌
@@ -41,7 +41,7 @@ planned_client plans =
 unfoldable pub planned_order : List DiskPlan → Order → Result (List DiskPlan) Reason
 planned_order plans order =
     if not (has_client plans) then Err why.Order
-    else if nat_le (request_bytes order) REQUEST_BYTES && nat_le (requested plans + request_bytes order) ALL_REQUEST_BYTES
+    else if nat_le (asked_bytes order) REQUEST_BYTES && nat_le (requested plans + asked_bytes order) ALL_REQUEST_BYTES
     then Ok (with_order order plans)
     else Err Limit
 

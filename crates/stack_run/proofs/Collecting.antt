@@ -6,7 +6,7 @@ use Rattle.history.specs.Setup.{Setup}
 use Rattle.history.specs.Tokens.{Request, accepted, request, was_collected}
 use Rattle.history.specs.Next.{first_open, Outcome}
 use Rattle.history_laws.proofs.PlainLemmas.{first-open-collect}
-use Rattle.stack_run.specs.Plain.{outcomes_onto, collect_one, with_collect, collects, own_collected, all_collected}
+use Rattle.stack_run.specs.Plain.{outcomes_onto, collect_one, with_collect, collects, after_own_collects, after_all_collects}
 
 -- what holds of a history, and of it with one more collect, holds after all collects
 pub collects-keep : (P : List Entry → Type 0) → ((G : List Entry) (tag t : ℕ) → P G → P (Collect tag t ∷ G)) → (test : ℕ → Bool) (H : List Entry) (a n : ℕ) → P H → P (collects test H a n)
@@ -23,8 +23,8 @@ collects-keep P more test H a (suc n) holds = collects-keep P more test (with_co
         tested true = more H r.tag a holds
         tested false = holds
 
-pub collected-drained : (S : Setup) (H : List Entry) → first_open S H ≡ None → first_open S (own_collected H) ≡ None
-unfolding own_collected
+pub collected-drained : (S : Setup) (H : List Entry) → first_open S H ≡ None → first_open S (after_own_collects H) ≡ None
+unfolding after_own_collects
 collected-drained S H none =
     collects-keep (λ G. first_open S G ≡ None) (λ G tag t holds. first-open-collect S G tag t ∙ holds) (nat_eq 1) H 0 (accepted H) none
 
@@ -32,12 +32,12 @@ onto-collects : (test : ℕ → Bool) (H : List Entry) (a n : ℕ) (more : List 
 unfolding outcomes_onto
 onto-collects test H a n more = collects-keep (λ G. outcomes_onto G more ≡ outcomes_onto H more) (λ G tag t holds. holds) test H a n refl
 
-pub onto-own : (H : List Entry) (more : List Outcome) → outcomes_onto (own_collected H) more ≡ outcomes_onto H more
-unfolding own_collected
+pub onto-own : (H : List Entry) (more : List Outcome) → outcomes_onto (after_own_collects H) more ≡ outcomes_onto H more
+unfolding after_own_collects
 onto-own H more = onto-collects (nat_eq 1) H 0 (accepted H) more
 
-pub onto-all : (H : List Entry) (more : List Outcome) → outcomes_onto (all_collected H) more ≡ outcomes_onto H more
-unfolding all_collected
+pub onto-all : (H : List Entry) (more : List Outcome) → outcomes_onto (after_all_collects H) more ≡ outcomes_onto H more
+unfolding after_all_collects
 onto-all H more = onto-collects (λ tag. not (nat_eq tag 0)) H 0 (accepted H) more
 
 -- the last of the collects

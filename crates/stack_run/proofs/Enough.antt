@@ -12,7 +12,7 @@ use Rattle.history.specs.Rules.{refusal_of}
 use Rattle.history.specs.Next.{first_open, Turn, next_turn, Outcome}
 use Rattle.history_laws.proofs.WeightLemmas.{weight, weight-none, weight-collect, weight-accept, weight-refuse, turn-falls}
 use Rattle.disk_core.specs.Calls.{is_fetched}
-use Rattle.stack_run.specs.Plain.{Stand, stand, whole_view, payload_bytes, answer_of, answered, own_collected, waited, taken, next_outcome, turned, turned_if, commanded, followed, stepped_if, stepped, a_round, is_over, plain_from, rounds, plain_history}
+use Rattle.stack_run.specs.Plain.{Stand, stand, whole_view, payload_bytes, answer_of, after_answer, after_own_collects, after_wait, after_line, next_outcome, after_turn, after_turn_if, after_command, after_follow, after_step_if, after_step, a_round, is_over, plain_from, rounds, plain_history}
 use Rattle.stack_run.proofs.Collecting.{collects-keep}
 
 -- what a stand can still need
@@ -23,61 +23,61 @@ cost S s = weight S s.history + rounds s.lines
 abbrev Lightens : Setup → Stand → Stand → Type 0
 Lightens S s s' = (s' ≡ s) ⊎ (cost S s' + 1 ≤ cost S s)
 
-turned-lightens : (S : Setup) → IsSetup S → (s : Stand) (turn : Turn) → next_turn S s.history ≡ Some turn → cost S (turned s turn) + 1 ≤ cost S s
-turned-lightens S some s turn next = omega (arith, turn-falls S s.history turn (next_outcome s.outcomes) some next)
+after_turn-lightens : (S : Setup) → IsSetup S → (s : Stand) (turn : Turn) → next_turn S s.history ≡ Some turn → cost S (after_turn s turn) + 1 ≤ cost S s
+after_turn-lightens S some s turn next = omega (arith, turn-falls S s.history turn (next_outcome s.outcomes) some next)
 
-commanded-lightens : (S : Setup) → IsSetup S → (s : Stand) → cost S (commanded S s) ≤ cost S s
-unfolding commanded
-commanded-lightens S some s = by (next_turn S s.history) refl
+after_command-lightens : (S : Setup) → IsSetup S → (s : Stand) → cost S (after_command S s) ≤ cost S s
+unfolding after_command
+after_command-lightens S some s = by (next_turn S s.history) refl
   where
-    by : (o : Option Turn) → next_turn S s.history ≡ o → cost S (turned_if s o) ≤ cost S s
+    by : (o : Option Turn) → next_turn S s.history ≡ o → cost S (after_turn_if s o) ≤ cost S s
     by None next = omega arith
-    by (Some turn) next = omega (arith, turned-lightens S some s turn next)
+    by (Some turn) next = omega (arith, after_turn-lightens S some s turn next)
 
-stepped-lightens : (S : Setup) → IsSetup S → (s : Stand) → Lightens S s (stepped S s)
-unfolding stepped
-stepped-lightens S some s = by (next_turn S s.history) refl
+after_step-lightens : (S : Setup) → IsSetup S → (s : Stand) → Lightens S s (after_step S s)
+unfolding after_step
+after_step-lightens S some s = by (next_turn S s.history) refl
   where
-    after : (turn : Turn) → next_turn S s.history ≡ Some turn → (f : Bool) → cost S (followed S f (turned s turn)) + 1 ≤ cost S s
-    after turn next true = omega (arith, turned-lightens S some s turn next, commanded-lightens S some (turned s turn))
-    after turn next false = turned-lightens S some s turn next
+    after : (turn : Turn) → next_turn S s.history ≡ Some turn → (f : Bool) → cost S (after_follow S f (after_turn s turn)) + 1 ≤ cost S s
+    after turn next true = omega (arith, after_turn-lightens S some s turn next, after_command-lightens S some (after_turn s turn))
+    after turn next false = after_turn-lightens S some s turn next
 
-    by : (o : Option Turn) → next_turn S s.history ≡ o → Lightens S s (stepped_if S s o)
+    by : (o : Option Turn) → next_turn S s.history ≡ o → Lightens S s (after_step_if S s o)
     by None next = inl refl
     by (Some turn) next = inr (after turn next (is_fetched turn.command (next_outcome s.outcomes)))
 
-weight-own : (S : Setup) (H : List Entry) → weight S (own_collected H) ≡ weight S H
-unfolding own_collected
+weight-own : (S : Setup) (H : List Entry) → weight S (after_own_collects H) ≡ weight S H
+unfolding after_own_collects
 weight-own S H = collects-keep (λ G. weight S G ≡ weight S H) (λ G tag t same. weight-collect S G tag t ∙ same) (nat_eq 1) H 0 (accepted H) refl
 
-weight-answered : (S : Setup) (H : List Entry) (asked : Asked) (payload : Payload) (k : ℕ) → weight S (answered S H asked payload k) ≤ weight S H + (1 + 2 * asked.length)
-unfolding answered
-weight-answered S H asked payload k = by (refusal_of S H (whole_view S k) asked k)
+weight-after_answer : (S : Setup) (H : List Entry) (asked : Asked) (payload : Payload) (k : ℕ) → weight S (after_answer S H asked payload k) ≤ weight S H + (1 + 2 * asked.length)
+unfolding after_answer
+weight-after_answer S H asked payload k = by (refusal_of S H (whole_view S k) asked k)
   where
     by : (refusal : Option Status) → weight S (answer_of (whole_view S k) asked (payload_bytes payload) k refusal ∷ H) ≤ weight S H + (1 + 2 * asked.length)
     by None = weight-accept S H 1 (whole_view S k) asked (payload_bytes payload)
     by (Some status) = omega (arith, weight-refuse S H 1 (whole_view S k) asked k status)
 
-taken-lightens : (S : Setup) (s : Stand) → Lightens S s (taken S s)
-unfolding taken rounds
-taken-lightens S s = by s.history s.lines s.outcomes
+after_line-lightens : (S : Setup) (s : Stand) → Lightens S s (after_line S s)
+unfolding after_line rounds
+after_line-lightens S s = by s.history s.lines s.outcomes
   where
-    waits : (H : List Entry) (rest : List Order) (outcomes : List Outcome) (o : Option ℕ) → Lightens S (stand H (order.Wait ∷ rest) outcomes) (waited o H rest outcomes)
+    waits : (H : List Entry) (rest : List Order) (outcomes : List Outcome) (o : Option ℕ) → Lightens S (stand H (order.Wait ∷ rest) outcomes) (after_wait o H rest outcomes)
     waits H rest outcomes (Some t) = inl refl
     waits H rest outcomes None = inr (omega (arith, weight-own S H))
 
-    by : (H : List Entry) (lines : List Order) (outcomes : List Outcome) → Lightens S (stand H lines outcomes) (taken S (stand H lines outcomes))
+    by : (H : List Entry) (lines : List Order) (outcomes : List Outcome) → Lightens S (stand H lines outcomes) (after_line S (stand H lines outcomes))
     by H [] outcomes = inl refl
-    by H (order.Request asked payload k ∷ rest) outcomes = inr (omega (arith, weight-answered S H asked payload k))
+    by H (order.Request asked payload k ∷ rest) outcomes = inr (omega (arith, weight-after_answer S H asked payload k))
     by H (order.Wait ∷ rest) outcomes = waits H rest outcomes (first_open S H)
 
 round-lightens : (S : Setup) → IsSetup S → (s : Stand) → Lightens S s (a_round S s)
-round-lightens S some s = by (taken-lightens S s) (stepped-lightens S some (taken S s))
+round-lightens S some s = by (after_line-lightens S s) (after_step-lightens S some (after_line S s))
   where
-    by : Lightens S s (taken S s) → Lightens S (taken S s) (stepped S (taken S s)) → Lightens S s (a_round S s)
+    by : Lightens S s (after_line S s) → Lightens S (after_line S s) (after_step S (after_line S s)) → Lightens S s (a_round S s)
     by (inl same) (inl same') = inl (same' ∙ same)
-    by (inl same) (inr falls) = inr (let e : cost S (taken S s) ≡ cost S s = ap (cost S) same in omega (arith, e, falls))
-    by (inr falls) (inl same') = inr (let e : cost S (stepped S (taken S s)) ≡ cost S (taken S s) = ap (cost S) same' in omega (arith, e, falls))
+    by (inl same) (inr falls) = inr (let e : cost S (after_line S s) ≡ cost S s = ap (cost S) same in omega (arith, e, falls))
+    by (inr falls) (inl same') = inr (let e : cost S (after_step S (after_line S s)) ≡ cost S (after_line S s) = ap (cost S) same' in omega (arith, e, falls))
     by (inr falls) (inr falls') = inr (omega (arith, falls, falls'))
 
 -- where a round changes nothing, no number of rounds does

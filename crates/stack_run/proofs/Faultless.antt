@@ -9,7 +9,7 @@ use Rattle.history.specs.Next.{first_open, Turn, next_turn, Outcome, Made, Faile
 use Rattle.history.specs.Room.{faults}
 use Rattle.history_laws.proofs.CountLemmas.{faults-more, faults-same}
 use Rattle.disk_core.specs.Calls.{is_fetched}
-use Rattle.stack_run.specs.Plain.{outcomes_onto, outcomes_of, Stand, stand, all_collected, waited, taken_from, taken, next_outcome, later_outcomes, turned, turned_if, commanded, followed, stepped_if, stepped, a_round, is_over, plain_from, rounds, plain_history}
+use Rattle.stack_run.specs.Plain.{outcomes_onto, outcomes_of, Stand, stand, after_all_collects, after_wait, after_lines, after_line, next_outcome, later_outcomes, after_turn, after_turn_if, after_command, after_follow, after_step_if, after_step, a_round, is_over, plain_from, rounds, plain_history}
 
 AreMade : List Outcome → Type 0
 AreMade [] = Unit {0}
@@ -37,55 +37,55 @@ made-later [] made = tt
 made-later (Made ∷ more) made = made
 made-later (Failed done ∷ more) made = absurd made
 
-taken-alike : (S : Setup) (s : Stand) → AreMade s.outcomes → IsAlike (taken S s) (taken S (bare s))
-unfolding taken
-taken-alike S s made = by s.lines
+after_line-alike : (S : Setup) (s : Stand) → AreMade s.outcomes → IsAlike (after_line S s) (after_line S (bare s))
+unfolding after_line
+after_line-alike S s made = by s.lines
   where
-    waits : (rest : List Order) (o : Option ℕ) → IsAlike (waited o s.history rest s.outcomes) (waited o s.history rest [])
+    waits : (rest : List Order) (o : Option ℕ) → IsAlike (after_wait o s.history rest s.outcomes) (after_wait o s.history rest [])
     waits rest None = record { same = refl; made = made }
     waits rest (Some t) = record { same = refl; made = made }
 
-    by : (lines : List Order) → IsAlike (taken_from S s.history lines s.outcomes) (taken_from S s.history lines [])
+    by : (lines : List Order) → IsAlike (after_lines S s.history lines s.outcomes) (after_lines S s.history lines [])
     by [] = record { same = refl; made = made }
     by (order.Request asked payload k ∷ rest) = record { same = refl; made = made }
     by (order.Wait ∷ rest) = waits rest (first_open S s.history)
 
-turned-alike : (s : Stand) (turn : Turn) → AreMade s.outcomes → IsAlike (turned s turn) (turned (bare s) turn)
-turned-alike s turn made = record {
+after_turn-alike : (s : Stand) (turn : Turn) → AreMade s.outcomes → IsAlike (after_turn s turn) (after_turn (bare s) turn)
+after_turn-alike s turn made = record {
   same = ap (λ (o : Outcome). stand (entry_of turn o ∷ s.history) s.lines []) (sym (made-next s.outcomes made));
   made = made-later s.outcomes made;
 }
 
-commanded-alike : (S : Setup) (s : Stand) → AreMade s.outcomes → IsAlike (commanded S s) (commanded S (bare s))
-unfolding commanded
-commanded-alike S s made = by (next_turn S s.history)
+after_command-alike : (S : Setup) (s : Stand) → AreMade s.outcomes → IsAlike (after_command S s) (after_command S (bare s))
+unfolding after_command
+after_command-alike S s made = by (next_turn S s.history)
   where
-    by : (o : Option Turn) → IsAlike (turned_if s o) (turned_if (bare s) o)
+    by : (o : Option Turn) → IsAlike (after_turn_if s o) (after_turn_if (bare s) o)
     by None = record { same = refl; made = made }
-    by (Some turn) = turned-alike s turn made
+    by (Some turn) = after_turn-alike s turn made
 
-stepped-alike : (S : Setup) (s : Stand) → AreMade s.outcomes → IsAlike (stepped S s) (stepped S (bare s))
-unfolding stepped
-stepped-alike S s made = by (next_turn S s.history)
+after_step-alike : (S : Setup) (s : Stand) → AreMade s.outcomes → IsAlike (after_step S s) (after_step S (bare s))
+unfolding after_step
+after_step-alike S s made = by (next_turn S s.history)
   where
-    after : (turn : Turn) (f : Bool) → IsAlike (followed S f (turned s turn)) (followed S f (turned (bare s) turn))
-    after turn false = turned-alike s turn made
+    after : (turn : Turn) (f : Bool) → IsAlike (after_follow S f (after_turn s turn)) (after_follow S f (after_turn (bare s) turn))
+    after turn false = after_turn-alike s turn made
     after turn true =
-        let first : IsAlike (turned s turn) (turned (bare s) turn) = turned-alike s turn made in
-        let second : IsAlike (commanded S (turned s turn)) (commanded S (bare (turned s turn))) = commanded-alike S (turned s turn) first.made in
-        record { same = ap (commanded S) first.same ∙ second.same; made = second.made }
+        let first : IsAlike (after_turn s turn) (after_turn (bare s) turn) = after_turn-alike s turn made in
+        let second : IsAlike (after_command S (after_turn s turn)) (after_command S (bare (after_turn s turn))) = after_command-alike S (after_turn s turn) first.made in
+        record { same = ap (after_command S) first.same ∙ second.same; made = second.made }
 
-    by : (o : Option Turn) → IsAlike (stepped_if S s o) (stepped_if S (bare s) o)
+    by : (o : Option Turn) → IsAlike (after_step_if S s o) (after_step_if S (bare s) o)
     by None = record { same = refl; made = made }
     by (Some turn) =
-        let alike : (o : Outcome) → Type 0 = λ o. IsAlike (followed S (is_fetched turn.command (next_outcome s.outcomes)) (turned s turn)) (followed S (is_fetched turn.command o) (turned (bare s) turn)) in
+        let alike : (o : Outcome) → Type 0 = λ o. IsAlike (after_follow S (is_fetched turn.command (next_outcome s.outcomes)) (after_turn s turn)) (after_follow S (is_fetched turn.command o) (after_turn (bare s) turn)) in
         subst alike (made-next s.outcomes made) (after turn (is_fetched turn.command (next_outcome s.outcomes)))
 
 round-alike : (S : Setup) (s : Stand) → AreMade s.outcomes → IsAlike (a_round S s) (a_round S (bare s))
 round-alike S s made =
-    let first : IsAlike (taken S s) (taken S (bare s)) = taken-alike S s made in
-    let second : IsAlike (stepped S (taken S s)) (stepped S (bare (taken S s))) = stepped-alike S (taken S s) first.made in
-    record { same = ap (stepped S) first.same ∙ second.same; made = second.made }
+    let first : IsAlike (after_line S s) (after_line S (bare s)) = after_line-alike S s made in
+    let second : IsAlike (after_step S (after_line S s)) (after_step S (bare (after_line S s))) = after_step-alike S (after_line S s) first.made in
+    record { same = ap (after_step S) first.same ∙ second.same; made = second.made }
 
 from-alike : (S : Setup) (n : ℕ) (s : Stand) → AreMade s.outcomes → plain_from n S s ≡ plain_from n S (bare s)
 unfolding plain_from
@@ -93,7 +93,7 @@ from-alike S zero s made = refl
 from-alike S (suc n) s made = by (is_over S s) (round-alike S s made) (λ t. from-alike S n t)
   where
     by : (b : Bool) → IsAlike (a_round S s) (a_round S (bare s)) → ((t : Stand) → AreMade t.outcomes → plain_from n S t ≡ plain_from n S (bare t))
-        → (if b then all_collected s.history else plain_from n S (a_round S s)) ≡ (if b then all_collected s.history else plain_from n S (a_round S (bare s)))
+        → (if b then after_all_collects s.history else plain_from n S (a_round S s)) ≡ (if b then after_all_collects s.history else plain_from n S (a_round S (bare s)))
     by true alike rest = refl
     by false alike rest = rest (a_round S s) alike.made ∙ sym (ap (plain_from n S) alike.same)
 

@@ -8,7 +8,7 @@ use Rattle.history.specs.Contents.{contents, kept_contents, pieces_of, patch_all
 use Rattle.history.specs.Rules.{IsLegal}
 use Rattle.disk_core.specs.State.{setup_of, Meets}
 use Rattle.disk_core.proofs.Fresh.{fresh-meets, legal-none}
-use Rattle.image_store.specs.Place.{Place, Here, Missing, Taken, Untold, Image, ChangesOnly, IsTaking, GivesBlocks, put_place, whole_blocks}
+use Rattle.image_store.specs.Place.{Place, Here, Missing, Taken, Untold, Image, ChangesOnly, IsTaking, GivesBlocks, put_place, whole_block_bytes}
 use Rattle.script_text.specs.declared.grammar.plans.DiskPlan.{DiskPlan}
 use Rattle.script_text.specs.declared.grammar.plans.ClientPlan.{ClientPlan}
 use Rattle.script_text.specs.declared.report.parts.TokenLine.{TokenLine}
@@ -52,8 +52,8 @@ leaves : (p0 p1 p2 : Place) (size : ℕ) (d d' : Device) (H : List Entry) → Is
 unfolding GivesBlocks
 leaves (Here bytes) p1 p2 size d d' H taking meets put =
     let (long, taken, first, blocks) = taking.blocks in
-    let kept : kept_contents (setup_of d) 1 H ≡ Some (patch_all (pieces_of (setup_of d) 1 H) (whole_blocks size bytes)) = kept-uncached d H taking.cached ∙ (rw first refl) in
-    (patch_all (pieces_of (setup_of d) 1 H) (whole_blocks size bytes), kept, put ∙ (rw (taken, meets.kept, kept, size-is d, taking.size) refl))
+    let kept : kept_contents (setup_of d) 1 H ≡ Some (patch_all (pieces_of (setup_of d) 1 H) (whole_block_bytes size bytes)) = kept-uncached d H taking.cached ∙ (rw first refl) in
+    (patch_all (pieces_of (setup_of d) 1 H) (whole_block_bytes size bytes), kept, put ∙ (rw (taken, meets.kept, kept, size-is d, taking.size) refl))
 leaves Missing p1 p2 size d d' H taking meets put = taking.blocks
 leaves (Taken tail) p1 p2 size d d' H taking meets put = taking.blocks
 leaves Untold p1 p2 size d d' H taking meets put = put ∙ (rw taking.blocks refl)

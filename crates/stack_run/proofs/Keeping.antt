@@ -18,7 +18,7 @@ use Rattle.history.specs.Marks.{mark_of}
 use Rattle.history.specs.Contents.{bytes_read}
 use Rattle.history.specs.Rules.{refusal_of}
 use Rattle.history.specs.Next.{first_open}
-use Rattle.disk_core.specs.State.{State, AreGiven as AreReadInto}
+use Rattle.disk_core.specs.State.{State, HasBytesRead}
 use Rattle.disk_core.specs.Calls.{Collects}
 use Rattle.history_laws.specs.Told.{concerns}
 use Rattle.history_laws.proofs.CountLemmas.{accepted-more, accepted-same}
@@ -26,7 +26,7 @@ use Rattle.history_laws.proofs.TokenLemmas.{request-other, mark-other, bytes_rea
 use Rattle.history_laws.proofs.NextLemmas.{first-open-fails}
 use Rattle.history_laws.proofs.PlainLemmas.{mark-collect, first-open-collect}
 use Rattle.script_text.specs.declared.report.parts.TokenLine.{TokenLine}
-use Rattle.stack_run.specs.Plain.{whole_view, payload_bytes, answered, collects, own_collected, all_collected}
+use Rattle.stack_run.specs.Plain.{whole_view, payload_bytes, after_answer, collects, after_own_collects, after_all_collects}
 use Rattle.script_text.specs.Report.{is_success, gives_bytes, AreBytesRead}
 use Rattle.stack_run.specs.Keeping.{Stays, IsEnd, Keeps, given_of, CollectsNext, CollectsFirst, CollectsAll, Answers}
 use Rattle.stack_run.proofs.Collecting.{collects-last, collects-none, with-collect}
@@ -84,7 +84,7 @@ given-some Flush status bytes = refl
 given-some Erase status bytes = refl
 
 -- the bytes of a read's buffer are those that it read
-read-bytes : (S : Setup) (H : List Entry) (t : ℕ) (q : Request) (buffer : List ℕ) → AreReadInto S H t q buffer → length buffer ≡ q.asked.length → AreBytesRead S H t q buffer
+read-bytes : (S : Setup) (H : List Entry) (t : ℕ) (q : Request) (buffer : List ℕ) → HasBytesRead S H t q buffer → length buffer ≡ q.asked.length → AreBytesRead S H t q buffer
 read-bytes S H t q buffer read long = record { all = long; each = λ i lt. by i lt (bytes_read S H t (from_of S q + i)) refl }
   where
     by : (i : ℕ) → i < length buffer → (o : Option ℕ) → bytes_read S H t (from_of S q + i) ≡ o → IfSome o (λ b. slice_index buffer i ≡ b)
@@ -109,7 +109,7 @@ given-bytes S H t q Erase status buffer are = tt
 
 -- the token that is handed back now
 end-new : (S : Setup) (H : List Entry) (t : ℕ) (q : Request) (status : Status) (buffer : List ℕ) (line : TokenLine) → request H t ≡ Some q → q.tag ≡ 1 → mark_of S H t ≡ Some status
-    → (q.asked.kind ≡ Read → AreReadInto S H t q buffer) → length buffer ≡ q.asked.length → line.status ≡ status → line.given ≡ given_of q.asked.kind status buffer → IsEnd S H t line
+    → (q.asked.kind ≡ Read → HasBytesRead S H t q buffer) → length buffer ≡ q.asked.length → line.status ≡ status → line.given ≡ given_of q.asked.kind status buffer → IsEnd S H t line
 unfolding gives_bytes
 end-new S H t q status buffer line named tagged marked read long is gives = record {
   marked = rw is marked;
@@ -122,7 +122,7 @@ end-new S H t q status buffer line named tagged marked read long is gives = reco
 -- one more token is collected
 pub keeps-collect : (S : Setup) (H : List Entry) (kinds : List Kind) (ends : List TokenLine) (q : Request) (status : Status) (buffer : List ℕ) (line : TokenLine)
     → Keeps S H kinds ends → length ends < length kinds → request H (length ends) ≡ Some q → mark_of S H (length ends) ≡ Some status
-    → (q.asked.kind ≡ Read → AreReadInto S H (length ends) q buffer) → length buffer ≡ q.asked.length → line.status ≡ status → line.given ≡ given_of q.asked.kind status buffer
+    → (q.asked.kind ≡ Read → HasBytesRead S H (length ends) q buffer) → length buffer ≡ q.asked.length → line.status ≡ status → line.given ≡ given_of q.asked.kind status buffer
     → Keeps S (Collect 1 (length ends) ∷ H) kinds (ends ++ line ∷ [])
 unfolding was_collected bytes_read
 keeps-collect S H kinds ends q status buffer line keeps some named marked read long is gives = record {
@@ -178,7 +178,7 @@ first-next S H G H' kinds kinds' ends ends' first next = record {
 
 -- after the last
 pub first-all : (S : Setup) (H H' : List Entry) (kinds : List Kind) (ends : List TokenLine) → CollectsFirst S H H' kinds ends → length kinds ≤ length ends → CollectsAll S H H' kinds ends
-unfolding own_collected all_collected
+unfolding after_own_collects after_all_collects
 first-all S H H' kinds ends first most =
     let all : length ends ≡ accepted H = omega (arith, first.keeps.count, first.keeps.within, first.count) in
     record {
@@ -275,7 +275,7 @@ keeps-refuse S H kinds ends view asked media_id status keeps = record {
 pub answers-accept : (S : Setup) (H H' : List Entry) (kinds kinds' : List Kind) (ends : List TokenLine) (view : View) (asked asked' : Asked) (bytes : List ℕ) (payload : Payload) (k : ℕ)
     → Keeps S H kinds ends → H' ≡ Accept 1 view asked' bytes ∷ H → refusal_of S H view asked' k ≡ None → view ≡ whole_view S 1 → k ≡ 1 → asked' ≡ asked → bytes ≡ payload_bytes payload
     → kinds' ≡ kinds ++ asked.kind ∷ [] → Answers S H H' asked payload k kinds' ends
-unfolding answered
+unfolding after_answer
 answers-accept S H H' kinds kinds' ends view asked asked' bytes payload k keeps entries unrefused whole one same brings added =
     let accepts : refusal_of S H (whole_view S 1) asked 1 ≡ None = rw (same, whole, one) at unrefused in
     record {
@@ -287,7 +287,7 @@ answers-accept S H H' kinds kinds' ends view asked asked' bytes payload k keeps 
 pub answers-refuse : (S : Setup) (H H' : List Entry) (kinds : List Kind) (ends : List TokenLine) (view : View) (asked asked' : Asked) (payload : Payload) (k : ℕ) (status : Status)
     → Keeps S H kinds ends → H' ≡ Refuse 1 view asked' k status ∷ H → refusal_of S H view asked' k ≡ Some status → view ≡ whole_view S 1 → k ≡ 1 → asked' ≡ asked
     → Answers S H H' asked payload k kinds ends
-unfolding answered
+unfolding after_answer
 answers-refuse S H H' kinds ends view asked asked' payload k status keeps entries refused whole one same =
     let refuses : refusal_of S H (whole_view S 1) asked 1 ≡ Some status = rw (same, whole, one) at refused in
     record {

@@ -9,7 +9,7 @@ use Rattle.script_text.specs.declared.grammar.refusal.Reason.{Reason}
 use Rattle.script_text.specs.declared.grammar.refusal.Reason.TheVariants.{Size}
 use Rattle.script_text.specs.Script.{script_of}
 use Rattle.image_store.specs.Place.{Image}
-use Rattle.stack_run.specs.Reading.{Reads, Says, IsReadOut, IsScript}
+use Rattle.stack_run.specs.Reading.{SourceReads, SourceSays, IsReadOut, IsScript}
 use Rattle.stack_run.specs.Program.{IsToldRefused, IsToldLacking, LacksImage}
 
 -- the bytes so far, and what is left behind them, are what was left
@@ -26,7 +26,7 @@ so-far-more (Some left) now new bytes out n (rest, is, whole) front =
     (more, new_is, whole ∙ (ap (λ xs. bytes ++ xs) split ∙ sym (append_assoc bytes (take n out) more)))
 
 -- nothing more comes
-pub so-far-ended : (left now new : Option (List ℕ)) (bytes out : List ℕ) → SoFar left now bytes → TakesFront now new 0 out → 0 < length out → Reads left new bytes
+pub so-far-ended : (left now new : Option (List ℕ)) (bytes out : List ℕ) → SoFar left now bytes → TakesFront now new 0 out → 0 < length out → SourceReads left new bytes
 unfolding TakesFront
 so-far-ended None now new bytes out is front some = (rw is at front)
 so-far-ended (Some left) now new bytes out (rest, is, whole) front some =
@@ -36,7 +36,7 @@ so-far-ended (Some left) now new bytes out (rest, is, whole) front some =
     (more, new_is, whole ∙ ap (λ xs. bytes ++ xs) (none ∙ sym no_more), inl no_more)
 
 -- as much as a script may not have
-pub so-far-long : (left now : Option (List ℕ)) (bytes : List ℕ) → SoFar left now bytes → SCRIPT_BYTES < length bytes → Reads left now bytes
+pub so-far-long : (left now : Option (List ℕ)) (bytes : List ℕ) → SoFar left now bytes → SCRIPT_BYTES < length bytes → SourceReads left now bytes
 so-far-long None now bytes is long = is
 so-far-long (Some left) now bytes (rest, is, whole) long = (rest, is, whole, inr long)
 
@@ -52,7 +52,7 @@ says-same left bytes rest said whole (inr long) says =
     too-long left longer ∙ (sym (too-long bytes long) ∙ says)
 
 -- what was read says what all bytes say that were left
-pub says-whole : (left now : Option (List ℕ)) (bytes : List ℕ) (said : Result (List DiskPlan) (ℕ × Reason)) → Reads left now bytes → script_of bytes ≡ said → Says left said
+pub says-whole : (left now : Option (List ℕ)) (bytes : List ℕ) (said : Result (List DiskPlan) (ℕ × Reason)) → SourceReads left now bytes → script_of bytes ≡ said → SourceSays left said
 says-whole (Some left) now bytes said (rest, is, whole, ended) says = says-same left bytes rest said whole ended says
 says-whole None now bytes said reads says = (bytes, says)
 
@@ -61,25 +61,25 @@ read-out-by now bytes rest plans is (inl none) says = is ∙ ap Some none
 read-out-by now bytes rest plans is (inr long) says =
     absurd (false≢true (ap is_ok (sym (too-long bytes long) ∙ says)))
 
-read-out : (left now : Option (List ℕ)) (bytes : List ℕ) (plans : List DiskPlan) → Reads left now bytes → script_of bytes ≡ Ok plans → IsReadOut left now
+read-out : (left now : Option (List ℕ)) (bytes : List ℕ) (plans : List DiskPlan) → SourceReads left now bytes → script_of bytes ≡ Ok plans → IsReadOut left now
 read-out (Some left) now bytes plans (rest, is, whole, ended) says = read-out-by now bytes rest plans is ended says
 read-out None now bytes plans reads says = reads
 
 -- a script was read
-pub script-read : (left now : Option (List ℕ)) (bytes : List ℕ) (plans : List DiskPlan) → Reads left now bytes → script_of bytes ≡ Ok plans → IsScript left now plans
+pub script-read : (left now : Option (List ℕ)) (bytes : List ℕ) (plans : List DiskPlan) → SourceReads left now bytes → script_of bytes ≡ Ok plans → IsScript left now plans
 script-read left now bytes plans reads says = record { says = says-whole left now bytes (Ok plans) reads says; out = read-out left now bytes plans reads says }
 
 -- a script is not refused
-pub not-refused : (left : Option (List ℕ)) (plans : List DiskPlan) → Says left (Ok plans) → IsToldRefused left → ⊥
+pub not-refused : (left : Option (List ℕ)) (plans : List DiskPlan) → SourceSays left (Ok plans) → IsToldRefused left → ⊥
 not-refused (Some left) plans says refused = false≢true (rw says at refused)
 not-refused None plans says refused = refused
 
 -- where there is no image for a script's disk, the script was not refused, and it is the one that was read
-pub lacks-image : (left : Option (List ℕ)) (plans : List DiskPlan) (at : List ℕ → Image) → Says left (Ok plans) → IsToldLacking left at → LacksImage plans at
+pub lacks-image : (left : Option (List ℕ)) (plans : List DiskPlan) (at : List ℕ → Image) → SourceSays left (Ok plans) → IsToldLacking left at → LacksImage plans at
 lacks-image (Some left) plans at says lacks = rw says at lacks
 lacks-image None plans at says lacks = absurd lacks
 
-pub not-lacking : (left : Option (List ℕ)) (fault : ℕ × Reason) (at : List ℕ → Image) → Says left (Err fault) → IsToldLacking left at → ⊥
+pub not-lacking : (left : Option (List ℕ)) (fault : ℕ × Reason) (at : List ℕ → Image) → SourceSays left (Err fault) → IsToldLacking left at → ⊥
 not-lacking (Some left) fault at says lacks = rw says at lacks
 not-lacking None fault at says lacks = lacks
 

@@ -20,7 +20,7 @@ use Rattle.disk_core.proofs.Setups.{blocks-of, size-of}
 use Rattle.script_text.specs.declared.report.parts.TokenLine.{TokenLine}
 use Rattle.script_text.specs.Fit.{IsOrder, AreOrders}
 use Rattle.script_text.specs.Report.{givens_of, AreEnds, IsGiven, AreGiven}
-use Rattle.stack_run.specs.Plain.{whole_view, answered, outcomes_of, plain_history}
+use Rattle.stack_run.specs.Plain.{whole_view, after_answer, outcomes_of, plain_history}
 use Rattle.stack_run.specs.Leading.{Leads, IsStep}
 use Rattle.stack_run.specs.Keeping.{Steps, Waits, IsEnd, Keeps, CollectsAll, Answers, TakesLine}
 use Rattle.stack_run.proofs.Leading.{leads-on, leads-request, leads-wait}
@@ -35,7 +35,7 @@ whole-is S d blocks size is b s = rw (b, s, blocks-of S d is, size-of S d is)
 pub takes-request : (S : Setup) (H G H' : List Entry) (asked : Asked) (payload : Payload) (k : ℕ) (kinds : List Kind) (ends : List TokenLine) (some : Bool)
     → Answers S H G asked payload k kinds ends → Steps S G H' some → TakesLine S H H' (order.Request asked payload k) kinds ends
 takes-request S H G H' asked payload k kinds ends some answers steps =
-    let step : IsStep S (answered S H asked payload k) H' = rw (← answers.entries) steps.step in
+    let step : IsStep S (after_answer S H asked payload k) H' = rw (← answers.entries) steps.step in
     record {
       leads = λ rest. leads-request S H asked payload k rest H' step;
       keeps = keeps-stays S G H' kinds ends steps.stays answers.keeps;

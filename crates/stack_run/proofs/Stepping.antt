@@ -10,7 +10,7 @@ use Rattle.history.specs.Tasks.{Task}
 use Rattle.history.specs.Next.{first_open, Turn, next_turn, Outcome, entry_of}
 use Rattle.disk_core.specs.declared.answers.Step.{Step}
 use Rattle.disk_core.specs.declared.answers.Step.TheVariants as step
-use Rattle.disk_core.specs.Calls.{Steps as Moving, StepsTo}
+use Rattle.disk_core.specs.Calls.{MakesStep, StepsTo}
 use Rattle.history_laws.proofs.EndLemmas.{mark-stays}
 use Rattle.history_laws.proofs.TokenLemmas.{bytes_read-other}
 use Rattle.history_laws.proofs.PlainLemmas.{IsTurnOf, turn-of, turn-open, turn-concerns, turn-accepted, turn-request, turn-collected}
@@ -54,7 +54,7 @@ stays-turn S H turn outcome next = by (turn-of S H turn next)
             let f : mark_of S H t ≡ None = rw (← e) of.open_.unmarked in
             cc
 
-is-turned : (S : Setup) (H H' : List Entry) (b b' : List (List ℕ)) (f f' : ℕ) (fetched : Bool) → Moving S H H' b b' f f' fetched → IsTurned S H H' fetched
+is-turned : (S : Setup) (H H' : List Entry) (b b' : List (List ℕ)) (f f' : ℕ) (fetched : Bool) → MakesStep S H H' b b' f f' fetched → IsTurned S H H' fetched
 is-turned S H H' b b' f f' fetched moving = record {
   turn = moving.turn;
   outcome = moving.outcome;
@@ -63,11 +63,11 @@ is-turned S H H' b b' f f' fetched moving = record {
   answer = moving.answer;
 }
 
-stays-moving : (S : Setup) (H H' : List Entry) (b b' : List (List ℕ)) (f f' : ℕ) (fetched : Bool) → Moving S H H' b b' f f' fetched → Stays S H H'
+stays-moving : (S : Setup) (H H' : List Entry) (b b' : List (List ℕ)) (f f' : ℕ) (fetched : Bool) → MakesStep S H H' b b' f f' fetched → Stays S H H'
 stays-moving S H H' b b' f f' fetched moving = rw (moving.moves.entries) (stays-turn S H moving.turn moving.outcome moving.moves.next)
 
 -- a command that was no done fetch
-pub did : (S : Setup) (H H' : List Entry) (b b' : List (List ℕ)) (f f' : ℕ) → Moving S H H' b b' f f' false → Steps S H H' true
+pub did : (S : Setup) (H H' : List Entry) (b b' : List (List ℕ)) (f f' : ℕ) → MakesStep S H H' b b' f f' false → Steps S H H' true
 did S H H' b b' f f' moving = record {
   step = step-did S H H' (is-turned S H H' b b' f f' false moving);
   stays = stays-moving S H H' b b' f f' false moving;
@@ -76,13 +76,13 @@ did S H H' b b' f f' moving = record {
 }
 
 -- a done fetch, and the step after it
-pub fetched : (S : Setup) (H G H' : List Entry) (b b' b'' : List (List ℕ)) (f f' f'' : ℕ) (answer : Step) → Moving S H G b b' f f' true → StepsTo S G H' b' b'' f' f'' answer → Steps S H H' true
+pub fetched : (S : Setup) (H G H' : List Entry) (b b' b'' : List (List ℕ)) (f f' f'' : ℕ) (answer : Step) → MakesStep S H G b b' f f' true → StepsTo S G H' b' b'' f' f'' answer → Steps S H H' true
 fetched S H G H' b b' b'' f f' f'' answer moving next = by answer next
   where
     open_ : (t : ℕ) × (first_open S H ≡ Some t)
     open_ = turn-open S H moving.turn moving.moves.next
 
-    two : (fetched : Bool) → Moving S G H' b' b'' f' f'' fetched → Steps S H H' true
+    two : (fetched : Bool) → MakesStep S G H' b' b'' f' f'' fetched → Steps S H H' true
     two fetched then = record {
       step = step-fetched S H G H' fetched (is-turned S H G b b' f f' true moving) (is-turned S G H' b' b'' f' f'' fetched then);
       stays = stays-on S H G H' (stays-moving S H G b b' f f' true moving) (stays-moving S G H' b' b'' f' f'' fetched then);

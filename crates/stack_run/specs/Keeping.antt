@@ -17,7 +17,7 @@ use Rattle.history.specs.Room.{owed_entries}
 use Rattle.history.specs.Next.{first_open}
 use Rattle.script_text.specs.declared.report.parts.TokenLine.{TokenLine}
 use Rattle.script_text.specs.Report.{IsGiven}
-use Rattle.stack_run.specs.Plain.{answered, collects, own_collected, all_collected}
+use Rattle.stack_run.specs.Plain.{after_answer, collects, after_own_collects, after_all_collects}
 use Rattle.stack_run.specs.Leading.{IsStep, Leads, Stay}
 
 -- the later history has the same tokens, and the ended ones are as they were
@@ -75,14 +75,14 @@ pub record CollectsFirst (S : Setup) (H H' : List Entry) (kinds' : List Kind) (e
 
 -- all tokens were collected
 pub record CollectsAll (S : Setup) (H H' : List Entry) (kinds' : List Kind) (ends' : List TokenLine) : Type 0 where
-  pub own : H' ≡ own_collected H
-  pub all : H' ≡ all_collected H
+  pub own : H' ≡ after_own_collects H
+  pub all : H' ≡ after_all_collects H
   pub count : length ends' ≡ accepted H'
   pub keeps : Keeps S H' kinds' ends'
 
 -- a request of the client was accepted or refused
 pub record Answers (S : Setup) (H H' : List Entry) (asked : Asked) (payload : Payload) (media_id : ℕ) (kinds' : List Kind) (ends' : List TokenLine) : Type 0 where
-  pub entries : H' ≡ answered S H asked payload media_id
+  pub entries : H' ≡ after_answer S H asked payload media_id
   pub keeps : Keeps S H' kinds' ends'
 
 -- a line was taken and done

@@ -6,10 +6,10 @@ use Rattle.history.specs.declared.order.Order.TheVariants as order
 use Rattle.history.specs.Setup.{Setup}
 use Rattle.history.specs.Next.{Turn, next_turn, Outcome, entry_of}
 use Rattle.disk_core.specs.Calls.{is_fetched}
-use Rattle.stack_run.specs.Plain.{outcomes_onto, stand, stepped, plain_from}
+use Rattle.stack_run.specs.Plain.{outcomes_onto, stand, after_step, plain_from}
 
 -- so many rounds lead from one stand to another, with these outcomes still to come
-pub record GoesOn (S : Setup) (k : ℕ) (H : List Entry) (lines : List Order) (H' : List Entry) (lines' : List Order) (n : ℕ) (more : List Outcome) : Type 0 where
+pub record LeadsFor (S : Setup) (k : ℕ) (H : List Entry) (lines : List Order) (H' : List Entry) (lines' : List Order) (n : ℕ) (more : List Outcome) : Type 0 where
   pub given : List Outcome
   pub same : outcomes_onto H' more ≡ outcomes_onto H given
   pub goes : plain_from (n + k) S (stand H lines given) ≡ plain_from n S (stand H' lines' more)
@@ -17,13 +17,13 @@ pub record GoesOn (S : Setup) (k : ℕ) (H : List Entry) (lines : List Order) (H
 -- whatever outcomes are still to come
 pub record Leads (S : Setup) (H : List Entry) (lines : List Order) (H' : List Entry) (lines' : List Order) : Type 0 where
   pub k : ℕ
-  pub on : (n : ℕ) (more : List Outcome) → GoesOn S k H lines H' lines' n more
+  pub on : (n : ℕ) (more : List Outcome) → LeadsFor S k H lines H' lines' n more
 
 -- one step of the schedule, whatever lines are left and whatever outcomes are still to come
 pub record StepsOn (S : Setup) (H H' : List Entry) (lines : List Order) (more : List Outcome) : Type 0 where
   pub given : List Outcome
   pub same : outcomes_onto H' more ≡ outcomes_onto H given
-  pub goes : stepped S (stand H lines given) ≡ stand H' lines more
+  pub goes : after_step S (stand H lines given) ≡ stand H' lines more
 
 abbrev pub IsStep : Setup → List Entry → List Entry → Type 0
 IsStep S H H' = (lines : List Order) (more : List Outcome) → StepsOn S H H' lines more

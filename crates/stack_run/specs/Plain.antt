@@ -49,8 +49,8 @@ answer_of view asked bytes media_id None = Accept 1 view asked bytes
 answer_of view asked bytes media_id (Some status) = Refuse 1 view asked media_id status
 
 -- a request is accepted or refused
-unfoldable pub answered : Setup → List Entry → Asked → Payload → ℕ → List Entry
-answered S H asked payload k =
+unfoldable pub after_answer : Setup → List Entry → Asked → Payload → ℕ → List Entry
+after_answer S H asked payload k =
     answer_of (whole_view S k) asked (payload_bytes payload) k (refusal_of S H (whole_view S k) asked k) ∷ H
 
 abbrev pub collect_one : (ℕ → Bool) → List Entry → ℕ → Option Request → Bool → List Entry
@@ -68,26 +68,26 @@ collects test H a zero = H
 collects test H a (suc n) = collects test (with_collect test H a) (a + 1) n
 
 -- all uncollected tokens of this client
-unfoldable pub own_collected : List Entry → List Entry
-own_collected H = collects (nat_eq 1) H 0 (accepted H)
+unfoldable pub after_own_collects : List Entry → List Entry
+after_own_collects H = collects (nat_eq 1) H 0 (accepted H)
 
 -- all uncollected tokens whose tag is not 0
-unfoldable pub all_collected : List Entry → List Entry
-all_collected H = collects (λ tag. not (nat_eq tag 0)) H 0 (accepted H)
+unfoldable pub after_all_collects : List Entry → List Entry
+after_all_collects H = collects (λ tag. not (nat_eq tag 0)) H 0 (accepted H)
 
 -- a wait does nothing and stays while a token is outstanding; else it collects and is done
-abbrev pub waited : Option ℕ → List Entry → List Order → List Outcome → Stand
-waited (Some t) H rest outcomes = stand H (order.Wait ∷ rest) outcomes
-waited None H rest outcomes = stand (own_collected H) rest outcomes
+abbrev pub after_wait : Option ℕ → List Entry → List Order → List Outcome → Stand
+after_wait (Some t) H rest outcomes = stand H (order.Wait ∷ rest) outcomes
+after_wait None H rest outcomes = stand (after_own_collects H) rest outcomes
 
-abbrev pub taken_from : Setup → List Entry → List Order → List Outcome → Stand
-taken_from S H [] outcomes = stand H [] outcomes
-taken_from S H (order.Request asked payload k ∷ rest) outcomes = stand (answered S H asked payload k) rest outcomes
-taken_from S H (order.Wait ∷ rest) outcomes = waited (first_open S H) H rest outcomes
+abbrev pub after_lines : Setup → List Entry → List Order → List Outcome → Stand
+after_lines S H [] outcomes = stand H [] outcomes
+after_lines S H (order.Request asked payload k ∷ rest) outcomes = stand (after_answer S H asked payload k) rest outcomes
+after_lines S H (order.Wait ∷ rest) outcomes = after_wait (first_open S H) H rest outcomes
 
 -- the first half of a round: the client takes its next line, where it has one left
-unfoldable pub taken : Setup → Stand → Stand
-taken S s = taken_from S s.history s.lines s.outcomes
+unfoldable pub after_line : Setup → Stand → Stand
+after_line S s = after_lines S s.history s.lines s.outcomes
 
 -- how the next command ends: a missing outcome is done
 abbrev pub next_outcome : List Outcome → Outcome
@@ -99,31 +99,31 @@ later_outcomes [] = []
 later_outcomes (outcome ∷ more) = more
 
 -- a turn is taken: its command is made
-abbrev pub turned : Stand → Turn → Stand
-turned s turn = stand (entry_of turn (next_outcome s.outcomes) ∷ s.history) s.lines (later_outcomes s.outcomes)
+abbrev pub after_turn : Stand → Turn → Stand
+after_turn s turn = stand (entry_of turn (next_outcome s.outcomes) ∷ s.history) s.lines (later_outcomes s.outcomes)
 
-abbrev pub turned_if : Stand → Option Turn → Stand
-turned_if s None = s
-turned_if s (Some turn) = turned s turn
+abbrev pub after_turn_if : Stand → Option Turn → Stand
+after_turn_if s None = s
+after_turn_if s (Some turn) = after_turn s turn
 
 -- the command that comes next is made, where a token is outstanding
-unfoldable pub commanded : Setup → Stand → Stand
-commanded S s = turned_if s (next_turn S s.history)
+unfoldable pub after_command : Setup → Stand → Stand
+after_command S s = after_turn_if s (next_turn S s.history)
 
-abbrev pub followed : Setup → Bool → Stand → Stand
-followed S true s = commanded S s
-followed S false s = s
+abbrev pub after_follow : Setup → Bool → Stand → Stand
+after_follow S true s = after_command S s
+after_follow S false s = s
 
-abbrev pub stepped_if : Setup → Stand → Option Turn → Stand
-stepped_if S s None = s
-stepped_if S s (Some turn) = followed S (is_fetched turn.command (next_outcome s.outcomes)) (turned s turn)
+abbrev pub after_step_if : Setup → Stand → Option Turn → Stand
+after_step_if S s None = s
+after_step_if S s (Some turn) = after_follow S (is_fetched turn.command (next_outcome s.outcomes)) (after_turn s turn)
 
 -- the second half of a round: one step, and a fetched block is stored at once
-unfoldable pub stepped : Setup → Stand → Stand
-stepped S s = stepped_if S s (next_turn S s.history)
+unfoldable pub after_step : Setup → Stand → Stand
+after_step S s = after_step_if S s (next_turn S s.history)
 
 abbrev pub a_round : Setup → Stand → Stand
-a_round S s = stepped S (taken S s)
+a_round S s = after_step S (after_line S s)
 
 abbrev pub has_none : List Order → Bool
 has_none [] = true
@@ -136,7 +136,7 @@ is_over S s = has_none s.lines && is_none (first_open S s.history)
 -- rounds until all is over, and then the last collects; at most so many rounds
 unfoldable pub plain_from : ℕ → Setup → Stand → List Entry
 plain_from zero S s = s.history
-plain_from (suc n) S s = if is_over S s then all_collected s.history else plain_from n S (a_round S s)
+plain_from (suc n) S s = if is_over S s then after_all_collects s.history else plain_from n S (a_round S s)
 
 -- a line needs a round or two, and a byte that it asks for at most two commands
 abbrev pub line_rounds : Order → ℕ

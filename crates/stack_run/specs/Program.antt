@@ -38,7 +38,7 @@ abbrev pub WritesLine : List ℕ → Option (List ℕ) → Option (List ℕ) →
 WritesLine line wrote wrote' faults faults' = Appends wrote wrote' line ⊎ (AppendsFront wrote wrote' line × Rose faults faults')
 
 -- the line of a refusal was written, and no image has changed
-pub record Refuses (text : List ℕ) (at at' : List ℕ → Image) (wrote wrote' : Option (List ℕ)) (faults faults' : ℕ) : Type 0 where
+pub record WritesRefusal (text : List ℕ) (at at' : List ℕ → Image) (wrote wrote' : Option (List ℕ)) (faults faults' : ℕ) : Type 0 where
   pub images : at' ≡ at
   pub line : WritesLine text wrote wrote' faults faults'
 

@@ -7,14 +7,14 @@ use Rattle.script_text.specs.declared.grammar.refusal.Reason.{Reason}
 use Rattle.script_text.specs.Script.{script_of}
 
 -- all bytes that were left were read, or more of them than a script may have
-abbrev pub Reads : Option (List ℕ) → Option (List ℕ) → List ℕ → Type 0
-Reads (Some left) now bytes = (rest : List ℕ) × (now ≡ Some rest) × (left ≡ bytes ++ rest) × ((rest ≡ []) ⊎ (SCRIPT_BYTES < length bytes))
-Reads None now bytes = now ≡ None
+abbrev pub SourceReads : Option (List ℕ) → Option (List ℕ) → List ℕ → Type 0
+SourceReads (Some left) now bytes = (rest : List ℕ) × (now ≡ Some rest) × (left ≡ bytes ++ rest) × ((rest ≡ []) ⊎ (SCRIPT_BYTES < length bytes))
+SourceReads None now bytes = now ≡ None
 
 -- what all bytes say that were left; where these are not told, what some bytes say
-abbrev pub Says : Option (List ℕ) → Result (List DiskPlan) (ℕ × Reason) → Type 0
-Says (Some left) said = script_of left ≡ said
-Says None said = (bytes : List ℕ) × (script_of bytes ≡ said)
+abbrev pub SourceSays : Option (List ℕ) → Result (List DiskPlan) (ℕ × Reason) → Type 0
+SourceSays (Some left) said = script_of left ≡ said
+SourceSays None said = (bytes : List ℕ) × (script_of bytes ≡ said)
 
 -- the source was read to its end
 abbrev pub IsReadOut : Option (List ℕ) → Option (List ℕ) → Type 0
@@ -23,14 +23,14 @@ IsReadOut None now = now ≡ None
 
 -- the source was read to its end, and is a script of these disks
 pub record IsScript (left left' : Option (List ℕ)) (plans : List DiskPlan) : Type 0 where
-  pub says : Says left (Ok plans)
+  pub says : SourceSays left (Ok plans)
   pub out : IsReadOut left left'
 
 -- the source is refused as a script
 pub record IsRefused (left : Option (List ℕ)) : Type 0 where
   pub line : ℕ
   pub reason : Reason
-  pub says : Says left (Err (line, reason))
+  pub says : SourceSays left (Err (line, reason))
 
 -- these are one disk with one client, and this holds of the two
 pub record OfOne (plans : List DiskPlan) (P : DiskPlan → ClientPlan → Type 0) : Type 0 where

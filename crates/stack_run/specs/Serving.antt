@@ -10,7 +10,7 @@ use Rattle.history.specs.Contents.{kept_contents}
 use Rattle.history.specs.Rules.{IsLegal}
 use Rattle.history.specs.Room.{faults}
 use Rattle.disk_core.specs.State.{Meets}
-use Rattle.image_store.specs.Place.{Place, Here, Missing, Taken, Untold, Image, IsShort, MayBeShort, ChangesOnly, whole_blocks, tail_of}
+use Rattle.image_store.specs.Place.{Place, Here, Missing, Taken, Untold, Image, IsShort, MayBeShort, ChangesOnly, whole_block_bytes, tail_of}
 use Rattle.script_text.specs.declared.grammar.plans.DiskPlan.{DiskPlan}
 use Rattle.script_text.specs.declared.grammar.plans.ClientPlan.{ClientPlan}
 use Rattle.script_text.specs.Report.{givens_of, AreEnds, AreGiven, report_text}
@@ -44,7 +44,7 @@ blocks_alone plan = record { size = plan.size; per = 1 }
 
 -- the setup has the image's whole blocks; those of an image that does not tell are some
 abbrev pub Opens : ℕ → Place → Setup → Type 0
-Opens size (Here bytes) S = (size ≤ length bytes) × (S ≡ one_medium size (length bytes / size) (Some (whole_blocks size bytes)))
+Opens size (Here bytes) S = (size ≤ length bytes) × (S ≡ one_medium size (length bytes / size) (Some (whole_block_bytes size bytes)))
 Opens size Missing S = ⊥
 Opens size (Taken tail) S = ⊥
 Opens size Untold S = (blocks : ℕ) × (first : Option (List ℕ)) × (S ≡ one_medium size blocks first)

@@ -5,7 +5,7 @@ ghost use Rattle.image_store.specs.Place.{IsFree};
 ghost use Rattle.script_text.specs.Fit.{AreDisks, IsSingle};
 ghost use Rattle.stack_run.specs.Reading.{IsRefused, OfOne};
 ghost use Rattle.stack_run.specs.Serving.{Served};
-ghost use Rattle.stack_run.specs.Program.{is_plain, status_of, refusal_text, WritesLine, Refuses, OfScript, ImageFailed, SinkFailed, MemoryRanOut, LacksImage, IsToldRefused, IsToldLacking, IsServingStatus};
+ghost use Rattle.stack_run.specs.Program.{is_plain, status_of, refusal_text, WritesLine, WritesRefusal, OfScript, ImageFailed, SinkFailed, MemoryRanOut, LacksImage, IsToldRefused, IsToldLacking, IsServingStatus};
 
 use crate::reading::{ReadFault, read_source};
 use crate::refusal::{Refusal, Unserved};
@@ -128,14 +128,14 @@ pub fn run_plain<I: Images, R: Source, O: Sink>(
     ensures done { result ≡ 0 → OfScript (R.left script.old) (R.left script.new) (λ plan client. Served plan client (I.at images.old) (I.at images.new) (Appends (O.wrote out.old) (O.wrote out.new))) }
     ensures words { result ≡ 1 → is_plain (map string_bytes words.now) ≡ false }
     ensures words_exactly { is_plain (map string_bytes words.now) ≡ false → (result ≡ 1) ⊎ (result ≡ 6) }
-    ensures words_line { result ≡ 1 → Refuses (refusal_text Refusal.Words []) (I.at images.old) (I.at images.new) (O.wrote out.old) (O.wrote out.new) (O.faults out.old) (O.faults out.new) }
+    ensures words_line { result ≡ 1 → WritesRefusal (refusal_text Refusal.Words []) (I.at images.old) (I.at images.new) (O.wrote out.old) (O.wrote out.new) (O.faults out.old) (O.faults out.new) }
     ensures script { result ≡ 2 → IsRefused (R.left script.old) }
     ensures script_exactly { is_plain (map string_bytes words.now) ≡ true → IsToldRefused (R.left script.old) → (result ≡ 2) ⊎ ((result ≡ 4) ⊎ (result ≡ 6)) }
-    ensures script_line { result ≡ 2 → Refuses (refusal_text Refusal.Script []) (I.at images.old) (I.at images.new) (O.wrote out.old) (O.wrote out.new) (O.faults out.old) (O.faults out.new) }
+    ensures script_line { result ≡ 2 → WritesRefusal (refusal_text Refusal.Script []) (I.at images.old) (I.at images.new) (O.wrote out.old) (O.wrote out.new) (O.faults out.old) (O.faults out.new) }
     ensures image { result ≡ 3 → OfScript (R.left script.old) (R.left script.new) (ImageFailed (I.at images.old) (I.at images.new) (O.wrote out.old) (O.wrote out.new) (O.faults out.old) (O.faults out.new)) }
     ensures image_exactly { is_plain (map string_bytes words.now) ≡ true → IsToldLacking (R.left script.old) (I.at images.old) → (result ≡ 3) ⊎ ((result ≡ 4) ⊎ (result ≡ 6)) }
     ensures source { result ≡ 4 → Rose (R.faults script.old) (R.faults script.new) }
-    ensures source_line { result ≡ 4 → Refuses (refusal_text Refusal.Source []) (I.at images.old) (I.at images.new) (O.wrote out.old) (O.wrote out.new) (O.faults out.old) (O.faults out.new) }
+    ensures source_line { result ≡ 4 → WritesRefusal (refusal_text Refusal.Source []) (I.at images.old) (I.at images.new) (O.wrote out.old) (O.wrote out.new) (O.faults out.old) (O.faults out.new) }
     ensures sink { result ≡ 5 → OfScript (R.left script.old) (R.left script.new) (SinkFailed (I.at images.old) (I.at images.new) (O.wrote out.old) (O.wrote out.new) (O.faults out.old) (O.faults out.new)) }
     ensures memory { result ≡ 6 → (I.at images.new ≡ I.at images.old) ⊎ OfScript (R.left script.old) (R.left script.new) (MemoryRanOut (I.at images.old) (I.at images.new)) }
     ensures few { result ≤ 6 }

@@ -1,7 +1,7 @@
 ghost use Rattle.std.specs.Prelude.{◌≡◌, ℕ, ◌+◌, ◌<◌, ◌≤◌, length, IfOk, IsErrOf};
 ghost use Rattle.image_store.specs.Edge.{HasCauseOf};
 ghost use Rattle.script_text.specs.declared.grammar.limits.TheConstants.{SCRIPT_BYTES};
-ghost use Rattle.stack_run.specs.Reading.{Reads};
+ghost use Rattle.stack_run.specs.Reading.{SourceReads};
 
 use image_store::Source;
 use script_text::SCRIPT_BYTES;
@@ -19,9 +19,9 @@ pub enum ReadFault {
 // How many bytes are asked for at once.
 const PIECE: usize = 4096;
 
-// Reads the source to its end, or to one byte more than a script may have.
+// SourceReads the source to its end, or to one byte more than a script may have.
 pub fn read_source<R: Source>(alloc: Global, source: &mut R) -> Result<Vec<u8>, ReadFault>
-    ensures read { IfOk result (λ bytes. Reads (R.left source.old) (R.left source.new) bytes.items) }
+    ensures read { IfOk result (λ bytes. SourceReads (R.left source.old) (R.left source.new) bytes.items) }
     ensures cause { HasCauseOf ReadFault.Failed (R.faults source.old) (R.faults source.new) result }
 {
     let mut bytes = Vec::new(alloc);

@@ -1,5 +1,5 @@
 ghost use Rattle.std.specs.Prelude.{◌≡◌, ◌+◌, ◌≤◌, ◌<◌, true, length, [], OnOk, IfOk, nat_lt, nat_le, ◌&&◌};
-ghost use Rattle.script_text.specs.Plans.{has_some, last_is, disk_plan, with_disk, with_client, with_order, has_client, has_image, requested, request_bytes, is_single};
+ghost use Rattle.script_text.specs.Plans.{has_some, last_is, disk_plan, with_disk, with_client, with_order, has_client, has_image, requested, asked_bytes, is_single};
 ghost use Rattle.script_text.specs.declared.grammar.limits.TheConstants.{ALL_REQUEST_BYTES, REQUEST_BYTES, CLIENTS, DISKS};
 
 use crate::grammar::limits::{ALL_REQUEST_BYTES, CLIENTS, DISKS, REQUEST_BYTES};
@@ -105,7 +105,7 @@ impl Draft {
         bytes <= REQUEST_BYTES && self.bytes + bytes <= ALL_REQUEST_BYTES
     }
 
-    /// Adds a disk without clients. The error is want of memory.
+    /// AddsText a disk without clients. The error is want of memory.
     #[tactic(auto, using(crate::proofs::PlanLemmas::requested_disk))]
     pub fn add_disk(self, alloc: Global, image: Name, size: u32) -> Result<Draft, AllocError>
         ensures { IfOk result (λ next. next ≡ with_disk (disk_plan image size) self) }
@@ -119,7 +119,7 @@ impl Draft {
         Ok(Draft { disks, bytes })
     }
 
-    /// Adds a client to the last disk. The error is want of memory.
+    /// AddsText a client to the last disk. The error is want of memory.
     #[tactic(auto, using(crate::proofs::PlanLemmas::requested_client))]
     pub fn add_client(self, alloc: Global) -> Result<Draft, AllocError>
         requires { has_some self ≡ true }
@@ -130,11 +130,11 @@ impl Draft {
         Ok(Draft { disks, bytes })
     }
 
-    /// Adds a line to the last client of the last disk. The error is want of memory.
+    /// AddsText a line to the last client of the last disk. The error is want of memory.
     #[tactic(auto, using(crate::proofs::PlanLemmas::requested_order))]
     pub fn add_order(self, order: Order) -> Result<Draft, AllocError>
         requires client { has_client self ≡ true }
-        requires room { requested self + request_bytes order ≤ ALL_REQUEST_BYTES }
+        requires room { requested self + asked_bytes order ≤ ALL_REQUEST_BYTES }
         ensures { IfOk result (λ next. next ≡ with_order order self) }
     {
         let Draft { mut disks, bytes } = self;
@@ -170,7 +170,7 @@ fn order_to_last(disks: &mut Vec<DiskPlan>, order: Order) -> Result<(), AllocErr
 
 /// How many bytes the line asks for.
 pub fn bytes_of(order: &Order) -> u64
-    ensures { result ≡ request_bytes order.now }
+    ensures { result ≡ asked_bytes order.now }
 {
     match order {
         Order::Request { asked, .. } => asked.length,

@@ -74,7 +74,7 @@ impl<T> Items<T> {
         kept
     }
 
-    /// Adds an item at the end. The error is want of memory.
+    /// AddsText an item at the end. The error is want of memory.
     pub fn push(&mut self, item: T) -> Result<(), AllocError>
     where
         T: Drop,
@@ -112,7 +112,7 @@ pub struct DiskPlan {
 }
 
 impl DiskPlan {
-    /// Adds a client. The error is want of memory.
+    /// AddsText a client. The error is want of memory.
     pub(super) fn add_client(&mut self, alloc: Global) -> Result<(), AllocError>
         ensures { OnOk result (self.new ≡ add_client (record { orders = [] }) self.old) }
     {
@@ -121,7 +121,7 @@ impl DiskPlan {
         })
     }
 
-    /// Adds a line to the last client. The error is want of memory.
+    /// AddsText a line to the last client. The error is want of memory.
     pub(super) fn add_order(&mut self, order: Order) -> Result<(), AllocError>
         requires { has_some self.old.clients ≡ true }
         ensures { OnOk result (self.new ≡ add_last_order order self.old) }

@@ -1,6 +1,6 @@
 ghost use Rattle.std.specs.Prelude.{◌≡◌, ℕ, List, string_bytes, IfOk};
 ghost use Rattle.image_store.specs.Edge.{PutsText, HasCauseOf};
-ghost use Rattle.script_text.specs.Held.{Adds};
+ghost use Rattle.script_text.specs.Held.{AddsText};
 
 use crate::report::parts::ReportFault;
 use image_store::{PutFault, Sink};
@@ -21,10 +21,10 @@ pub fn put<O: Sink>(out: &mut O, text: &str) -> Result<(), ReportFault>
     }
 }
 
-/// Adds a line to what is held back, and puts that where it is a piece.
-#[tactic(auto, using(crate::proofs::HeldText::none_put, crate::proofs::HeldText::still_held, crate::proofs::HeldText::all_put), unfolding(crate::specs::Held::Adds))]
+/// AddsText a line to what is held back, and puts that where it is a piece.
+#[tactic(auto, using(crate::proofs::HeldText::none_put, crate::proofs::HeldText::still_held, crate::proofs::HeldText::all_put), unfolding(crate::specs::Held::AddsText))]
 pub fn add<O: Sink>(held: &mut String, out: &mut O, line: &str) -> Result<(), ReportFault>
-    ensures text { Adds (O.wrote out.old) (string_bytes held.old) result (O.wrote out.new) (string_bytes held.new) line.now }
+    ensures text { AddsText (O.wrote out.old) (string_bytes held.old) result (O.wrote out.new) (string_bytes held.new) line.now }
     ensures cause { HasCauseOf ReportFault.Failed (O.faults out.old) (O.faults out.new) result }
 {
     match held.push_str(line) {
@@ -43,15 +43,15 @@ pub fn add<O: Sink>(held: &mut String, out: &mut O, line: &str) -> Result<(), Re
     }
 }
 
-/// Adds a line that was made, or hands its want of memory on.
-#[tactic(auto, using(crate::proofs::HeldText::none_put), unfolding(crate::specs::Held::Adds))]
+/// AddsText a line that was made, or hands its want of memory on.
+#[tactic(auto, using(crate::proofs::HeldText::none_put), unfolding(crate::specs::Held::AddsText))]
 pub fn add_made<O: Sink>(
     held: &mut String,
     out: &mut O,
     made: Result<String, AllocError>,
 ) -> Result<(), ReportFault>
     ensures text { (line : List ℕ) → IfOk made (λ text. string_bytes text ≡ line)
-        → Adds (O.wrote out.old) (string_bytes held.old) result (O.wrote out.new) (string_bytes held.new) line }
+        → AddsText (O.wrote out.old) (string_bytes held.old) result (O.wrote out.new) (string_bytes held.new) line }
     ensures cause { HasCauseOf ReportFault.Failed (O.faults out.old) (O.faults out.new) result }
 {
     match made {

@@ -1,7 +1,7 @@
 ghost use Rattle.std.specs.Prelude.{◌≡◌, string_bytes};
 ghost use Rattle.image_store.specs.Edge.{PutsText, HasCauseOf};
 ghost use Rattle.history.specs.Setup.{Setup, per_of};
-ghost use Rattle.script_text.specs.Held.{Adds};
+ghost use Rattle.script_text.specs.Held.{AddsText};
 ghost use Rattle.script_text.specs.Entries.{entries_text};
 ghost use Rattle.script_text.specs.Report.{head_text, body_text, ended_text, ends_text, media_text, givens_of, AreEnds};
 
@@ -83,7 +83,7 @@ pub fn add_entries<O: Sink>(
     held: &mut String,
     out: &mut O,
 ) -> Result<(), ReportFault>
-    ensures text { Adds (O.wrote out.old) (string_bytes held.old) result (O.wrote out.new) (string_bytes held.new) (entries_text per entries.now) }
+    ensures text { AddsText (O.wrote out.old) (string_bytes held.old) result (O.wrote out.new) (string_bytes held.new) (entries_text per entries.now) }
     ensures cause { HasCauseOf ReportFault.Failed (O.faults out.old) (O.faults out.new) result }
 {
     for (place, entry) in entries.iter().enumerate() {
@@ -101,7 +101,7 @@ fn add_tokens<O: Sink>(
     held: &mut String,
     out: &mut O,
 ) -> Result<(), ReportFault>
-    ensures text { Adds (O.wrote out.old) (string_bytes held.old) result (O.wrote out.new) (string_bytes held.new) (ends_text ends.now) }
+    ensures text { AddsText (O.wrote out.old) (string_bytes held.old) result (O.wrote out.new) (string_bytes held.new) (ends_text ends.now) }
     ensures cause { HasCauseOf ReportFault.Failed (O.faults out.old) (O.faults out.new) result }
 {
     for (token, end) in ends.iter().enumerate() {
@@ -119,7 +119,7 @@ fn add_media<O: Sink>(
     held: &mut String,
     out: &mut O,
 ) -> Result<(), ReportFault>
-    ensures text { Adds (O.wrote out.old) (string_bytes held.old) result (O.wrote out.new) (string_bytes held.new) (media_text media.now) }
+    ensures text { AddsText (O.wrote out.old) (string_bytes held.old) result (O.wrote out.new) (string_bytes held.new) (media_text media.now) }
     ensures cause { HasCauseOf ReportFault.Failed (O.faults out.old) (O.faults out.new) result }
 {
     for (place, medium) in media.iter().enumerate() {
