@@ -1,0 +1,3 @@
+pub mod EventWord
+pub mod Rule
+pub mod Ends
