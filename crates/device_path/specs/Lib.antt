@@ -1,0 +1,3 @@
+pub mod Node
+pub mod Text
+pub mod Reading
