@@ -7,7 +7,6 @@ use Rattle.std.specs.Prelude.{◌==◌, if◌then◌else◌, replicate, slice_in
 use Rattle.std.specs.Int.{w16, w32, w64, to_le_bytes, from_le_bytes}
 use Rattle.std.specs.List.{concat, list_all}
 use Rattle.std.proofs.lemmas.Nat.{le_bytes_2, le_bytes_4, le_bytes_8, from_le_bytes-to_le_bytes_4, from_le_bytes-to_le_bytes_8}
-use Rattle.uuid.specs.Parts.{swap_fields}
 use Rattle.uuid.proofs.RoundTrips.{swap_twice}
 use Rattle.byte_lists.specs.Patching.{patch}
 use Rattle.device_path.specs.declared.hard_drive.Format.{Format}
@@ -15,7 +14,7 @@ use Rattle.device_path.specs.declared.hard_drive.Format.TheVariants as formats
 use Rattle.device_path.specs.declared.hard_drive.Sign.{Sign}
 use Rattle.device_path.specs.declared.hard_drive.Sign.TheVariants as signs
 use Rattle.device_path.specs.declared.hard_drive.HardDrive.{HardDrive}
-use Rattle.device_path.specs.Node.{IsHardDrive, IsSign, IsNodeOf, PassesAll, fault_of, fields_of, format_code, sign_code, sign_bytes, sign_of, node_fields, has_length, has_kind, has_format, has_sign_type, has_signature}
+use Rattle.device_path.specs.Node.{node_bytes, IsHardDrive, IsSign, IsNodeOf, PassesAll, fault_of, fields_of, format_code, sign_code, sign_bytes, sign_of, node_fields, has_length, has_kind, has_format, has_sign_type, has_signature}
 use Rattle.device_path.proofs.Parts.{parts, concat-parts, get_or-part, part-one, part-two, length-part, zeros}
 
 -- the fields put into 42 zero bytes, one after another
@@ -147,7 +146,7 @@ same-sign bytes small long known holds =
 
 -- bytes that passed every test are the node of their fields
 pub IsNodeOf-fields_of : (bytes : List ℕ) → ((i : ℕ) → get_or bytes i 0 < 256) → length bytes ≡ 42 → PassesAll bytes → IsNodeOf (fields_of bytes) bytes
-unfolding IsNodeOf fields_of
+unfolding IsNodeOf node_bytes fields_of
 IsNodeOf-fields_of bytes small long passes =
     let counts : List ℕ = 1 ∷ 1 ∷ 2 ∷ 4 ∷ 8 ∷ 8 ∷ 16 ∷ 1 ∷ 1 ∷ [] in
     let kind = kind-is bytes passes.kind_holds in

@@ -1,5 +1,5 @@
 -- What is read back from the pieces of a text.
-use Rattle.std.proofs.Common.{◌≡◌, ◌≢◌, ℕ, ◌+◌, ◌^◌, ◌<◌, ◌≤◌, List, [], ◌∷◌, ◌++◌, length, get_or, Result, Ok, if◌then◌else◌, refl, sym, ap, ◌∙◌, arith}
+use Rattle.std.proofs.Common.{◌≡◌, ℕ, ◌^◌, ◌<◌, ◌≤◌, List, [], ◌∷◌, length, get_or, Result, Ok, if◌then◌else◌, refl, sym, ap, ◌∙◌, arith}
 use Rattle.std.specs.List.{AllByRecursion, concat}
 use Rattle.std.specs.Str.{IsAscii}
 use Rattle.std.specs.Str.Parse.{IsNumeral, ParsesUnsigned, digits_value}
@@ -15,7 +15,7 @@ use Rattle.device_path.specs.declared.hard_drive.Sign.{Sign}
 use Rattle.device_path.specs.declared.hard_drive.Sign.TheVariants as signs
 use Rattle.device_path.specs.declared.hard_drive.HardDrive.{HardDrive}
 use Rattle.device_path.specs.Node.{IsHardDrive, IsSign}
-use Rattle.device_path.specs.Text.{IsTextOf, block_text, format_text, sign_text, text_pieces}
+use Rattle.device_path.specs.Text.{text_of, IsTextOf, block_text, format_text, sign_text, text_pieces}
 use Rattle.device_path.specs.Reading.{TellsNumber}
 use Rattle.device_path.proofs.Plain.{block-tells, decimal-plain, digits-plain, eight-tells, format-plain, plain-ascii, plain-at, sign-plain, tells-plain}
 
@@ -61,7 +61,7 @@ concat-ascii [] all = IsAscii-nil
 concat-ascii (piece ∷ pieces) all = IsAscii-append piece (concat pieces) all.0 (concat-ascii pieces all.1)
 
 pub text-ascii : (node : HardDrive) (text : List ℕ) → IsHardDrive node → IsTextOf node text → IsAscii text
-unfolding IsTextOf
+unfolding IsTextOf text_of
 text-ascii node text can is =
     let head = IsAscii-cons 72 (68 ∷ 40 ∷ []) (omega arith) (IsAscii-cons 68 (40 ∷ []) (omega arith) (IsAscii-cons 40 [] (omega arith) IsAscii-nil)) in
     let comma = IsAscii-cons 44 [] (omega arith) IsAscii-nil in

@@ -56,9 +56,13 @@ node_fields node =
     ∷ (sign_code node.sign ∷ [])
     ∷ []
 
+-- the node, 42 bytes
+unfoldable pub node_bytes : HardDrive → List ℕ
+node_bytes node = concat (node_fields node)
+
 -- these bytes are the node
 unfoldable pub IsNodeOf : HardDrive → List ℕ → Type 0
-IsNodeOf node bytes = bytes ≡ concat (node_fields node)
+IsNodeOf node bytes = bytes ≡ node_bytes node
 
 -- there are 42 bytes, and they say so
 unfoldable pub has_length : List ℕ → Bool

@@ -48,6 +48,10 @@ text_pieces node =
     ∷ codes ")"
     ∷ []
 
+-- the text
+unfoldable pub text_of : HardDrive → List ℕ
+text_of node = concat (text_pieces node)
+
 -- these bytes are the text
 unfoldable pub IsTextOf : HardDrive → List ℕ → Type 0
-IsTextOf node text = text ≡ concat (text_pieces node)
+IsTextOf node text = text ≡ text_of node

@@ -1,9 +1,9 @@
-use Rattle.device_path.specs.Node.{IsNodeOf}
+use Rattle.device_path.specs.Node.{node_bytes, IsNodeOf}
 use Rattle.device_path.proofs.Nodes.{put}
 use Rattle.device_path.proofs.node.write_node.Goals as goal
 
 pub returns : goal.returns
-unfolding IsNodeOf
+unfolding IsNodeOf node_bytes
 returns c = rw (
   c.patch_into-6.ensures,
   c.patch_into-5.ensures,

@@ -1,11 +1,11 @@
 use Rattle.std.proofs.Common.{[], ◌∷◌, arith}
 use Rattle.std.specs.Fmt.{decimal}
-use Rattle.device_path.specs.Text.{IsTextOf, block_text, format_text, sign_text}
+use Rattle.device_path.specs.Text.{text_of, IsTextOf, block_text, format_text, sign_text}
 use Rattle.device_path.proofs.Plain.{block-tells, decimal-plain, format-plain, head-plain, plain-lacks, sign-plain, tells-plain}
 use Rattle.device_path.proofs.text.candidate.Goals as goal
 
 pub returns : goal.returns
-unfolding IsTextOf
+unfolding IsTextOf text_of
 returns c = λ node can is.
     let start-tells = block-tells node.start can.start in
     let size-tells = block-tells node.size can.size in

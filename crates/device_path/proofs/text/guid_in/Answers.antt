@@ -1,4 +1,4 @@
-use Rattle.std.proofs.Common.{◌≡◌, inl, refl, ap, sym, ◌∙◌}
+use Rattle.std.proofs.Common.{inl, refl, ap, sym, ◌∙◌}
 use Rattle.uuid.specs.Text.{lower, parsed}
 use Rattle.uuid.proofs.RoundTrips.{parse_gives, parses_hyphenated}
 use Rattle.device_path.proofs.text.guid_in.Goals as goal

@@ -1,4 +1,4 @@
-use Rattle.std.proofs.Common.{[], ◌∷◌, refl, sym, arith}
+use Rattle.std.proofs.Common.{[], ◌∷◌, refl}
 use Rattle.device_path.proofs.Plain.{zero-lacks-x}
 use Rattle.device_path.proofs.ReadBack.{parse-hexadecimal}
 use Rattle.device_path.proofs.text.hexadecimal_in.Goals as goal

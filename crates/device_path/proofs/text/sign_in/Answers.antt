@@ -1,4 +1,4 @@
-use Rattle.std.proofs.Common.{◌≡◌, [], ◌∷◌, refl, sym, ◌∙◌, arith}
+use Rattle.std.proofs.Common.{[], ◌∷◌, sym, ◌∙◌, arith}
 use Rattle.std.proofs.lemmas.Slice.Eq.{bytes_eq-Decides}
 use Rattle.std.proofs.lemmas.Result.{Ok-from_Ok_iff}
 use Rattle.device_path.proofs.ReadBack.{sign-none, sign-mbr}

@@ -1,6 +1,6 @@
-use Rattle.std.proofs.Common.{◌≡◌, ◌∙◌, sym, ap, Some}
+use Rattle.std.proofs.Common.{◌≡◌, ap, Some}
 use Rattle.std.specs.Fmt.{styled_digits_output}
-use Rattle.device_path.specs.Text.{eight_digits, hexadecimal, sign_text}
+use Rattle.device_path.specs.Text.{eight_digits, hexadecimal}
 use Rattle.device_path.proofs.Texts.{padded-eight}
 use Rattle.device_path.proofs.text.SignDisplay.fmt.Goals as goal
 
