@@ -1,0 +1,4 @@
+pub mod LinkedListsLemmas
+mod Places
+mod Paths
+mod Calls

@@ -1,0 +1,5 @@
+use Rattle.index_links.proofs.Places.{read-before}
+use Rattle.index_links.proofs.rings.Rings.before.Goals as goal
+
+pub returns : goal.returns
+returns c = read-before c.self.inside.links.items c.args.self.now c.args.place c.index.result.now c.self.view_is c.requires c.index.ensures
