@@ -1,0 +1,6 @@
+mod Walks
+mod Moves
+mod Steps
+mod Views
+mod Found
+mod Calls

@@ -1,0 +1,4 @@
+pub mod Works
+pub mod Gates
+pub mod Sets
+pub mod Back
