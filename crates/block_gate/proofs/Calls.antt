@@ -1,17 +1,17 @@
 -- What each call of the gates does, from what its parts did.
-use Rattle.std.proofs.Common.{◌≡◌, ℕ, zero, suc, ◌+◌, ◌-◌, ◌<◌, ◌≤◌, Bool, true, false, cond, not, ◌||◌, ◌&&◌, List, [], ◌∷◌, ◌++◌, length, map, drop, slice_get, get_or, set, replicate, Option, None, Some, is_some, option_map, Result, Ok, Err, OnErr, eqb, inl, inr, ◌⊎◌, eq-eqb, refl, sym, ◌∙◌, ap, subst, arith}
+use Rattle.std.proofs.Common.{◌≡◌, ℕ, zero, suc, ◌+◌, ◌-◌, ◌<◌, ◌≤◌, Bool, true, false, cond, not, List, [], ◌∷◌, ◌++◌, length, drop, slice_get, get_or, set, replicate, None, Some, Result, Ok, Err, OnErr, eqb, inl, inr, eq-eqb, refl, sym, ◌∙◌, ap, subst, arith}
 use Rattle.std.specs.List.{refill, length_refill, list_any}
-use Rattle.std.proofs.lemmas.Bool.{cases_eq, cases_lt, cases_Bool, or_cases, or_parts, or_left, or_right, and_right, eqb-true, eqb-false, ne_eqb, false_from_ne_true}
+use Rattle.std.proofs.lemmas.Bool.{cases_eq, cases_Bool, or_cases, or_right, and_right, eqb-true, ne_eqb, false_from_ne_true}
 use Rattle.std.proofs.lemmas.List.{length-set, get_or-set_same, set-get_or, length-replicate, get_or-replicate, length-drop}
-use Rattle.index_links.specs.Lists.{LinkedLists, list_at, is_among, is_listed, without, pushed, unlinked, AreApart}
-use Rattle.index_links.proofs.LinkedListsLemmas.{among-at, among-append, listed-in, past-lists, list-exists}
-use Rattle.block_gate.specs.Gates.{Gate, Gates, gate_of, is_block_held, without_ticket, turned, is_lent, is_out, is_ours, holding, lending, releasing, taking, refitted, filled, idle_gates, AreSound}
+use Rattle.index_links.specs.Lists.{LinkedLists, list_at, is_among, is_listed, pushed, unlinked, AreApart}
+use Rattle.index_links.proofs.LinkedListsLemmas.{among-at, among-append, listed-in, list-exists}
+use Rattle.block_gate.specs.Gates.{Gate, Gates, gate_of, is_block_held, is_lent, is_out, is_ours, holding, lending, releasing, taking, refitted, filled, idle_gates}
 use Rattle.block_gate.specs.Works.{Lent}
 use Rattle.block_gate.specs.Sets.{gate_at, gates_in, tickets_in, gates_of, is_so, AreSets}
-use Rattle.block_gate.proofs.Moves.{gate-here, gate-other, ticket-among}
-use Rattle.block_gate.proofs.Steps.{IsMove, relinked, IsKept, kept-set, kept-all, Fits, sets-moved, sets-turned, sound-of}
-use Rattle.block_gate.proofs.Views.{inside-of, fits-new, shows-held, shows-lent, not-gone, shows-in, fits-free, shows-home, shows-refitted, fits-gone, shows-released, gates-eq}
-use Rattle.block_gate.proofs.Found.{held-is, gone-is, free-is, size-is, read-set, tickets-long}
+use Rattle.block_gate.proofs.Moves.{gate-here, gate-other}
+use Rattle.block_gate.proofs.Steps.{IsMove, relinked, IsKept, kept-set, kept-all, Fits, sets-moved, sets-turned}
+use Rattle.block_gate.proofs.Views.{inside-of, fits-new, shows-held, shows-lent, shows-in, fits-free, shows-home, shows-refitted, fits-gone, shows-released, gates-eq}
+use Rattle.block_gate.proofs.Found.{gone-is, read-set, tickets-long}
 use Rattle.block_gate.proofs.Walks.{list-short}
 
 -- the work of a free set is in

@@ -1,9 +1,9 @@
 -- What a search among the sets found.
-use Rattle.std.proofs.Common.{◌≡◌, ℕ, zero, suc, ◌+◌, ◌-◌, ◌<◌, ◌≤◌, Bool, true, false, not, ◌||◌, ◌&&◌, List, [], ◌∷◌, ◌++◌, length, map, get_or, Option, None, Some, is_some, option_map, eqb, nat_le, nat_lt, inl, inr, IfSome, eq-eqb, refl, sym, ◌∙◌, ap, subst, arith}
+use Rattle.std.proofs.Common.{◌≡◌, ℕ, suc, ◌+◌, Bool, true, false, ◌||◌, ◌&&◌, List, [], ◌∷◌, length, get_or, Option, None, Some, is_some, option_map, eqb, nat_le, nat_lt, inl, inr, IfSome, eq-eqb, refl, sym, ◌∙◌, ap, subst, arith}
 use Rattle.std.specs.List.{find, filter, list_any}
 use Rattle.std.proofs.lemmas.Bool.{cases_Bool, or_left, or_right, false_from_ne_true}
 use Rattle.std.proofs.lemmas.Bool.Decides.{nat_tests}
-use Rattle.index_links.specs.Lists.{LinkedLists, list_at, is_among, AreApart}
+use Rattle.index_links.specs.Lists.{LinkedLists, list_at, is_among}
 use Rattle.block_gate.specs.declared.finding.Sought.TheVariants.{Ticket, Blocks}
 use Rattle.block_gate.specs.Gates.{Gate, Gates, gate_of, is_block_held, is_range_held}
 use Rattle.block_gate.specs.Sets.{gate_at, gates_in, tickets_in, gates_of, is_sought, is_so, AreSets}

@@ -1,3 +1,4 @@
+pub mod GatesLemmas
 mod Walks
 mod Moves
 mod Steps

@@ -1,12 +1,11 @@
 -- What a set's move from one list to another, or a change of a set, makes of the gates.
-use Rattle.std.proofs.Common.{◌≡◌, ℕ, zero, suc, ◌+◌, ◌-◌, ◌<◌, ◌≤◌, Bool, true, false, cond, not, ◌||◌, List, [], ◌∷◌, ◌++◌, length, map, drop, slice_get, get_or, set, Option, None, Some, is_some, option_map, eqb, inl, inr, eq-eqb, refl, sym, ◌∙◌, ap, subst, arith}
-use Rattle.std.specs.List.{find, filter, list_any, AllByRecursion, IsDistinct}
-use Rattle.std.proofs.lemmas.Bool.{cases_eq, cases_Bool, ne_eqb, eqb-true, eqb-false, or_cases, or_left, or_right, or_parts, false_from_ne_true}
-use Rattle.std.proofs.lemmas.List.{get_or-set_same, get_or-set_other, length-set, length-append, map-append}
-use Rattle.index_links.specs.Lists.{LinkedLists, list_at, is_among, is_listed, without, pushed, unlinked, AreApart}
-use Rattle.index_links.proofs.LinkedListsLemmas.{pushed-here, pushed-other, unlinked-at, long-unlinked, long-pushed, nodes-unlinked, nodes-pushed, among-append, listed-in}
-use Rattle.block_gate.specs.Gates.{Gate, Gates, gate_of, without_ticket, turned, is_lent, is_out, holding, lending, releasing, taking, refitted, AreSound}
-use Rattle.block_gate.specs.Sets.{gate_at, gates_in, tickets_in, gates_of, AreSets}
+use Rattle.std.proofs.Common.{◌≡◌, ℕ, ◌-◌, ◌<◌, Bool, true, false, not, ◌||◌, List, [], ◌∷◌, ◌++◌, length, drop, slice_get, set, None, Some, eqb, inl, inr, eq-eqb, refl, sym, ◌∙◌, ap, subst, arith}
+use Rattle.std.specs.List.{filter, list_any, AllByRecursion, IsDistinct}
+use Rattle.std.proofs.lemmas.Bool.{cases_eq, cases_Bool, ne_eqb, eqb-true, eqb-false, or_cases, or_left, or_right, or_parts}
+use Rattle.std.proofs.lemmas.List.{get_or-set_same, get_or-set_other}
+use Rattle.index_links.specs.Lists.{is_among, without}
+use Rattle.block_gate.specs.Gates.{Gate, gate_of, without_ticket, turned}
+use Rattle.block_gate.specs.Sets.{gate_at, gates_in, tickets_in}
 
 -- ---- lists of nodes
 

@@ -1,13 +1,12 @@
 -- The gates after each step, and that they stay in order.
-use Rattle.std.proofs.Common.{◌≡◌, ℕ, zero, suc, ◌+◌, ◌-◌, ◌<◌, ◌≤◌, Bool, true, false, cond, not, ◌||◌, List, [], ◌∷◌, ◌++◌, length, map, drop, slice_get, set, Option, None, Some, is_some, option_map, eqb, inl, inr, ◌⊎◌, refl, sym, ◌∙◌, ap, subst, arith}
-use Rattle.std.specs.List.{IsDistinct}
-use Rattle.std.proofs.lemmas.Bool.{cases_eq, cases_lt, cases_Bool, or_cases, eqb-true, false_from_ne_true}
-use Rattle.std.proofs.lemmas.List.{length-set, length-append}
+use Rattle.std.proofs.Common.{◌≡◌, ℕ, ◌<◌, Bool, true, false, ◌||◌, List, [], ◌∷◌, ◌++◌, length, set, Option, None, Some, eqb, inl, inr, ◌⊎◌, refl, sym, ◌∙◌, ap, subst, arith}
+use Rattle.std.proofs.lemmas.Bool.{cases_eq, or_cases, eqb-true, false_from_ne_true}
+use Rattle.std.proofs.lemmas.List.{length-set}
 use Rattle.index_links.specs.Lists.{LinkedLists, list_at, is_among, is_listed, without, pushed, unlinked, AreApart}
-use Rattle.index_links.proofs.LinkedListsLemmas.{pushed-here, pushed-other, unlinked-at, long-unlinked, long-pushed, nodes-unlinked, nodes-pushed, among-append, among-at, listed-in, past-lists}
-use Rattle.block_gate.specs.Gates.{Gate, Gates, gate_of, without_ticket, turned, is_lent, is_out, holding, lending, releasing, taking, refitted, AreSound}
-use Rattle.block_gate.specs.Sets.{gate_at, gates_in, tickets_in, gates_of, AreSets}
-use Rattle.block_gate.proofs.Moves.{without-absent, among-from_without, length-without, without-first, gate-here, gate-other, gates-same, tickets-same, gates-append, tickets-append, IsOwner, gates-without, tickets-without, gates-turned, gate-found, gate-absent, ticket-found, ticket-among}
+use Rattle.index_links.proofs.LinkedListsLemmas.{pushed-here, pushed-other, unlinked-at, long-unlinked, long-pushed, nodes-unlinked, nodes-pushed, among-append, listed-in}
+use Rattle.block_gate.specs.Gates.{Gate, gate_of, AreSound}
+use Rattle.block_gate.specs.Sets.{gate_at, gates_in, gates_of, AreSets}
+use Rattle.block_gate.proofs.Moves.{without-absent, among-from_without, gate-here, gate-other, gate-found, ticket-found}
 
 -- ---- a node goes from list a to the end of list b
 

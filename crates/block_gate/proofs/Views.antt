@@ -1,15 +1,14 @@
 -- What each step shows of the gates.
-use Rattle.std.proofs.Common.{◌≡◌, ℕ, zero, suc, ◌+◌, ◌-◌, ◌<◌, ◌≤◌, Bool, true, false, cond, not, ◌||◌, ◌&&◌, List, [], ◌∷◌, ◌++◌, length, map, drop, slice_get, set, Option, None, Some, is_some, option_map, eqb, inl, inr, ◌⊎◌, eq-eqb, refl, sym, ◌∙◌, ap, subst, arith}
-use Rattle.std.specs.List.{IsDistinct, list_any, refill, find}
-use Rattle.std.proofs.lemmas.Bool.{cases_eq, cases_lt, cases_Bool, or_cases, or_parts, eqb-true, eqb-false, ne_eqb, false_from_ne_true}
-use Rattle.std.proofs.lemmas.List.{length-set, length-append}
-use Rattle.index_links.specs.Lists.{LinkedLists, list_at, is_among, is_listed, without, pushed, unlinked, AreApart}
-use Rattle.index_links.proofs.LinkedListsLemmas.{among-at, past-lists, list-exists}
-use Rattle.block_gate.specs.Gates.{Gate, Gates, gate_of, is_block_held, without_ticket, turned, is_lent, is_out, is_ours, holding, lending, releasing, taking, refitted, filled, AreSound}
-use Rattle.block_gate.specs.Works.{Lent}
+use Rattle.std.proofs.Common.{◌≡◌, ℕ, ◌+◌, ◌<◌, Bool, true, false, cond, List, [], ◌∷◌, ◌++◌, length, map, drop, slice_get, set, None, Some, eqb, inl, inr, refl, sym, ◌∙◌, ap, subst, arith}
+use Rattle.std.specs.List.{list_any}
+use Rattle.std.proofs.lemmas.Bool.{cases_eq, cases_Bool, or_cases, or_parts, eqb-true, eqb-false, false_from_ne_true}
+use Rattle.std.proofs.lemmas.List.{length-append}
+use Rattle.index_links.specs.Lists.{LinkedLists, list_at, is_among, without, AreApart}
+use Rattle.index_links.proofs.LinkedListsLemmas.{among-at, list-exists}
+use Rattle.block_gate.specs.Gates.{Gate, Gates, gate_of, is_block_held, turned, is_lent, holding, lending, releasing, taking, refitted}
 use Rattle.block_gate.specs.Sets.{gate_at, gates_in, tickets_in, gates_of, AreSets}
-use Rattle.block_gate.proofs.Moves.{without-absent, among-from_without, length-without, without-first, gate-here, gate-other, gates-same, tickets-same, gates-append, tickets-append, IsOwner, gates-without, tickets-without, gates-turned, gate-found, gate-absent, ticket-found, ticket-among}
-use Rattle.block_gate.proofs.Steps.{IsMove, absent, IsKept, kept-set, kept-all, Fits, sets-moved, sets-turned}
+use Rattle.block_gate.proofs.Moves.{without-absent, among-from_without, length-without, without-first, gates-same, tickets-same, gates-append, tickets-append, IsOwner, gates-without, tickets-without, gates-turned, gate-absent, ticket-found, ticket-among}
+use Rattle.block_gate.proofs.Steps.{IsMove, IsKept, kept-set, Fits}
 
 pub gates-eq : (a b : Gates) → a.size ≡ b.size → a.held ≡ b.held → a.gone ≡ b.gone → a.free ≡ b.free → a ≡ b
 gates-eq a b size held gone free =

@@ -1,6 +1,6 @@
 -- A walk along a list of sets: what is passed, and what is still to come.
-use Rattle.std.proofs.Common.{◌≡◌, ℕ, zero, suc, ◌+◌, ◌<◌, ◌≤◌, Bool, true, false, cond, List, [], ◌∷◌, length, map, drop, slice_get, get_or, Option, None, Some, min, option_map, refl, sym, ◌∙◌, ap, subst, arith}
-use Rattle.std.specs.List.{find, filter, list_any}
+use Rattle.std.proofs.Common.{◌≡◌, ℕ, zero, suc, ◌+◌, ◌<◌, ◌≤◌, Bool, true, false, List, [], ◌∷◌, length, map, drop, slice_get, get_or, Option, None, Some, refl, ◌∙◌, ap, arith}
+use Rattle.std.specs.List.{find, filter}
 use Rattle.std.proofs.lemmas.List.{get_or_default}
 use Rattle.std.proofs.lemmas.Map.Steps.{length-le_from_distinct_below}
 use Rattle.index_links.specs.Lists.{LinkedLists, list_at, is_among, is_listed, AreApart}

@@ -1,5 +1,5 @@
 -- Gates: which tickets hold which blocks, and what each call makes of them (own profile).
-use Rattle.std.specs.Prelude.{◌≡◌, ℕ, ◌+◌, ◌-◌, ◌<◌, ◌≤◌, Bool, true, false, cond, not, ◌&&◌, ◌||◌, eqb, nat_le, nat_lt, List, [], ◌∷◌, ◌++◌, length, map, drop, min, Option, None, Some}
+use Rattle.std.specs.Prelude.{◌≡◌, ℕ, ◌+◌, ◌-◌, Bool, true, false, cond, not, ◌&&◌, ◌||◌, eqb, nat_le, nat_lt, List, [], ◌∷◌, ◌++◌, length, map, drop, min, Option, None, Some}
 use Rattle.std.specs.List.{find, filter, list_any, refill}
 use Rattle.index_links.specs.Lists.{is_among, without}
 use Rattle.block_gate.specs.Works.{Lent}

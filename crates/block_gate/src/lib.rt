@@ -11,3 +11,6 @@ mod work;
 pub use back::Back;
 pub use gates::Gates;
 pub use work::Work;
+
+#[cfg(test)]
+mod tests;

@@ -1,10 +1,7 @@
-use Rattle.std.proofs.Common.{◌≡◌, ℕ, ◌+◌, ◌<◌, ◌≤◌, suc, Bool, true, false, Some, option_map, slice_get, drop, length, arith, ap, sym, ◌∙◌}
-use Rattle.std.specs.List.{filter}
+use Rattle.std.proofs.Common.{◌≡◌, ◌+◌, suc, slice_get, arith, ap, sym, ◌∙◌}
 use Rattle.block_gate.proofs.finding.count_sets.Goals.{then-is_so, else-is_so}
 use Rattle.index_links.specs.Lists.{list_at}
-use Rattle.index_links.proofs.LinkedListsLemmas.{among-at}
-use Rattle.block_gate.specs.Gates.{Gate, lesser, least_ticket}
-use Rattle.block_gate.specs.Sets.{gate_at, gates_in, is_sought, is_so}
+use Rattle.block_gate.specs.Sets.{gate_at, is_so}
 use Rattle.block_gate.proofs.Walks.{read-is, drop-none, drop-past, list-short, node-inside, node-listed, count-later, count-past, count-none}
 use Rattle.block_gate.proofs.finding.count_sets.Goals as goal
 

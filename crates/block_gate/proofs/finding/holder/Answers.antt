@@ -1,4 +1,4 @@
-use Rattle.std.proofs.Common.{◌≡◌, ◌-◌, ◌∙◌, true, false, None, is_some, ap, sym, refl}
+use Rattle.std.proofs.Common.{◌≡◌, ◌∙◌, true, false, None, is_some, ap, sym, refl}
 use Rattle.index_links.specs.Lists.{list_at}
 use Rattle.block_gate.specs.Gates.{gate_of}
 use Rattle.block_gate.specs.Sets.{gates_in}

@@ -1,8 +1,7 @@
-use Rattle.std.proofs.Common.{◌≡◌, ℕ, ◌+◌, ◌<◌, ◌≤◌, suc, Bool, true, false, Some, option_map, drop, length, arith, ap, refl, sym, ◌∙◌}
+use Rattle.std.proofs.Common.{◌≡◌, ◌+◌, suc, drop, arith, ap, refl, sym, ◌∙◌}
 use Rattle.index_links.specs.Lists.{list_at}
-use Rattle.index_links.proofs.LinkedListsLemmas.{among-at}
 use Rattle.block_gate.specs.Gates.{Gate, lesser, least_ticket}
-use Rattle.block_gate.specs.Sets.{gate_at, gates_in, is_sought, is_so}
+use Rattle.block_gate.specs.Sets.{gate_at, gates_in}
 use Rattle.block_gate.proofs.Walks.{read-is, drop-none, drop-past, list-short, node-inside, node-listed, joined, least-later, least-none}
 use Rattle.block_gate.proofs.finding.least_of.Goals as goal
 

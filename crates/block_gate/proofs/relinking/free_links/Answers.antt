@@ -1,4 +1,4 @@
-use Rattle.std.proofs.Common.{◌≡◌, ◌+◌, ◌-◌, ◌∙◌, ◌∷◌, [], ◌++◌, true, false, length, arith, ap, sym}
+use Rattle.std.proofs.Common.{◌≡◌, ◌+◌, ◌∙◌, ◌∷◌, [], ◌++◌, true, false, length, arith, ap, sym}
 use Rattle.index_links.specs.Lists.{list_at, is_among, pushed, empty_lists}
 use Rattle.index_links.proofs.LinkedListsLemmas.{pushed-here, pushed-other, long-pushed, nodes-pushed}
 use Rattle.std.proofs.Common.{length-append}

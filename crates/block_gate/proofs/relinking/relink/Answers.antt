@@ -1,4 +1,4 @@
-use Rattle.std.proofs.Common.{◌≡◌, ◌-◌, false, length, arith, ap, sym, subst}
+use Rattle.std.proofs.Common.{◌≡◌, false, length, arith, ap, sym, subst}
 use Rattle.index_links.specs.Lists.{LinkedLists, is_listed}
 use Rattle.index_links.proofs.LinkedListsLemmas.{long-unlinked, nodes-unlinked}
 use Rattle.block_gate.proofs.Steps.{unlisted}

@@ -1,4 +1,4 @@
-use Rattle.std.proofs.Common.{◌≡◌, ◌-◌, ◌∙◌, Some, option_map, ap, sym, subst}
+use Rattle.std.proofs.Common.{◌≡◌, ◌∙◌, Some, option_map, ap, sym, subst}
 use Rattle.index_links.specs.Lists.{list_at}
 use Rattle.block_gate.specs.Gates.{Gate, gate_of, AreSound}
 use Rattle.block_gate.specs.Sets.{gate_at}

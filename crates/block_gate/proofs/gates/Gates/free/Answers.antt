@@ -1,4 +1,4 @@
-use Rattle.std.proofs.Common.{◌-◌, ◌∙◌, false, length, ap, subst}
+use Rattle.std.proofs.Common.{◌∙◌, false, length, ap, subst}
 use Rattle.std.specs.List.{filter}
 use Rattle.index_links.specs.Lists.{list_at}
 use Rattle.block_gate.specs.Gates.{AreSound}

@@ -1,4 +1,4 @@
-use Rattle.std.proofs.Common.{◌≡◌, ◌+◌, ◌-◌, ◌∙◌, true, false, None, length, ap, sym, subst, refl, set}
+use Rattle.std.proofs.Common.{◌≡◌, ◌∙◌, true, false, None, length, ap, sym, subst, refl, set}
 use Rattle.index_links.specs.Lists.{list_at, is_among}
 use Rattle.block_gate.specs.Gates.{Gate, gate_of, is_lent, taking, AreSound}
 use Rattle.block_gate.specs.Back.{IsGivenBack}

@@ -1,4 +1,4 @@
-use Rattle.std.proofs.Common.{◌≡◌, ◌-◌, ◌∙◌, length, arith, ap, sym, subst, refl, set}
+use Rattle.std.proofs.Common.{◌≡◌, ◌∙◌, length, arith, ap, sym, subst, refl, set}
 use Rattle.std.specs.List.{refill}
 use Rattle.block_gate.specs.Gates.{Gate, holding, filled}
 use Rattle.block_gate.specs.Sets.{gates_of, AreSets}

@@ -1,4 +1,4 @@
-use Rattle.std.proofs.Common.{◌-◌, ◌∙◌, ap}
+use Rattle.std.proofs.Common.{◌∙◌, ap}
 use Rattle.index_links.specs.Lists.{list_at}
 use Rattle.block_gate.proofs.Found.{held-is, range-found}
 use Rattle.block_gate.specs.Gates.{is_range_held}

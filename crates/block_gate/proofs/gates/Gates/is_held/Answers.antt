@@ -1,4 +1,4 @@
-use Rattle.std.proofs.Common.{◌-◌, ◌∙◌}
+use Rattle.std.proofs.Common.{◌∙◌}
 use Rattle.block_gate.proofs.Found.{range-one}
 use Rattle.block_gate.proofs.gates.Gates.is_held.Goals as goal
 

@@ -1,4 +1,4 @@
-use Rattle.std.proofs.Common.{◌-◌, ◌∙◌, ap}
+use Rattle.std.proofs.Common.{◌∙◌, ap}
 use Rattle.index_links.specs.Lists.{list_at}
 use Rattle.block_gate.specs.Gates.{least_ticket}
 use Rattle.block_gate.specs.Sets.{gates_in}

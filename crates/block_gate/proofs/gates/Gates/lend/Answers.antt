@@ -1,4 +1,4 @@
-use Rattle.std.proofs.Common.{◌≡◌, ◌-◌, ◌∙◌, true, Some, is_some, length, arith, ap, sym, subst, set}
+use Rattle.std.proofs.Common.{◌≡◌, ◌∙◌, true, Some, is_some, length, arith, ap, sym, subst, set}
 use Rattle.index_links.specs.Lists.{list_at}
 use Rattle.block_gate.specs.Gates.{Gate, gate_of, is_lent}
 use Rattle.block_gate.specs.Sets.{gate_at, gates_in}

@@ -1,4 +1,3 @@
-use Rattle.std.proofs.Common.{◌-◌}
 use Rattle.block_gate.proofs.Steps.{sound-of}
 use Rattle.block_gate.proofs.Calls.{starts}
 use Rattle.block_gate.proofs.gates.Gates.make.Goals as goal

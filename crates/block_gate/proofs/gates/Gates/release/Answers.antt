@@ -1,4 +1,4 @@
-use Rattle.std.proofs.Common.{◌≡◌, ◌-◌, ◌∙◌, true, Some, is_some, ap, sym, subst}
+use Rattle.std.proofs.Common.{◌≡◌, ◌∙◌, true, Some, is_some, ap, sym, subst}
 use Rattle.index_links.specs.Lists.{list_at}
 use Rattle.block_gate.specs.Gates.{gate_of}
 use Rattle.block_gate.specs.Sets.{gate_at, gates_in}

@@ -1,4 +1,4 @@
-use Rattle.std.proofs.Common.{◌≡◌, ℕ, length, arith, ap, refl, ◌∙◌}
+use Rattle.std.proofs.Common.{◌≡◌, length, arith, ap, refl, ◌∙◌}
 use Rattle.std.specs.List.{refill}
 use Rattle.std.specs.Option.{is_none}
 use Rattle.std.specs.Vec.{vec_len}

@@ -1,4 +1,4 @@
-use Rattle.std.proofs.Common.{◌≡◌, ℕ, length, take, arith, ap, refl, ◌∙◌}
+use Rattle.std.proofs.Common.{◌≡◌, length, take, arith, ap, refl, ◌∙◌}
 use Rattle.std.specs.List.{refill}
 use Rattle.std.specs.Vec.{vec_len}
 use Rattle.block_gate.specs.Works.{Lent, rewritten}

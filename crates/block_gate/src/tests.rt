@@ -1,0 +1,88 @@
+//! The worked rows, with values that were worked out by hand.
+#![tactic(auto, unfolding(crate::specs::Gates::gate_of, crate::specs::Gates::is_block_held, crate::specs::Gates::is_lent, crate::specs::Gates::idle_gates, crate::specs::Gates::holding, crate::specs::Gates::lending, crate::specs::Gates::releasing, crate::specs::Gates::turned, crate::specs::Gates::without_ticket, index_links::specs::Lists::is_among))]
+
+use crate::{Back, Gates, Work};
+use std::test::Fail;
+
+// Whether a work was taken; another one is discarded.
+fn is_home(back: Back) -> bool {
+    match back {
+        Back::Home => true,
+        Back::Foreign(work) => {
+            work.discard();
+            false
+        }
+    }
+}
+
+// A work goes to another thread only where its type can.
+fn moved<T: Send>(value: T) -> T {
+    value
+}
+
+#[test]
+fn merged_work_comes_home(rt: HostRuntime) -> Result<(), Fail> {
+    let mut gates = Gates::make(rt.alloc(), 2, 4)?;
+    gates.hold(7, 0).copy_from_slice(&[1, 2, 3, 4]);
+    assert_eq!(rt; gates.is_held(7), true);
+    assert_eq!(rt; gates.is_held(8), false);
+    assert_eq!(rt; gates.is_any_held(5, 3), true);
+    assert_eq!(rt; gates.is_any_held(5, 2), false);
+    assert_eq!(rt; gates.least_held(), Some(0));
+    assert_eq!(rt; gates.block(0), Some(7));
+    assert_eq!(rt; gates.block(1), None);
+    let mut work: Work = moved(gates.lend(0, 1, &[9, 8]));
+    work.merge();
+    assert_eq!(rt; work.bytes(), [1, 9, 8, 4].as_slice());
+    assert_eq!(rt; gates.copy(0), Some([1, 2, 3, 4].as_slice()));
+    assert_eq!(rt; gates.out(), 1);
+    gates.release(0);
+    assert_eq!(rt; gates.free(), 1);
+    assert_eq!(rt; gates.out(), 1);
+    assert_eq!(rt; is_home(gates.give_back(work)), true);
+    assert_eq!(rt; gates.free(), 2);
+    Ok(())
+}
+
+#[test]
+fn work_of_another_ticket_is_foreign(rt: HostRuntime) -> Result<(), Fail> {
+    let mut gates = Gates::make(rt.alloc(), 1, 2)?;
+    let mut others = Gates::make(rt.alloc(), 1, 2)?;
+    others.hold(7, 5).copy_from_slice(&[8, 9]);
+    assert_eq!(rt; others.free(), 0);
+    match gates.give_back(others.lend(5, 1, &[6])) {
+        Back::Home => assert!(rt; false),
+        Back::Foreign(work) => {
+            assert_eq!(rt; (work.ticket(), work.block(), work.from()), (5, 7, 1));
+            assert_eq!(rt; work.bytes(), [8, 9].as_slice());
+            assert_eq!(rt; work.patch(), [6].as_slice());
+            work.discard();
+        }
+    }
+    Ok(())
+}
+
+#[test]
+fn work_of_another_size_is_foreign(rt: HostRuntime) -> Result<(), Fail> {
+    let mut gates = Gates::make(rt.alloc(), 1, 2)?;
+    gates.hold(7, 0).copy_from_slice(&[1, 2]);
+    gates.lend(0, 0, &[5]).discard();
+    let mut others = Gates::make(rt.alloc(), 1, 4)?;
+    others.hold(7, 0).copy_from_slice(&[1, 2, 3, 4]);
+    assert_eq!(rt; is_home(gates.give_back(others.lend(0, 3, &[6]))), false);
+    Ok(())
+}
+
+#[test]
+fn set_of_a_lost_work_is_refitted(rt: HostRuntime) -> Result<(), Fail> {
+    let mut gates = Gates::make(rt.alloc(), 1, 2)?;
+    gates.hold(7, 0).copy_from_slice(&[1, 2]);
+    gates.lend(0, 0, &[5]).discard();
+    assert_eq!(rt; gates.revoke(0), true);
+    assert_eq!(rt; gates.revoke(0), false);
+    assert_eq!(rt; gates.out(), 1);
+    assert_eq!(rt; gates.refit()?, 1);
+    assert_eq!(rt; gates.out(), 0);
+    assert_eq!(rt; gates.free(), 1);
+    Ok(())
+}
