@@ -2,9 +2,11 @@
 #![tactic(auto)]
 
 mod block_failed;
+mod block_map;
 mod device;
 mod faulty;
 mod mem_medium;
+mod place;
 
 pub use block_failed::BlockFailed;
 pub use device::Medium;

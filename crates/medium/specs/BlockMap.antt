@@ -1,0 +1,22 @@
+-- The blocks that a block map holds.
+use Rattle.std.specs.Prelude.{ℕ, ◌-◌, List, length, slice_get, IsSome, Option}
+use Rattle.std.specs.BTreeMap.{get}
+use Rattle.std.specs.Ordering.{nat_cmp}
+use Rattle.medium.specs.Places.{block_in}
+use Rattle.medium.specs.declared.block_map.BlockMap.{BlockMap}
+
+-- the block with this number, where the map holds it
+abbrev pub block_at : BlockMap → ℕ → Option (List ℕ)
+block_at m b = block_in (get nat_cmp m.places b)
+
+-- the map has a place for this block
+abbrev pub HasPlace : BlockMap → ℕ → Type 0
+HasPlace m b = IsSome (get nat_cmp m.places b)
+
+-- how many blocks it holds
+abbrev pub held_count : BlockMap → ℕ
+held_count m = length m.filled.items
+
+-- the block that came last
+abbrev pub last_of : BlockMap → Option ℕ
+last_of m = slice_get m.filled.items (length m.filled.items - 1)
