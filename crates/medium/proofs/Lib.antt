@@ -1,4 +1,6 @@
 pub mod Held
 pub mod Listed
 pub mod Overlays
+pub mod Restored
 pub mod Sizes
+pub mod Written

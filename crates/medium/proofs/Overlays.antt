@@ -189,3 +189,35 @@ overlay-let_go held other size n bytes b block was none others sized long inside
 
   elsewhere : (q : ℕ) → q < n → q ≢ b → block_over other size (patch bytes (b * size) block) q ≡ block_over held size bytes q
   elsewhere q less apart = rw (others q apart) (ap (unwrap_or (held q)) (apart_blocks q apart))
+
+-- a block of a part of the bytes
+pub block_of-part : (size block count i : ℕ) (bytes : List ℕ) → i < count → block_of size (take (count * size) (drop (block * size) bytes)) i ≡ block_of size bytes (block + i)
+block_of-part size block count i bytes less = take-drop-take size (i * size) (count * size) (drop (block * size) bytes) (block-fits size i count less) ∙ ap (take size) (drop-drop (i * size) (block * size) bytes ∙ ap (λ (x : ℕ). drop x bytes) place) where
+  place : block * size + i * size ≡ (block + i) * size
+  place = omega arith
+
+-- blocks that are held as they are change nothing
+pub overlay-saved : (held other : ℕ → Option (List ℕ)) (size n : ℕ) (bytes : List ℕ) (block count : ℕ) (piece : List ℕ) → AreHeldFrom held other block count size piece → ((b : ℕ) → block ≤ b → b < block + count → held b ≡ None) → piece ≡ take (count * size) (drop (block * size) bytes) → overlay other size n bytes ≡ overlay held size n bytes
+overlay-saved held other size n bytes block count piece from none is = joined-same (block_over other size bytes) (block_over held size bytes) n (λ b less. ⊎_elim (λ below. same b (from.before b below)) (λ low. ⊎_elim (λ high. within b low high) (λ above. same b (from.behind b above)) (cases_lt b (block + count))) (cases_lt b block)) where
+  same : (b : ℕ) → other b ≡ held b → block_over other size bytes b ≡ block_over held size bytes b
+  same b is' = ap (λ (o : Option (List ℕ)). unwrap_or o (block_of size bytes b)) is'
+
+  within : (b : ℕ) → block ≤ b → b < block + count → block_over other size bytes b ≡ block_over held size bytes b
+  within b low high =
+      let part : b - block < count = omega arith in
+      let place : block + (b - block) ≡ b = omega arith in
+      let piece_is : block_of size piece (b - block) ≡ block_of size bytes b = ap (λ (xs : List ℕ). block_of size xs (b - block)) is ∙ block_of-part size block count (b - block) bytes part ∙ ap (block_of size bytes) place in
+      ap (λ (o : Option (List ℕ)). unwrap_or o (block_of size bytes b)) (from.within b low high) ∙ piece_is ∙ ap (λ (o : Option (List ℕ)). unwrap_or o (block_of size bytes b)) (sym (none b low high))
+
+-- a patch in blocks that are all held changes nothing
+pub overlay-covered : (held : ℕ → Option (List ℕ)) (size n : ℕ) (bytes : List ℕ) (block count : ℕ) (piece : List ℕ) → ((b : ℕ) → block ≤ b → b < block + count → IsSome (held b)) → length piece ≤ count * size → block * size ≤ length bytes → overlay held size n (patch bytes (block * size) piece) ≡ overlay held size n bytes
+overlay-covered held size n bytes block count piece covered fits inside = joined-same (block_over held size (patch bytes (block * size) piece)) (block_over held size bytes) n (λ b less. ⊎_elim (λ below. before b below) (λ low. ⊎_elim (λ high. within b (held b) (covered b low high)) (λ above. behind b above) (cases_lt b (block + count))) (cases_lt b block)) where
+  before : (b : ℕ) → b < block → block_over held size (patch bytes (block * size) piece) b ≡ block_over held size bytes b
+  before b below = ap (unwrap_or (held b)) (block_of-before size b (block * size) bytes piece (block-fits size b block below) inside)
+
+  behind : (b : ℕ) → block + count ≤ b → block_over held size (patch bytes (block * size) piece) b ≡ block_over held size bytes b
+  behind b above = ap (unwrap_or (held b)) (block_of-behind size b (block * size) bytes piece (omega (arith, fits, mul-le-mul_left size above)) inside)
+
+  within : (b : ℕ) (o : Option (List ℕ)) → IsSome o → unwrap_or o (block_of size (patch bytes (block * size) piece) b) ≡ unwrap_or o (block_of size bytes b)
+  within b None some = cc
+  within b (Some v) some = refl

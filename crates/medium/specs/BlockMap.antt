@@ -1,5 +1,6 @@
 -- The blocks that a block map holds.
 use Rattle.std.specs.Prelude.{ℕ, ◌-◌, List, length, slice_get, IsSome, Option}
+use Rattle.std.proofs.Math.Bool.{Bool-set}
 use Rattle.std.specs.BTreeMap.{get}
 use Rattle.std.specs.Ordering.{nat_cmp}
 use Rattle.medium.specs.Places.{block_in}
@@ -20,3 +21,7 @@ held_count m = length m.filled.items
 -- the block that came last
 abbrev pub last_of : BlockMap → Option ℕ
 last_of m = slice_get m.filled.items (length m.filled.items - 1)
+
+-- a place is there in one way
+pub has_place-once : (m : BlockMap) (b : ℕ) → IsProp (HasPlace m b)
+has_place-once m b = Bool-set _ _

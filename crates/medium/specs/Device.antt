@@ -66,13 +66,14 @@ abbrev pub failures : Result (Unit {0}) BlockFailed → ℕ
 failures (Ok done) = 0
 failures (Err fault) = 1
 
--- a command was made: it counts, and it fails only where the device's faults rose
+-- a command was made: it counts; the device's faults rose where it failed, and stay where it was done
 pub record IsCommand (old : Device) (result : Result (Unit {0}) BlockFailed) (new : Device) : Type 0 where
   pub same : IsSame old new
   pub calls : new.calls ≡ adds old.calls 1
   pub failed : new.failed ≡ adds old.failed (failures result)
   pub later : old.faults ≤ new.faults
   pub cause : OnErr result (Rose old.faults new.faults)
+  pub quiet : OnOk result (new.faults ≡ old.faults)
 
 -- these bytes are the told ones from this byte on
 abbrev pub AreToldAt : Option (List ℕ) → ℕ → List ℕ → Type 0

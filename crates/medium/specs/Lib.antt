@@ -1,7 +1,10 @@
 pub mod BlockMap
 pub mod Blocks
+pub mod Cached
 pub mod Counts
 pub mod Device
 pub mod Faults
+pub mod Files
 pub mod Memory
 pub mod Places
+pub mod Volatiles

@@ -6,7 +6,7 @@ use std::alloc::{AllocError, Global};
 
 /// A block device with its medium (UEFI 2.10, 13.9; failures, cache and counts: own profile).
 ///
-/// A transfer is 1 to 64 whole blocks, all on the medium. A command fails only where the device's faults rise.
+/// A transfer is 1 to 64 whole blocks, all on the medium. The device's faults rise where a command fails, and stay where it is done.
 pub trait Medium {
     /// What the device is and what its medium holds.
     ghost device: { Self → Device };
@@ -49,4 +49,7 @@ pub trait Medium {
 
     /// The block size is one of four, the blocks fit 64 bits in bytes, and told bytes have that length.
     ghost shaped: { (m : Self) → IsShaped (device m) };
+
+    /// A block is prepared in one way.
+    ghost prepared_once: { (m : Self) (b : ℕ) → IsProp (prepared m b) };
 }

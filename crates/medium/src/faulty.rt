@@ -186,4 +186,6 @@ impl<M: Medium> Medium for Faulty<M> {
     ghost use Rattle.medium.specs.Faults.{faulty_shaped};
 
     ghost shaped = { λ m. faulty_shaped (M.device m.inner) m.calls m.failed m.planned (M.shaped m.inner) };
+
+    ghost prepared_once = { λ m b. M.prepared_once m.inner b };
 }

@@ -124,4 +124,8 @@ impl Medium for MemMedium {
     ghost use Rattle.medium.specs.Memory.{memory_shaped};
 
     ghost shaped = { λ m. memory_shaped m.opening.items (overlay (block_at m.changed) m.size m.blocks m.opening.items) m.size m.blocks m.calls m.one_of_four m.some m.fits m.opening_length m.length };
+
+    ghost use Rattle.medium.specs.BlockMap.{has_place-once};
+
+    ghost prepared_once = { λ m b. has_place-once m.changed b };
 }

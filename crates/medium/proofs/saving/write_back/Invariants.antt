@@ -1,0 +1,18 @@
+use Rattle.std.proofs.Common.{ℕ, ◌≡◌, ◌<◌, IsSome}
+use Rattle.medium.specs.BlockMap.{block_at, held_count}
+use Rattle.medium.specs.Cached.{restored}
+use Rattle.medium.specs.Device.{IsSame}
+use Rattle.medium.proofs.saving.write_back.Given as goal
+
+abbrev pub invariant-loop-block : goal.invariant-loop-block
+invariant-loop-block g l = record {
+  same : IsSame (g.M.Medium.device l.initial.inner) (g.M.Medium.device l.inner);
+  quiet : (g.M.Medium.device l.inner).faults ≡ (g.M.Medium.device l.initial.inner).faults;
+  size : l.saved.size ≡ l.initial.saved.size;
+  inside : (b : ℕ) → IsSome (block_at l.saved b) → b < (g.M.Medium.device l.initial.inner).blocks;
+  ready : (b : ℕ) → IsSome (block_at l.saved b) → g.M.Medium.prepared l.inner b;
+  restored : restored (block_at l.saved) l.initial.saved.size (g.M.Medium.device l.initial.inner).blocks (g.M.Medium.device l.inner).now ≡ restored (block_at l.initial.saved) l.initial.saved.size (g.M.Medium.device l.initial.inner).blocks (g.M.Medium.device l.initial.inner).now;
+}
+
+abbrev pub decreases-loop-block : goal.decreases-loop-block
+decreases-loop-block g l = held_count l.saved

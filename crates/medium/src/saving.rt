@@ -1,0 +1,104 @@
+ghost use Rattle.std.specs.Prelude.{◌≡◌, ℕ, ◌+◌, ◌*◌, ◌^◌, ◌<◌, ◌≤◌, length, IsSome, None, OnOk, OnErr, Ok};
+ghost use Rattle.medium.specs.BlockMap.{block_at, HasPlace};
+ghost use Rattle.medium.specs.Cached.{restored, HasTried, HoldsOthers, most_blocks};
+ghost use Rattle.medium.specs.Counts.{Rose};
+ghost use Rattle.medium.specs.Device.{IsSame, StayPrepared};
+
+use crate::block_map::BlockMap;
+use crate::{BlockFailed, Medium};
+
+// How many blocks from one on are not held, up to an end.
+fn run_of(saved: &BlockMap, first: u64, end: u64) -> u64
+    requires { first ≤ end }
+    ensures within { first + result ≤ end }
+    ensures none { (b : ℕ) → first ≤ b → b < first + result → block_at saved.now b ≡ None }
+    ensures longest { first + result < end → IsSome (block_at saved.now (first + result)) }
+{
+    for block in first..end {
+        if saved.holds(block) {
+            return block - first;
+        }
+    }
+    end - first
+}
+
+// Saves a run of blocks by one read.
+fn save_run<M: Medium>(
+    inner: &mut M,
+    saved: &mut BlockMap,
+    scratch: &mut [u8],
+    first: u64,
+    count: usize,
+) -> Result<(), BlockFailed>
+    requires some { 0 < count }
+    requires most { count ≤ most_blocks }
+    requires fits { first + count ≤ (M.device inner.old).blocks }
+    requires size { saved.old.size ≡ (M.device inner.old).size }
+    requires room { most_blocks * saved.old.size ≤ length scratch.old }
+    requires places { (b : ℕ) → first ≤ b → b < first + count → HasPlace saved.old b }
+    requires unsaved { (b : ℕ) → first ≤ b → b < first + count → block_at saved.old b ≡ None }
+    ensures tried { HasTried (M.device inner.old) result (M.device inner.new) }
+    ensures prepared { StayPrepared (M.prepared inner.old) (M.prepared inner.new) }
+    ensures restored { restored (block_at saved.new) saved.old.size (M.device inner.old).blocks (M.device inner.old).now ≡ restored (block_at saved.old) saved.old.size (M.device inner.old).blocks (M.device inner.old).now }
+    ensures held { OnOk result ((b : ℕ) → first ≤ b → b < first + count → IsSome (block_at saved.new b)) }
+    ensures others { HoldsOthers first (first + count) (block_at saved.old) (block_at saved.new) }
+    ensures stay { (b : ℕ) → HasPlace saved.old b → HasPlace saved.new b }
+    ensures size { saved.new.size ≡ saved.old.size }
+{
+    let bytes = count * inner.size() as usize;
+    let part = &mut scratch[..bytes];
+    inner.read_blocks(first, part)?;
+    saved.hold_all(first, count, part);
+    Ok(())
+}
+
+/// Saves each of these blocks that is not saved yet, by one read for each longest run of them.
+pub fn save<M: Medium>(
+    inner: &mut M,
+    saved: &mut BlockMap,
+    scratch: &mut [u8],
+    first: u64,
+    count: u64,
+) -> Result<(), BlockFailed>
+    requires most { count ≤ most_blocks }
+    requires fits { first + count ≤ (M.device inner.old).blocks }
+    requires size { saved.old.size ≡ (M.device inner.old).size }
+    requires room { most_blocks * saved.old.size ≤ length scratch.old }
+    requires places { (b : ℕ) → first ≤ b → b < first + count → HasPlace saved.old b }
+    ensures tried { HasTried (M.device inner.old) result (M.device inner.new) }
+    ensures prepared { StayPrepared (M.prepared inner.old) (M.prepared inner.new) }
+    ensures restored { restored (block_at saved.new) saved.old.size (M.device inner.old).blocks (M.device inner.old).now ≡ restored (block_at saved.old) saved.old.size (M.device inner.old).blocks (M.device inner.old).now }
+    ensures held { OnOk result ((b : ℕ) → first ≤ b → b < first + count → IsSome (block_at saved.new b)) }
+    ensures others { HoldsOthers first (first + count) (block_at saved.old) (block_at saved.new) }
+    ensures stay { (b : ℕ) → HasPlace saved.old b → HasPlace saved.new b }
+    ensures size { saved.new.size ≡ saved.old.size }
+{
+    let end = first + count;
+    for block in first..end {
+        if !saved.holds(block) {
+            let run = run_of(saved, block, end);
+            save_run(inner, saved, scratch, block, run as usize)?;
+        }
+    }
+    Ok(())
+}
+
+/// Writes all saved blocks back, and ends at the first write that fails.
+pub fn write_back<M: Medium>(inner: &mut M, saved: &mut BlockMap) -> Result<(), BlockFailed>
+    requires size { saved.old.size ≡ (M.device inner.old).size }
+    requires inside { (b : ℕ) → IsSome (block_at saved.old b) → b < (M.device inner.old).blocks }
+    requires ready { (b : ℕ) → IsSome (block_at saved.old b) → M.prepared inner.old b }
+    ensures same { IsSame (M.device inner.old) (M.device inner.new) }
+    ensures now { OnOk result ((M.device inner.new).now ≡ restored (block_at saved.old) saved.old.size (M.device inner.old).blocks (M.device inner.old).now) }
+    ensures cause { OnErr result (Rose (M.device inner.old).faults (M.device inner.new).faults) }
+    ensures quiet { OnOk result ((M.device inner.new).faults ≡ (M.device inner.old).faults) }
+{
+    while let Some(block) = saved.last() {
+        let Some(held) = saved.get(block) else {
+            unreachable!()
+        };
+        inner.write_blocks(block, held)?;
+        let _ = saved.let_go();
+    }
+    Ok(())
+}
