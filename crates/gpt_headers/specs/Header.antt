@@ -1,12 +1,12 @@
 -- The header in a block: its fields, and the tests that it passes (UEFI 2.10, 5.3.2, "GPT Header"; their order and bounds are own profile).
-use Rattle.std.specs.Prelude.{ℕ, ◌*◌, ◌==◌, ◌&&◌, Bool, not, nat_eq, nat_le, List, [], ◌∷◌, ◌++◌, length, take, replicate, slice_range, find, Option, option_map}
+use Rattle.std.specs.Prelude.{ℕ, ◌*◌, ◌==◌, ◌&&◌, Bool, not, nat_eq, nat_le, List, [], ◌∷◌, ◌++◌, length, take, replicate, slice_range, find, codes, Option, option_map}
 use Rattle.std.specs.List.{starts_with}
 use Rattle.std.specs.Int.{is_power_of_two}
 use Rattle.crc_table.specs.Crc32.{crc32_of}
 use Rattle.gpt_headers.specs.declared.header.HeaderFault.{HeaderFault}
 use Rattle.gpt_headers.specs.declared.header.HeaderFault.TheVariants.{Signature, Size, Crc, Place, EntrySize, TooLarge}
-use Rattle.gpt_headers.specs.declared.header.TheConstants.{SIGNATURE, LEAST_HEADER, LEAST_ENTRY, MOST_ARRAY}
 use Rattle.gpt_headers.specs.Fields.{HeaderFields, guid_at, number_at}
+use Rattle.gpt_headers.specs.Limits.{least_entry, least_header, most_array}
 
 -- the fields that readers give
 unfoldable pub fields_of : List ℕ → HeaderFields
@@ -23,7 +23,7 @@ fields_of block = record {
 
 -- it begins with EFI PART
 unfoldable pub has_signature : List ℕ → Bool
-has_signature block = starts_with nat_eq block SIGNATURE
+has_signature block = starts_with nat_eq block (codes "EFI PART")
 
 -- how many bytes the header says that it has
 abbrev pub size_of : List ℕ → ℕ
@@ -31,7 +31,7 @@ size_of block = number_at 12 4 block
 
 -- these are at least 92, and no more than the block's
 unfoldable pub has_size : List ℕ → Bool
-has_size block = nat_le LEAST_HEADER (size_of block) && nat_le (size_of block) (length block)
+has_size block = nat_le least_header (size_of block) && nat_le (size_of block) (length block)
 
 -- the CRC32 of the first bytes, with those from 16 to 19 as zero
 abbrev pub crc_of : ℕ → List ℕ → ℕ
@@ -47,14 +47,14 @@ has_place lba block = number_at 24 8 block == lba
 
 -- 128 bytes times a power of two
 abbrev pub is_entry_size : ℕ → Bool
-is_entry_size size = nat_le LEAST_ENTRY size && is_power_of_two size
+is_entry_size size = nat_le least_entry size && is_power_of_two size
 
 unfoldable pub has_entry_size : List ℕ → Bool
 has_entry_size block = is_entry_size (number_at 84 4 block)
 
 -- the entries have at most 1 MiB
 unfoldable pub has_small_array : List ℕ → Bool
-has_small_array block = nat_le (number_at 80 4 block * number_at 84 4 block) MOST_ARRAY
+has_small_array block = nat_le (number_at 80 4 block * number_at 84 4 block) most_array
 
 -- the tests in their order, each with the fault where it fails, and whether it holds of the block that was read at this LBA
 abbrev pub tests_of : ℕ → List ℕ → List (HeaderFault × Bool)

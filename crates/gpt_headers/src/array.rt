@@ -1,8 +1,9 @@
 ghost use Rattle.std.specs.Prelude.{◌≡◌, ◌*◌, ◌^◌, ◌+◌, ◌<◌, ◌≤◌, ◌↔◌, IsTrue, IfSome};
 ghost use Rattle.crc_table.specs.Crc32.{crc32_of};
 ghost use Rattle.gpt_headers.specs.Array.{array_range_of};
+ghost use Rattle.gpt_headers.specs.Limits.{most_array};
 
-use crate::header::{Header, MOST_ARRAY};
+use crate::header::Header;
 use crc_table::crc32;
 
 /// The first byte and the length in bytes of the array of partition entries, on a medium of so many blocks of `size` bytes. None
@@ -11,7 +12,7 @@ pub fn array_range(header: &Header, blocks: u64, size: u32) -> Option<(u64, u64)
     requires { blocks * size < 2 ^ 64 }
     ensures exact { result ≡ array_range_of header.now blocks size }
     ensures inside { IfSome result (λ r. r.0 + r.1 ≤ blocks * size) }
-    ensures small { IfSome result (λ r. r.1 ≤ MOST_ARRAY) }
+    ensures small { IfSome result (λ r. r.1 ≤ most_array) }
 {
     let length = header.array_length();
     let start = header.array_lba().checked_mul(u64::from(size))?;

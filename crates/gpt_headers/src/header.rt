@@ -1,6 +1,7 @@
 ghost use Rattle.std.specs.Prelude.{◌≡◌, ◌≤◌, ◌*◌, ◌^◌, ◌↔◌, ℕ, IsTrue, IfOk, IfNone, length};
 ghost use Rattle.std.specs.Result.{result_err};
 ghost use Rattle.gpt_headers.specs.Array.{array_length};
+ghost use Rattle.gpt_headers.specs.Limits.{least_entry, least_header, most_array};
 ghost use Rattle.gpt_headers.specs.Header.{crc_of, fault_of, fields_of, has_crc, has_entry_size, has_place, has_signature, has_size, has_small_array, is_entry_size, size_of};
 
 use crate::guid::read_guid;
@@ -10,16 +11,16 @@ use std::marker::Model;
 use uuid::Uuid;
 
 /// What a header begins with (UEFI 2.10, 5.3.2).
-pub(crate) const SIGNATURE: [u8; 8] = *b"EFI PART";
+const SIGNATURE: [u8; 8] = *b"EFI PART";
 
 /// The least size of a header in bytes (UEFI 2.10, 5.3.2).
-pub(crate) const LEAST_HEADER: usize = 92;
+const LEAST_HEADER: usize = 92;
 
 /// The least size of a partition entry in bytes (UEFI 2.10, 5.3.2).
-pub(crate) const LEAST_ENTRY: u32 = 128;
+const LEAST_ENTRY: u32 = 128;
 
 /// How many bytes an array of partition entries has at most (own profile).
-pub(crate) const MOST_ARRAY: u64 = 0x10_0000;
+const MOST_ARRAY: u64 = 0x10_0000;
 
 /// Why a block holds no GPT header: its first test that fails, in this order (UEFI 2.10, 5.3.2; the bounds are own profile).
 #[derive(Clone, Copy, Debug, PartialEq, Eq)]
@@ -54,7 +55,7 @@ pub struct Header {
 impl Model for Header {
     ghost use Rattle.std.specs.Prelude.{◌≤◌, ◌*◌};
     ghost use Rattle.gpt_headers.specs.Fields.{HeaderFields};
-    ghost use Rattle.gpt_headers.specs.declared.header.TheConstants.{LEAST_ENTRY, MOST_ARRAY};
+    ghost use Rattle.gpt_headers.specs.Limits.{least_entry, most_array};
 
     ghost Value = { HeaderFields };
 
@@ -69,14 +70,14 @@ impl Model for Header {
       array_crc = h.array_crc;
     } };
 
-    ghost invariant = { λ h. (LEAST_ENTRY ≤ h.entry_size) × (h.count * h.entry_size ≤ MOST_ARRAY) };
+    ghost invariant = { λ h. (least_entry ≤ h.entry_size) × (h.count * h.entry_size ≤ most_array) };
 }
 
 impl Header {
     /// The header in a block that was read at this LBA. The error is the fault of the first test that fails. The block has its whole
     /// size, in bytes, of at least 92 (UEFI 2.10, 5.3.2).
     pub fn read(block: &[u8], lba: u64) -> Result<Header, HeaderFault>
-        requires { LEAST_HEADER ≤ length block.now }
+        requires { least_header ≤ length block.now }
         ensures fault { result_err result ≡ fault_of lba block.now }
         ensures fields { IfOk result (λ h. h ≡ fields_of block.now) }
     {
@@ -89,7 +90,7 @@ impl Header {
     /// The header of a block that passed every test.
     #[tactic(auto, unfolding(crate::specs::Header::fields_of, crate::specs::Header::has_entry_size, crate::specs::Header::has_small_array))]
     fn fields(block: &[u8]) -> Header
-        requires size { LEAST_HEADER ≤ length block.now }
+        requires size { least_header ≤ length block.now }
         requires entry { IsTrue (has_entry_size block.now) }
         requires array { IsTrue (has_small_array block.now) }
         ensures { result ≡ fields_of block.now }
@@ -144,7 +145,7 @@ impl Header {
     /// The size of a partition entry in bytes (UEFI 2.10, 5.3.2).
     pub fn entry_size(&self) -> u32
         ensures exact { result ≡ self.now.entry_size }
-        ensures least { LEAST_ENTRY ≤ result }
+        ensures least { least_entry ≤ result }
     {
         self.entry_size
     }
@@ -159,7 +160,7 @@ impl Header {
     /// How many bytes the array of partition entries has.
     pub(crate) fn array_length(&self) -> u64
         ensures exact { result ≡ array_length self.now }
-        ensures small { result ≤ MOST_ARRAY }
+        ensures small { result ≤ most_array }
     {
         u64::from(self.count) * u64::from(self.entry_size)
     }
@@ -175,7 +176,7 @@ impl Header {
 /// The fault of the first test that fails of a header in a block that was read at this LBA.
 #[tactic(auto, unfolding(crate::specs::Header::fault_of))]
 fn first_fault(block: &[u8], lba: u64) -> Option<HeaderFault>
-    requires { LEAST_HEADER ≤ length block.now }
+    requires { least_header ≤ length block.now }
     ensures exact { result ≡ fault_of lba block.now }
     ensures entry { IfNone result (IsTrue (has_entry_size block.now)) }
     ensures array { IfNone result (IsTrue (has_small_array block.now)) }
@@ -207,7 +208,7 @@ fn has_signature(block: &[u8]) -> bool
 
 /// How many bytes the header says that it has.
 fn size(block: &[u8]) -> usize
-    requires { LEAST_HEADER ≤ length block.now }
+    requires { least_header ≤ length block.now }
     ensures { result ≡ size_of block.now }
 {
     LittleEndian::read_u32(&block[12..16]) as usize
@@ -216,7 +217,7 @@ fn size(block: &[u8]) -> usize
 /// Whether the header has a size in bytes that it can have.
 #[tactic(auto, unfolding(crate::specs::Header::has_size))]
 fn has_size(block: &[u8]) -> bool
-    requires { LEAST_HEADER ≤ length block.now }
+    requires { least_header ≤ length block.now }
     ensures { result ≡ has_size block.now }
 {
     LEAST_HEADER <= size(block) && size(block) <= block.len()
@@ -225,7 +226,7 @@ fn has_size(block: &[u8]) -> bool
 /// Whether the header has the CRC32 that it tells.
 #[tactic(auto, unfolding(crate::specs::Header::has_size, crate::specs::Header::has_crc))]
 fn has_crc(block: &[u8]) -> bool
-    requires room { LEAST_HEADER ≤ length block.now }
+    requires room { least_header ≤ length block.now }
     requires size { IsTrue (has_size block.now) }
     ensures { result ≡ has_crc block.now }
 {
@@ -248,7 +249,7 @@ fn header_crc(block: &[u8], size: usize) -> u32
 /// Whether the header says that it stands at this LBA.
 #[tactic(auto, unfolding(crate::specs::Header::has_place))]
 fn has_place(block: &[u8], lba: u64) -> bool
-    requires { LEAST_HEADER ≤ length block.now }
+    requires { least_header ≤ length block.now }
     ensures { result ≡ has_place lba block.now }
 {
     LittleEndian::read_u64(&block[24..32]) == lba
@@ -257,7 +258,7 @@ fn has_place(block: &[u8], lba: u64) -> bool
 /// Whether an entry has a size in bytes that it can have.
 #[tactic(auto, unfolding(crate::specs::Header::has_entry_size))]
 fn has_entry_size(block: &[u8]) -> bool
-    requires { LEAST_HEADER ≤ length block.now }
+    requires { least_header ≤ length block.now }
     ensures { result ≡ has_entry_size block.now }
 {
     is_entry_size(LittleEndian::read_u32(&block[84..88]))
@@ -274,7 +275,7 @@ fn is_entry_size(size: u32) -> bool
 /// Whether the entries have no more than 1 MiB.
 #[tactic(auto, unfolding(crate::specs::Header::has_small_array))]
 fn has_small_array(block: &[u8]) -> bool
-    requires { LEAST_HEADER ≤ length block.now }
+    requires { least_header ≤ length block.now }
     ensures { result ≡ has_small_array block.now }
 {
     let count = LittleEndian::read_u32(&block[80..84]);

@@ -3,7 +3,6 @@ use Rattle.std.specs.Prelude.{ℕ, ◌+◌, ◌-◌, ◌==◌, ◌&&◌, Bool, f
 use Rattle.std.specs.List.{list_any}
 use Rattle.std.specs.Option.{option_map_or}
 use Rattle.mbr_records.specs.declared.partition_record.MbrRecord.{MbrRecord}
-use Rattle.mbr_records.specs.declared.chain.TheConstants.{MOST_READ}
 use Rattle.mbr_records.specs.Record.{is_data, is_extended}
 use Rattle.mbr_records.specs.Block.{mbr_of, record_at}
 
@@ -13,6 +12,10 @@ pub record Trail : Type 0 where
   pub start : ℕ
   pub size : ℕ
   pub named : List (Option ℕ)
+
+-- how many extended boot records of one chain are read at most
+abbrev pub most_read : ℕ
+most_read = 128
 
 -- What a second record names as the next extended boot record: its start, where it is of an extended partition.
 abbrev pub link_at : MbrRecord → Option ℕ
@@ -48,7 +51,7 @@ is_inside t first count = nat_le t.start first && nat_le (first + count) (t.star
 
 -- the extended boot record at this block may be read next: it lies in the extended partition, it was not visited, and there is room for one more
 abbrev pub may_visit : Trail → ℕ → Bool
-may_visit t block = is_inside t block 1 && not (list_any (λ v. v == block) (visited_of t)) && nat_lt (count_of t) MOST_READ
+may_visit t block = is_inside t block 1 && not (list_any (λ v. v == block) (visited_of t)) && nat_lt (count_of t) most_read
 
 -- the block of the next extended boot record, the last that was named; none where the chain has ended
 abbrev pub next_of : Trail → Option ℕ

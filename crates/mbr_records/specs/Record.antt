@@ -2,7 +2,6 @@
 use Rattle.std.specs.Prelude.{ℕ, ◌+◌, ◌<◌, ◌≤◌, ◌==◌, ◌&&◌, ◌||◌, Bool, not, nat_le, nat_lt, max, min, List, slice_index, slice_range}
 use Rattle.byteorder.specs.Endian.{little_number}
 use Rattle.mbr_records.specs.declared.partition_record.MbrRecord.{MbrRecord}
-use Rattle.mbr_records.specs.declared.partition_record.TheConstants.{EXTENDED, EXTENDED_LBA, GPT_PROTECTIVE, UNUSED}
 
 -- the number in the four bytes from this place on, little-endian
 abbrev pub number_at : ℕ → List ℕ → ℕ
@@ -19,15 +18,15 @@ record_of bytes = record {
 
 -- the record describes some blocks (own profile)
 abbrev pub is_used : MbrRecord → Bool
-is_used r = not (r.os_type == UNUSED) && not (r.size == 0)
+is_used r = not (r.os_type == 0x00) && not (r.size == 0)
 
 -- it is the cover that a disk with a GPT shows (UEFI 2.10, 5.2.3); its size is not asked (own profile)
 abbrev pub is_protective : MbrRecord → Bool
-is_protective r = r.os_type == GPT_PROTECTIVE && r.start == 1
+is_protective r = r.os_type == 0xEE && r.start == 1
 
 -- it is of one of the two types of an extended partition (own profile)
 abbrev pub has_extended_type : MbrRecord → Bool
-has_extended_type r = r.os_type == EXTENDED || r.os_type == EXTENDED_LBA
+has_extended_type r = r.os_type == 0x05 || r.os_type == 0x0F
 
 -- it describes an extended partition
 abbrev pub is_extended : MbrRecord → Bool
@@ -35,7 +34,7 @@ is_extended r = is_used r && has_extended_type r
 
 -- it describes a partition that holds data (own profile)
 abbrev pub is_data : MbrRecord → Bool
-is_data r = is_used r && not (has_extended_type r) && not (r.os_type == GPT_PROTECTIVE)
+is_data r = is_used r && not (has_extended_type r) && not (r.os_type == 0xEE)
 
 -- its end is at most that of a medium of so many blocks
 abbrev pub is_on_medium : ℕ → MbrRecord → Bool

@@ -1,13 +1,13 @@
 ghost use Rattle.std.specs.Prelude.{ℕ, List, ◌≡◌, ◌+◌, ◌<◌, ◌≤◌, ◌^◌, [], ◌∷◌, ◌++◌, ◌==◌, IsTrue, IsSome, IfSome, OnSome};
 ghost use Rattle.std.specs.List.{list_any};
-ghost use Rattle.mbr_records.specs.Chain.{link_at, names};
+ghost use Rattle.mbr_records.specs.Chain.{link_at, most_read, names};
 
 use crate::mbr::Mbr;
 use crate::partition_record::MbrRecord;
 use std::marker::Model;
 
 /// How many extended boot records of one chain are read at most (own profile).
-pub const MOST_READ: usize = 128;
+const MOST_READ: usize = 128;
 
 /// How many blocks they and the extended partition name.
 const MOST_NAMED: usize = 129;
@@ -26,14 +26,13 @@ pub struct Chain {
 
 impl Model for Chain {
     ghost use Rattle.std.specs.Prelude.{◌≡◌, ◌+◌, ◌<◌, ◌≤◌, ◌^◌, length, take};
-    ghost use Rattle.mbr_records.specs.declared.chain.TheConstants.{MOST_NAMED, MOST_READ};
-    ghost use Rattle.mbr_records.specs.Chain.{Trail};
+    ghost use Rattle.mbr_records.specs.Chain.{Trail, most_read};
 
     ghost Value = { Trail };
 
     ghost view = { λ c. record { start = c.start; size = c.size; named = take (c.fed + 1) c.named } };
 
-    ghost invariant = { λ c. (c.fed ≤ MOST_READ) × (length c.named ≡ MOST_NAMED) × (c.start + c.size < 2 ^ 64) };
+    ghost invariant = { λ c. (c.fed ≤ most_read) × (length c.named ≡ most_read + 1) × (c.start + c.size < 2 ^ 64) };
 }
 
 impl Chain {
@@ -60,7 +59,7 @@ impl Chain {
     pub fn next_block(&self) -> Option<u64>
         ensures exact { result ≡ next_of self.now }
         ensures inside { IfSome result (λ block. (self.now.start ≤ block) × (block < self.now.start + self.now.size)) }
-        ensures few { OnSome result (count_of self.now < MOST_READ) }
+        ensures few { OnSome result (count_of self.now < most_read) }
     {
         let place = u64::from(self.named[self.fed]?);
         if self.may_visit(place) {
@@ -102,7 +101,7 @@ impl Chain {
 
     /// Notes what an extended boot record that was fed names as the next.
     fn push(&mut self, link: Option<u32>)
-        requires { count_of self.old < MOST_READ }
+        requires { count_of self.old < most_read }
         ensures { self.new ≡ record self.old { named = self.old.named ++ link ∷ [] } }
     {
         self.fed += 1;

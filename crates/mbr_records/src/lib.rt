@@ -5,7 +5,7 @@ mod chain;
 mod mbr;
 mod partition_record;
 
-pub use chain::{Chain, MOST_READ};
+pub use chain::Chain;
 pub use mbr::Mbr;
 pub use partition_record::MbrRecord;
 

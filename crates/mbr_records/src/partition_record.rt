@@ -3,16 +3,16 @@ ghost use Rattle.std.specs.Prelude.{◌≡◌, ◌↔◌, ◌≤◌, ℕ, length
 use byteorder::{ByteOrder, LittleEndian};
 
 /// The OS type of a record that is not used.
-pub(crate) const UNUSED: u8 = 0x00;
+const UNUSED: u8 = 0x00;
 
 /// The OS type of an extended partition.
-pub(crate) const EXTENDED: u8 = 0x05;
+const EXTENDED: u8 = 0x05;
 
 /// The OS type of an extended partition that is addressed by LBA.
-pub(crate) const EXTENDED_LBA: u8 = 0x0F;
+const EXTENDED_LBA: u8 = 0x0F;
 
 /// The OS type of the record that covers a disk with a GPT (UEFI 2.10, 5.2.2).
-pub(crate) const GPT_PROTECTIVE: u8 = 0xEE;
+const GPT_PROTECTIVE: u8 = 0xEE;
 
 /// A partition record (UEFI 2.10, 5.2.1), without its CHS fields.
 #[derive(Clone, Copy, Debug, PartialEq, Eq)]
