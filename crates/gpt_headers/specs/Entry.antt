@@ -1,5 +1,5 @@
 -- A partition entry, and what it says of the disk (UEFI 2.10, 5.3.3, "GPT Partition Entry").
-use Rattle.std.specs.Prelude.{ℕ, ◌^◌, ◌≤◌, ◌==◌, ◌&&◌, Bool, not, nat_le, nat_lt, max, min, bit_and, List, map, slice_range}
+use Rattle.std.specs.Prelude.{ℕ, ◌^◌, ◌≤◌, ◌==◌, ◌&&◌, ◌↔◌, Bool, IsTrue, not, nat_le, nat_lt, max, min, bit_and, List, map, slice_range}
 use Rattle.std.specs.List.{enumerate_from, list_any}
 use Rattle.uuid.specs.Parts.{is_nil_bytes}
 use Rattle.gpt_headers.specs.declared.entry.GptEntry.{GptEntry}
@@ -21,6 +21,10 @@ entry_of bytes = record {
 abbrev pub is_used : GptEntry → Bool
 is_used e = not (is_nil_bytes e.kind)
 
+-- it is used, and has some blocks
+abbrev pub has_blocks : GptEntry → Bool
+has_blocks e = is_used e && nat_le e.first e.last
+
 -- attribute bit 1 is set: firmware makes no block device of the partition
 abbrev pub is_hidden : GptEntry → Bool
 is_hidden e = not (bit_and e.attributes (2 ^ 1) == 0)
@@ -32,6 +36,10 @@ HasBlock e block = (e.first ≤ block) × (block ≤ e.last)
 -- some block is one of both: the later first block is at most the earlier last one
 abbrev pub shares_block : GptEntry → GptEntry → Bool
 shares_block e f = nat_le (max e.first f.first) (min e.last f.last)
+
+-- that is so exactly where there is such a block
+abbrev pub SharesSomeBlock : Type 0
+SharesSomeBlock = (e f : GptEntry) → IsTrue (shares_block e f) ↔ ((block : ℕ) × HasBlock e block × HasBlock f block)
 
 -- the entry at place i shares a block with another used entry
 abbrev pub overlaps_another : List GptEntry → ℕ → GptEntry → Bool

@@ -4,3 +4,4 @@ pub mod Header
 pub mod Array
 pub mod Name
 pub mod Entry
+pub mod Spans

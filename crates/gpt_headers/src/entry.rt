@@ -27,7 +27,7 @@ pub struct GptEntry {
 
 impl GptEntry {
     ghost use Rattle.std.specs.Int.{IsBitSet};
-    ghost use Rattle.gpt_headers.specs.Entry.{HasBlock, entry_of, is_hidden, is_used, shares_block};
+    ghost use Rattle.gpt_headers.specs.Entry.{entry_of, has_blocks, is_hidden, is_used};
 
     /// The entry in the first 128 bytes (UEFI 2.10, 5.3.3).
     #[tactic(auto, unfolding(crate::specs::Entry::entry_of))]
@@ -52,20 +52,19 @@ impl GptEntry {
         !self.kind.is_nil()
     }
 
+    /// Whether it is used, and its first block is at most its last (own profile).
+    pub(crate) fn has_blocks(&self) -> bool
+        ensures { result ≡ has_blocks self.now }
+    {
+        self.is_used() && self.first <= self.last
+    }
+
     /// Whether attribute bit 1 is set (UEFI 2.10, 5.3.3).
     pub(crate) fn is_hidden(&self) -> bool
         ensures exact { result ≡ is_hidden self.now }
         ensures bit { IsTrue result ↔ IsBitSet self.now.attributes 1 }
     {
         self.attributes & NO_BLOCK_IO != 0
-    }
-
-    /// Whether some block is one of both (own profile).
-    pub(crate) fn shares_block(&self, other: &GptEntry) -> bool
-        ensures exact { result ≡ shares_block self.now other.now }
-        ensures block { IsTrue result ↔ ((block : ℕ) × HasBlock self.now block × HasBlock other.now block) }
-    {
-        self.first.max(other.first) <= self.last.min(other.last)
     }
 }
 

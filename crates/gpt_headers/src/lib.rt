@@ -5,11 +5,14 @@ mod array;
 mod entry;
 mod guid;
 mod header;
+mod law;
 mod partitions;
+mod spans;
 
 pub use array::{array_ok, array_range};
 pub use entry::GptEntry;
 pub use header::{Header, HeaderFault};
+pub use law::shared_blocks_tell;
 pub use partitions::usable;
 
 #[cfg(test)]

@@ -1,8 +1,9 @@
-ghost use Rattle.std.specs.Prelude.{ℕ, ◌≡◌, ◌<◌, ◌≤◌, true, IfOk, IfSome, slice_get};
-ghost use Rattle.gpt_headers.specs.Entry.{gives_partition, has_usable_blocks, is_usable_block, overlaps_another, usable_of};
+ghost use Rattle.std.specs.Prelude.{ℕ, ◌≡◌, ◌<◌, ◌≤◌, ◌&&◌, true, not, IfOk, IfSome, slice_get};
+ghost use Rattle.gpt_headers.specs.Entry.{has_usable_blocks, is_hidden, is_usable_block, usable_of};
 
 use crate::entry::GptEntry;
 use crate::header::Header;
+use crate::spans::lone_entries;
 use std::alloc::{AllocError, Global};
 
 /// Which entries give a partition of a medium of so many blocks: those whose type is not zero, whose first block is at most their
@@ -18,27 +19,19 @@ pub fn usable(
     ensures inside { IfOk result (λ flags. (i : ℕ) → slice_get flags.items i ≡ Some true →
         IfSome (slice_get entries.now i) (λ e. (e.first ≤ e.last) × (e.last < blocks))) }
 {
+    let lone = lone_entries(alloc, entries)?;
     let mut flags = Vec::with_capacity(alloc, entries.len())?;
     for (place, entry) in entries.iter().enumerate() {
-        flags.push(gives_partition(header, blocks, entries, place, entry))?;
+        flags.push(gives_partition(header, blocks, entry, lone[place]))?;
     }
     Ok(flags)
 }
 
-/// Whether the entry at this place gives a partition.
-fn gives_partition(
-    header: &Header,
-    blocks: u64,
-    entries: &[GptEntry],
-    place: usize,
-    entry: &GptEntry,
-) -> bool
-    ensures { result ≡ gives_partition header.now blocks entries.now place entry.now }
+/// Whether an entry gives a partition, which is used and has blocks of its own where it is a lone one.
+fn gives_partition(header: &Header, blocks: u64, entry: &GptEntry, lone: bool) -> bool
+    ensures { result ≡ (lone && has_usable_blocks header.now blocks entry.now && not (is_hidden entry.now)) }
 {
-    entry.is_used()
-        && has_usable_blocks(header, blocks, entry)
-        && !overlaps_another(entries, place, entry)
-        && !entry.is_hidden()
+    lone && has_usable_blocks(header, blocks, entry) && !entry.is_hidden()
 }
 
 /// Whether the entry has some blocks, and partitions may have its first and its last.
@@ -55,13 +48,4 @@ fn is_usable_block(header: &Header, blocks: u64, block: u64) -> bool
     ensures { result ≡ is_usable_block header.now blocks block }
 {
     header.first_usable() <= block && block <= header.last_usable() && block < blocks
-}
-
-/// Whether the entry at this place shares a block with another used entry.
-fn overlaps_another(entries: &[GptEntry], place: usize, entry: &GptEntry) -> bool
-    ensures { result ≡ overlaps_another entries.now place entry.now }
-{
-    entries.iter().enumerate().any(|(i, other)| i != place
-        && other.is_used()
-        && entry.shares_block(other))
 }

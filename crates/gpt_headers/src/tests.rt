@@ -182,7 +182,7 @@ fn sorts_out_entries(rt: HostRuntime) -> Result<(), Fail> {
     let disk = reads_entries(&rt)?;
     let flags = usable(rt.alloc(), &header, &disk, 4096)?;
     assert_eq!(rt; flags.as_slice(), [true, true, false].as_slice());
-    let rows: [(u64, &[(u64, u64, u64)], &[bool]); 10] = [
+    let rows: [(u64, &[(u64, u64, u64)], &[bool]); 12] = [
         (
             3001,
             &[(2048, 3071, 0), (3072, 4062, 5)],
@@ -203,6 +203,16 @@ fn sorts_out_entries(rt: HostRuntime) -> Result<(), Fail> {
             4096,
             &[(34, 99, 0), (200, 300, 0), (99, 150, 0)],
             &[false, true, false, false],
+        ),
+        (
+            4096,
+            &[(300, 310, 0), (34, 200, 0), (40, 50, 0), (60, 70, 0)],
+            &[true, false, false, false, false],
+        ),
+        (
+            4096,
+            &[(100, 199, 0), (34, 99, 0), (200, 200, 0)],
+            &[true, true, true, false],
         ),
         (
             4096,
