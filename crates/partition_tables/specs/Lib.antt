@@ -1,0 +1,5 @@
+pub mod Blocks
+pub mod MbrTable
+pub mod GptTable
+pub mod Table
+pub mod Law
