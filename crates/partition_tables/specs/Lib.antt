@@ -3,3 +3,4 @@ pub mod MbrTable
 pub mod GptTable
 pub mod Table
 pub mod Law
+pub mod Rows

@@ -4,5 +4,8 @@
 mod law;
 mod table;
 
-pub use law::{children_lie_on_the_medium, numbers_ascend};
+pub use law::{chain_is_followed, children_lie_on_the_medium, numbers_ascend};
 pub use table::{Child, Children, Origin, Table, TableKind};
+
+#[cfg(test)]
+mod tests;

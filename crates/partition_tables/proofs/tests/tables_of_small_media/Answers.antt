@@ -1,0 +1,19 @@
+use Rattle.std.proofs.Common.{refl}
+use Rattle.mbr_records.specs.Record.{record_of}
+use Rattle.gpt_headers.specs.Header.{fault_of, fields_of, has_crc, has_entry_size, has_place, has_signature, has_size, has_small_array}
+use Rattle.partition_tables.specs.MbrTable.{chain_of, mbr_children}
+use Rattle.partition_tables.specs.GptTable.{good_header, gpt_children}
+use Rattle.partition_tables.specs.Table.{table_of}
+use Rattle.partition_tables.proofs.tests.tables_of_small_media.Goals as goal
+
+pub returns-clause-plain : goal.returns-clause-plain
+unfolding table_of
+returns-clause-plain c = refl
+
+pub returns-clause-damaged : goal.returns-clause-damaged
+unfolding table_of record_of good_header fault_of has_signature
+returns-clause-damaged c = refl
+
+pub returns-clause-mbr : goal.returns-clause-mbr
+unfolding table_of record_of mbr_children
+returns-clause-mbr c = refl
