@@ -1,5 +1,5 @@
 -- The chain of the definition is that of the blocks that are fed.
-use Rattle.std.proofs.Common.{◌≡◌, ℕ, zero, suc, ◌+◌, ◌-◌, ◌<◌, ◌≤◌, Bool, true, false, not, ◌&&◌, nat_le, nat_lt, List, [], ◌∷◌, ◌++◌, length, get_or, take, map, refl, sym, ap, ◌∙◌, zero-add, arith, inl, inr, Option, Some, None}
+use Rattle.std.proofs.Common.{◌≡◌, ℕ, zero, suc, ◌+◌, ◌-◌, ◌<◌, ◌≤◌, Bool, true, false, not, ◌&&◌, nat_lt, List, [], ◌∷◌, ◌++◌, length, get_or, take, map, refl, sym, ap, ◌∙◌, zero-add, arith, inl, inr, Option, Some, None}
 use Rattle.std.specs.Prelude.{filter_map, is_some, option_and_then, option_map, slice_get, slice_index_or, take_while, ◌==◌, if◌then◌else◌}
 use Rattle.std.specs.List.{list_any, range_with_len}
 use Rattle.std.proofs.Math.Seq.{take-suc}
@@ -12,9 +12,9 @@ use Rattle.std.proofs.lemmas.Option.{slice_get-get_or, slice_get_past}
 use Rattle.mbr_records.specs.declared.partition_record.MbrRecord.{MbrRecord}
 use Rattle.mbr_records.specs.Record.{is_data}
 use Rattle.mbr_records.specs.Block.{Fields, mbr_of, record_at}
-use Rattle.mbr_records.specs.Chain.{Trail, count_of, is_inside, link_of, logical_at, logical_of, may_visit, most_read, next_of, place_of, trail_of, visited_of}
+use Rattle.mbr_records.specs.Chain.{count_of, is_inside, link_of, logical_at, may_visit, next_of, trail_of, visited_of}
 use Rattle.partition_tables.specs.Blocks.{boot_record_at}
-use Rattle.partition_tables.specs.MbrTable.{chain_of, logical_in, name_at, trail_at}
+use Rattle.partition_tables.specs.MbrTable.{chain_of, name_at, trail_at}
 use Rattle.partition_tables.specs.Law.{ChainIsFollowed, LogicalsAreGiven}
 
 -- what a function gives for m numbers from a on, up to the first for which it gives nothing

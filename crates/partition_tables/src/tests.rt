@@ -1,5 +1,5 @@
 ghost use Rattle.std.specs.Prelude.{◌≡◌, [], ◌∷◌, replicate};
-ghost use Rattle.partition_tables.specs.Rows.{damaged_medium, gpt_medium, mbr_medium, plain_medium};
+ghost use Rattle.partition_tables.specs.Rows.{chain_medium, damaged_medium, mbr_medium, plain_medium};
 ghost use Rattle.partition_tables.specs.Table.{table_of};
 
 use super::*;
@@ -13,6 +13,12 @@ fn tables_of_small_media()
     ensures mbr { table_of mbr_medium 512 ≡ record {
       kind = TableKind.Mbr;
       children = record { number = 1; first = 2; blocks = 3; origin = Origin.Mbr 0x83 0x12345678 0 } ∷ [];
+    } }
+    ensures chain { table_of chain_medium 512 ≡ record {
+      kind = TableKind.Mbr;
+      children = record { number = 1; first = 1; blocks = 1; origin = Origin.Mbr 0x83 0x12345678 0 }
+          ∷ record { number = 5; first = 7; blocks = 2; origin = Origin.Mbr 0x83 0x12345678 0 }
+          ∷ record { number = 6; first = 5; blocks = 1; origin = Origin.Mbr 0x07 0x12345678 0 } ∷ [];
     } }
 {}
 

@@ -1,8 +1,8 @@
 use Rattle.std.proofs.Common.{refl}
 use Rattle.mbr_records.specs.Record.{record_of}
-use Rattle.gpt_headers.specs.Header.{fault_of, fields_of, has_crc, has_entry_size, has_place, has_signature, has_size, has_small_array}
+use Rattle.gpt_headers.specs.Header.{fault_of, has_signature}
 use Rattle.partition_tables.specs.MbrTable.{chain_of, mbr_children}
-use Rattle.partition_tables.specs.GptTable.{good_header, gpt_children}
+use Rattle.partition_tables.specs.GptTable.{good_header}
 use Rattle.partition_tables.specs.Table.{table_of}
 use Rattle.partition_tables.proofs.tests.tables_of_small_media.Goals as goal
 
@@ -17,3 +17,7 @@ returns-clause-damaged c = refl
 pub returns-clause-mbr : goal.returns-clause-mbr
 unfolding table_of record_of mbr_children
 returns-clause-mbr c = refl
+
+pub returns-clause-chain : goal.returns-clause-chain
+unfolding table_of record_of mbr_children chain_of
+returns-clause-chain c = refl
