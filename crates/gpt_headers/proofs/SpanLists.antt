@@ -13,7 +13,7 @@ use Rattle.std.proofs.lemmas.Grind.{get_or-set_at}
 use Rattle.gpt_headers.specs.declared.entry.GptEntry.{GptEntry}
 use Rattle.gpt_headers.specs.declared.spans.Span.{Span}
 use Rattle.gpt_headers.specs.Entry.{has_blocks, is_used, overlaps_another, shares_block}
-use Rattle.gpt_headers.specs.Spans.{crowd, is_lone, is_lone_entry, marked, meets, span_of, spans_of}
+use Rattle.gpt_headers.specs.Spans.{crowd, is_lone, is_lone_entry, flags_after, meets, span_of, spans_of}
 use Rattle.gpt_headers.proofs.Sweep.{any_from_count}
 
 -- the entries with their places, as the spans keep them
@@ -136,7 +136,7 @@ join false any v old new h = ap (λ b. if any then v else b) h
 
 -- the flag at a place that some spans noted, where each span there is lone or not alike
 noted : (v : Bool) (i : ℕ) (all spans : List Span) (flags : List Bool) → i < length flags → All (λ s. s.place ≡ i → is_lone all s ≡ v) spans
-    → get_or (marked all spans flags) i false ≡ (if list_any (λ s. s.place == i) spans then v else get_or flags i false)
+    → get_or (flags_after all spans flags) i false ≡ (if list_any (λ s. s.place == i) spans then v else get_or flags i false)
 noted v i all [] flags h same = refl
 noted v i all (s ∷ spans) flags h same =
     let rest = noted v i all spans (slice_set flags s.place (is_lone all s)) (omega (arith, length-set flags s.place (is_lone all s)))
@@ -162,7 +162,7 @@ lone_entry entries i d h has =
 
 -- what the sweep over the spans in some order notes at an entry's place
 pub lone_noted : (entries : List GptEntry) (sorted : List Span) (i : ℕ) (d : GptEntry) → IsPermutation (spans_of entries) sorted → i < length entries
-    → get_or (marked sorted sorted (replicate (length entries) false)) i false ≡ is_lone_entry entries i (get_or entries i d)
+    → get_or (flags_after sorted sorted (replicate (length entries) false)) i false ≡ is_lone_entry entries i (get_or entries i d)
 lone_noted entries sorted i d moved h =
     let e = get_or entries i d in
     let spans = spans_of entries in

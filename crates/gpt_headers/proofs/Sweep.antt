@@ -13,7 +13,7 @@ use Rattle.std.proofs.lemmas.List.{get_or-drop, get_or-take, get_or_default, len
 use Rattle.std.proofs.lemmas.List.Sorted.{IsNonDecreasingBy-drop}
 use Rattle.std.proofs.lemmas.List.Sums.{fold-append, sum_by-append, sum_by-cons}
 use Rattle.gpt_headers.specs.declared.spans.Span.{Span}
-use Rattle.gpt_headers.specs.Spans.{crowd, is_lone, marked, meets}
+use Rattle.gpt_headers.specs.Spans.{crowd, is_lone, flags_after, meets}
 
 -- two tests that agree on each element of a list
 pub any_agrees : {X : Type 0} (p q : X → Bool) (xs : List X) → All (λ x. p x ≡ q x) xs → list_any p xs ≡ list_any q xs
@@ -113,11 +113,11 @@ lone_at spans i furthest d h up blocks known =
 
 -- one more span noted
 pub marked_to : (spans : List Span) (i : ℕ) (d : Span) (flags : List Bool) (flag : Bool) (opening : List Bool) → i < length spans
-    → flags ≡ marked spans (take i spans) opening → flag ≡ is_lone spans (get_or spans i d)
-    → slice_set flags (get_or spans i d).place flag ≡ marked spans (take (i + 1) spans) opening
+    → flags ≡ flags_after spans (take i spans) opening → flag ≡ is_lone spans (get_or spans i d)
+    → slice_set flags (get_or spans i d).place flag ≡ flags_after spans (take (i + 1) spans) opening
 marked_to spans i d flags flag opening h so_far lone =
     rw (so_far, lone)
-    (sym (ap (λ l. marked spans l opening) (take_more spans i d h) ∙ fold-append (λ fs s. slice_set fs s.place (is_lone spans s)) opening (take i spans) (get_or spans i d ∷ [])))
+    (sym (ap (λ l. flags_after spans l opening) (take_more spans i d h) ∙ fold-append (λ fs s. slice_set fs s.place (is_lone spans s)) opening (take i spans) (get_or spans i d ∷ [])))
 
 -- the furthest end, with one more span
 pub reach_more : (spans : List Span) (i furthest next : ℕ) (d : Span) → i < length spans → next ≡ max (get_or spans i d).last furthest → (i ≡ 0 → furthest ≡ 0)

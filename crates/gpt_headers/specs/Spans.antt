@@ -26,8 +26,8 @@ abbrev pub is_lone : List Span → Span → Bool
 is_lone spans s = nat_lt (crowd spans s) 2
 
 -- the flags after each of some spans noted at its place whether it is lone among all
-abbrev pub marked : List Span → List Span → List Bool → List Bool
-marked all spans flags = fold (λ fs s. slice_set fs s.place (is_lone all s)) flags spans
+abbrev pub flags_after : List Span → List Span → List Bool → List Bool
+flags_after all spans flags = fold (λ fs s. slice_set fs s.place (is_lone all s)) flags spans
 
 -- the entry at place i has blocks, and shares none of them with another used entry
 abbrev pub is_lone_entry : List GptEntry → ℕ → GptEntry → Bool

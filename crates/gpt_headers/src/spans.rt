@@ -1,7 +1,7 @@
 ghost use Rattle.std.specs.Prelude.{ℕ, ◌≡◌, ◌<◌, ◌≤◌, ◌+◌, ◌&&◌, All, IfOk, false, length, nat_le, nat_lt, not, slice_get, slice_index_or};
 ghost use Rattle.std.specs.Option.{option_map_or};
 ghost use Rattle.std.specs.List.Sorted.{IsNonDecreasingBy};
-ghost use Rattle.gpt_headers.specs.Spans.{is_lone_entry, marked, spans_of};
+ghost use Rattle.gpt_headers.specs.Spans.{is_lone_entry, flags_after, spans_of};
 
 use crate::entry::GptEntry;
 use std::alloc::{AllocError, Global};
@@ -49,7 +49,7 @@ fn sweep(spans: &[Span], flags: &mut [bool])
     requires sorted { IsNonDecreasingBy (λ s. s.first) spans.now }
     requires blocks { All (λ s. s.first ≤ s.last) spans.now }
     requires places { All (λ s. s.place < length flags.old) spans.now }
-    ensures { flags.new ≡ marked spans.now spans.now flags.old }
+    ensures { flags.new ≡ flags_after spans.now spans.now flags.old }
 {
     let mut furthest = 0;
     for (i, span) in spans.iter().enumerate() {

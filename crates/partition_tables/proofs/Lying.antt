@@ -15,7 +15,7 @@ use Rattle.partition_tables.specs.declared.table.Child.{Child}
 use Rattle.partition_tables.specs.declared.table.TableKind.TheVariants.{Mbr}
 use Rattle.partition_tables.specs.Blocks.{blocks_of, boot_record_at}
 use Rattle.partition_tables.specs.MbrTable.{chain_of, child_of_record, logical_in, logicals_of, mbr_children, primaries_of, trail_at}
-use Rattle.partition_tables.specs.GptTable.{child_of_entry, entries_of, first_good, good_header, gpt_children, gpt_table}
+use Rattle.partition_tables.specs.GptTable.{child_of_entry, entries_of, gpt_table_by, good_header, gpt_children, gpt_table}
 use Rattle.partition_tables.specs.Table.{table_by, table_of}
 use Rattle.partition_tables.specs.Law.{ChildrenLieOnTheMedium}
 
@@ -112,7 +112,7 @@ entries_lie limit (h, array) =
     (not (entries.overlaps_another (entries_of h array) i e)) (not (entries.is_hidden e)) e.first e.last limit given)
     (enumerate_from 0 (entries_of h array))
 
-gpt_lie : (limit : ℕ) (primary backup : Option (HeaderFields × List ℕ)) → All (λ c. Lies limit c) (first_good limit primary backup).children
+gpt_lie : (limit : ℕ) (primary backup : Option (HeaderFields × List ℕ)) → All (λ c. Lies limit c) (gpt_table_by limit primary backup).children
 gpt_lie limit (Some good) backup = entries_lie limit good
 gpt_lie limit None (Some good) = entries_lie limit good
 gpt_lie limit None None = All-nil (λ c. Lies limit c)

@@ -13,7 +13,7 @@ use Rattle.partition_tables.specs.declared.table.Child.{Child}
 use Rattle.partition_tables.specs.declared.table.TableKind.TheVariants.{Mbr}
 use Rattle.partition_tables.specs.Blocks.{blocks_of, boot_record_at}
 use Rattle.partition_tables.specs.MbrTable.{chain_of, child_of_record, logical_in, logicals_of, mbr_children, primaries_of}
-use Rattle.partition_tables.specs.GptTable.{child_of_entry, entries_of, entry_children, first_good, good_header, gpt_children, gpt_table}
+use Rattle.partition_tables.specs.GptTable.{child_of_entry, entries_of, entry_children, gpt_table_by, good_header, gpt_children, gpt_table}
 use Rattle.partition_tables.specs.Table.{table_by, table_of}
 use Rattle.partition_tables.specs.Law.{NumbersAscend}
 
@@ -94,7 +94,7 @@ entries_rise blocks (h, array) =
     rises_lower 1 0 (entry_children blocks h entries) (omega arith)
     (rises_kept 1 (λ (i, e). gpt.gives_partition h blocks entries i e) child_of_entry (λ p. refl) 0 entries)
 
-gpt_rise : (blocks : ℕ) (primary backup : Option (HeaderFields × List ℕ)) → Rises 0 (first_good blocks primary backup).children
+gpt_rise : (blocks : ℕ) (primary backup : Option (HeaderFields × List ℕ)) → Rises 0 (gpt_table_by blocks primary backup).children
 gpt_rise blocks (Some good) backup = entries_rise blocks good
 gpt_rise blocks None (Some good) = entries_rise blocks good
 gpt_rise blocks None None = tt

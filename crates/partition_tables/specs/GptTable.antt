@@ -20,8 +20,8 @@ abbrev pub array_of : List ℕ → ℕ → HeaderFields → Option (List ℕ)
 array_of bytes size h = option_map (λ (at, count). slice_range bytes at (at + count)) (array_range_of h (blocks_of bytes size) size)
 
 -- a header with its array, where this lies on the medium and has the CRC32 that the header tells
-abbrev pub with_array : List ℕ → ℕ → HeaderFields → Option (HeaderFields × List ℕ)
-with_array bytes size h =
+abbrev pub header_with_array : List ℕ → ℕ → HeaderFields → Option (HeaderFields × List ℕ)
+header_with_array bytes size h =
     option_and_then (λ array. if crc32_of array == h.array_crc then Some (h, array) else None) (array_of bytes size h)
 
 -- The good header at this LBA, with its array: the block is one of the medium and not its first, it holds a header that passes every
@@ -29,7 +29,7 @@ with_array bytes size h =
 unfoldable pub good_header : List ℕ → ℕ → ℕ → Option (HeaderFields × List ℕ)
 good_header bytes size lba =
     if not (lba == 0) && nat_lt lba (blocks_of bytes size) && is_none (fault_of lba (block_at bytes size lba))
-    then with_array bytes size (fields_of (block_at bytes size lba)) else None
+    then header_with_array bytes size (fields_of (block_at bytes size lba)) else None
 
 -- the entries in a header's array, each as its first 128 bytes tell it
 abbrev pub entries_of : HeaderFields → List ℕ → List GptEntry
@@ -49,11 +49,11 @@ gpt_children blocks (h, array) = entry_children blocks h (entries_of h array)
 
 -- the table of a disk with a protective master boot record: that of the header at LBA 1 where it is good, else that of the header at the
 -- last LBA where this is
-abbrev pub first_good : ℕ → Option (HeaderFields × List ℕ) → Option (HeaderFields × List ℕ) → Table
-first_good blocks (Some good) backup = record { kind = GptPrimary; children = gpt_children blocks good }
-first_good blocks None (Some good) = record { kind = GptBackup; children = gpt_children blocks good }
-first_good blocks None None = record { kind = GptDamaged; children = [] }
+abbrev pub gpt_table_by : ℕ → Option (HeaderFields × List ℕ) → Option (HeaderFields × List ℕ) → Table
+gpt_table_by blocks (Some good) backup = record { kind = GptPrimary; children = gpt_children blocks good }
+gpt_table_by blocks None (Some good) = record { kind = GptBackup; children = gpt_children blocks good }
+gpt_table_by blocks None None = record { kind = GptDamaged; children = [] }
 
 abbrev pub gpt_table : List ℕ → ℕ → Table
 gpt_table bytes size =
-    first_good (blocks_of bytes size) (good_header bytes size 1) (good_header bytes size (blocks_of bytes size - 1))
+    gpt_table_by (blocks_of bytes size) (good_header bytes size 1) (good_header bytes size (blocks_of bytes size - 1))
