@@ -1,4 +1,6 @@
-ghost use Rattle.std.specs.Prelude.{◌≡◌, IfOk};
+ghost use Rattle.std.specs.Prelude.{◌≡◌, length, IfOk};
+ghost use Rattle.std.specs.Borrow.{Lends, Array, sem, u8 as byte};
+ghost use Rattle.std.specs.List.{refill};
 
 use std::alloc::{AllocError, Global};
 use std::marker::Model;
@@ -18,6 +20,8 @@ impl Model for Bytes {
 }
 
 impl Bytes {
+    ghost use Rattle.byte_lists.specs.contracts.bytes.Bytes.{the_row};
+
     /// A copy of these bytes. The error is want of memory.
     pub fn copy_of(alloc: Global, bytes: &[u8]) -> Result<Bytes, AllocError>
         ensures { IfOk result (λ copy. copy ≡ bytes.now) }
@@ -47,5 +51,13 @@ impl Bytes {
         ensures { result.now ≡ self.now }
     {
         &self.kept
+    }
+
+    /// The bytes themselves, to be written over. Their number stays.
+    pub fn as_mut_slice(&mut self) -> &mut [u8]
+        ensures* writes_back { sem 𝓛 (Lends the_row (Array byte 0) self.entry result (refill (length self.entry.now) self.entry.now)) }
+        ensures value { result.now ≡ self.old }
+    {
+        &mut self.kept
     }
 }
