@@ -1,0 +1,2 @@
+pub mod RecordsLemmas
+mod Index
