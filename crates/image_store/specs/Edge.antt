@@ -1,16 +1,23 @@
 -- What comes in from a source and goes out to a sink, and the counts of their faults (own profile).
-use Rattle.std.specs.Prelude.{◌≡◌, ℕ, ◌<◌, ◌≤◌, List, [], ◌++◌, length, take, Option, None, Some, Result, Ok, Err, IsErrOf, OnErr}
+use Rattle.std.specs.Prelude.{◌≡◌, ◌≢◌, ℕ, ◌<◌, ◌≤◌, List, [], ◌++◌, length, take, Option, None, Some, Result, Ok, Err, IsErrOf, OnOk, OnErr}
 pub use Rattle.medium.specs.Counts.{Rose}
 
--- the count never falls, and this fault comes only where it rose
+-- the count stays where this fault is not the answer
+abbrev pub StaysBut : {T E : Type 0} → E → ℕ → ℕ → Result T E → Type 0
+StaysBut fault before now (Ok x) = now ≡ before
+StaysBut fault before now (Err e) = e ≢ fault → now ≡ before
+
+-- the count rose where this fault is the answer, and stays where it is not
 pub record HasCauseOf {T E : Type 0} (fault : E) (before now : ℕ) (result : Result T E) : Type 0 where
   pub later : before ≤ now
   pub failed : IsErrOf result fault → Rose before now
+  pub quiet : StaysBut fault before now result
 
--- the count never falls, and a fault comes only where it rose
+-- the count rose where it failed, and stays where it did not
 pub record HasCause {T E : Type 0} (before now : ℕ) (result : Result T E) : Type 0 where
   pub later : before ≤ now
   pub failed : OnErr result (Rose before now)
+  pub quiet : OnOk result (now ≡ before)
 
 -- the first n bytes of out are the next bytes, where it is told what is left; none are the end
 unfoldable pub TakesFront : Option (List ℕ) → Option (List ℕ) → ℕ → List ℕ → Type 0

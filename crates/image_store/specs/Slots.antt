@@ -1,8 +1,7 @@
 -- What an image in memory, and one in a file, is to those who look it up.
-use Rattle.std.specs.Prelude.{◌≡◌, ◌≢◌, ℕ, List, [], Option, None, Some}
+use Rattle.std.specs.Prelude.{◌≡◌, ◌≢◌, ℕ, Bool, true, false, List, [], Option, None, Some}
 use Rattle.std.specs.BTreeMap.{BTreeMap, get_by_text}
 use Rattle.std.specs.declared.alloc.Global.{Global}
-use Rattle.std.specs.declared.vec.Vec.{Vec}
 use Rattle.std.specs.declared.string.String.{String}
 use Rattle.medium.specs.declared.faulty.Planned.{Planned}
 use Rattle.image_store.specs.Place.{Place, Missing, Here, Taken, Untold, Image}
@@ -52,13 +51,12 @@ abbrev pub PlansOnly : List ℕ → MemImages → MemImages → Type 0
 PlansOnly name old new = (other : List ℕ) → other ≢ name → plans_at new other ≡ plans_at old other
 
 -- where a file is: its bytes and its tail are not told
-abbrev pub file_place : Option (Vec ℕ Global) → Place
-file_place None = Untold
-file_place (Some tail) = Taken None
+abbrev pub file_place : Bool → Place
+file_place false = Untold
+file_place true = Taken None
 
--- the media of files never fail
 abbrev pub file_image : FileSlot → Image
-file_image slot = record { place = file_place slot.tail; faults = slot.faults; worn = 0 }
+file_image slot = record { place = file_place slot.taken; faults = slot.faults; worn = slot.worn }
 
 -- a file that was never used
 abbrev pub unused_file : Image

@@ -2,22 +2,26 @@ ghost use Rattle.std.specs.Prelude.{◌≡◌, ℕ, List};
 
 use crate::file_slot::FileSlot;
 use crate::{Images, PutFault, TakeFault};
-use medium::MemMedium;
+use medium::{FileMedium, Volatile};
 use std::alloc::{AllocError, Global};
 use std::collections::BTreeMap;
+use std::os::unix::fs::FileExt;
 use std::rt::Files;
 
 /// Images in files of the current folder, which tell nothing of their bytes (own profile).
 ///
-/// A name must be an existing regular file. It is read whole when it is taken, and written whole, in place, when it is
-/// put back, so it keeps its mode.
+/// A name must be an existing regular file. A medium of it reads and writes the file in place, and its tail stays in the
+/// file untouched. When it is put back the system is asked to write the file through.
 #[derive(Drop)]
 pub struct FileImages<F> {
     files: F,
     slots: BTreeMap<String, FileSlot>,
 }
 
-impl<F: Files> FileImages<F> {
+impl<F: Files> FileImages<F>
+where
+    F::File: FileExt + Send,
+{
     ghost use Rattle.image_store.specs.Slots.{unused_file};
 
     /// The files that this runtime reaches.
@@ -31,8 +35,11 @@ impl<F: Files> FileImages<F> {
     }
 }
 
-impl<F: Files> Images for FileImages<F> {
-    type M = MemMedium;
+impl<F: Files> Images for FileImages<F>
+where
+    F::File: FileExt + Send,
+{
+    type M = Volatile<FileMedium<F::File>>;
 
     ghost use Rattle.image_store.specs.Slots.{file_at};
 
@@ -44,8 +51,8 @@ impl<F: Files> Images for FileImages<F> {
         alloc: Global,
         name: &str,
         size: u32,
-        _cached: bool,
-    ) -> Result<MemMedium, TakeFault> {
+        cached: bool,
+    ) -> Result<Volatile<FileMedium<F::File>>, TakeFault> {
         if !self.slots.contains_key(name) {
             let key = String::from_str(alloc, name)?;
             self.slots
@@ -53,15 +60,20 @@ impl<F: Files> Images for FileImages<F> {
                 .map_err(AllocError::from)?;
         }
         match self.slots.get_mut(name) {
-            Some(slot) => slot.take_out(alloc, &self.files, name, size),
+            Some(slot) => slot.take_out(alloc, &self.files, name, size, cached),
             None => unreachable!(),
         }
     }
 
     #[tactic(auto, using(std::proofs::lemmas::Map::Text::text_keys))]
-    fn put_back(&mut self, _alloc: Global, name: &str, medium: MemMedium) -> Result<(), PutFault> {
+    fn put_back(
+        &mut self,
+        _alloc: Global,
+        name: &str,
+        medium: Volatile<FileMedium<F::File>>,
+    ) -> Result<(), PutFault> {
         match self.slots.get_mut(name) {
-            Some(slot) => slot.put_in(&self.files, name, medium),
+            Some(slot) => slot.put_in(medium),
             None => unreachable!(),
         }
     }

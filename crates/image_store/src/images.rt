@@ -40,7 +40,7 @@ pub trait Images {
     ghost at: { Self → List ℕ → Image };
 
     /// Takes the image out as a medium in blocks of `size` bytes, which is one of the four sizes. What is left of less
-    /// than a block stays behind as its tail. The name is not taken, and `cached` is false.
+    /// than a block stays behind as its tail. The medium is cached exactly where `cached`. The name is not taken.
     ///
     /// Short exactly where the image is shorter than `size` and its faults did not rise. Failed only where they rose:
     /// a missing image is a fault. After each of these, and for want of memory, the image is where it was.
@@ -53,7 +53,6 @@ pub trait Images {
     ) -> Result<Self::M, TakeFault>
         requires size { IsBlockSize size }
         requires free { IsFree (at self.old name.now).place }
-        requires uncached { cached ≡ false }
         ensures taken { IfOk result (λ medium. IsTaking (at self.old name.now).place (at self.new name.now).place size cached (Self.M.device medium)) }
         ensures stays { OnErr result ((at self.new name.now).place ≡ (at self.old name.now).place) }
         ensures missing { (at self.old name.now).place ≡ Missing → IsErr result }

@@ -1,4 +1,6 @@
 ghost use Rattle.std.specs.Prelude.{◌≡◌, None};
+ghost use Rattle.std.specs.Io.KnownBytes.{ReadConsumes};
+ghost use Rattle.image_store.specs.Edge.{Takes, HasCause};
 
 use crate::{Failed, Source};
 use std::io::Read;
@@ -24,8 +26,15 @@ impl<R: Read> Source for InSource<R> {
 
     ghost faults = { λ source. source.faults };
 
+    ghost use Rattle.image_store.specs.Streams.{reader_of};
+
+    /// Takes what the reader gives.
     #[tactic(auto, unfolding(crate::specs::Edge::TakesFront))]
-    fn next(&mut self, out: &mut [u8]) -> Result<usize, Failed> {
+    fn next(&mut self, out: &mut [u8]) -> Result<usize, Failed>
+        ensures taken { Takes (⟦<InSource<R> as Source>⟧.left self.old) (⟦<InSource<R> as Source>⟧.left self.new) result out.new }
+        ensures cause { HasCause (⟦<InSource<R> as Source>⟧.faults self.old) (⟦<InSource<R> as Source>⟧.faults self.new) result }
+        ensures bytes { ReadConsumes (R.remaining (reader_of self.old)) (R.remaining (reader_of self.new)) result out.new }
+    {
         match self.from.read(out) {
             Ok(count) => Ok(count),
             Err(_) => {

@@ -8,7 +8,7 @@ ghost use Rattle.image_store.specs.Place.{Missing, Here, ChangesOnly, IsFree, Is
 use crate::failing::Failing;
 use crate::slot::{Slot, Stored};
 use crate::{Images, PutFault, TakeFault};
-use medium::{Faulty, Medium, MemMedium, Planned};
+use medium::{Faulty, Medium, MemMedium, Planned, Volatile};
 use std::alloc::{AllocError, Global};
 use std::collections::BTreeMap;
 
@@ -78,7 +78,7 @@ impl MemImages {
 }
 
 impl Images for MemImages {
-    type M = Faulty<MemMedium>;
+    type M = Faulty<Volatile<MemMedium>>;
 
     ghost use Rattle.image_store.specs.Calls.{is_next_failing, IsCalled, images_calls};
     ghost use Rattle.image_store.specs.Slots.{images_at, plans_at};
@@ -92,12 +92,11 @@ impl Images for MemImages {
         alloc: Global,
         name: &str,
         size: u32,
-        _cached: bool,
-    ) -> Result<Faulty<MemMedium>, TakeFault>
+        cached: bool,
+    ) -> Result<Faulty<Volatile<MemMedium>>, TakeFault>
         requires size { IsBlockSize size }
         requires free { IsFree (images_at self.old name.now).place }
-        requires uncached { _cached ≡ false }
-        ensures taken { IfOk result (λ medium. IsTaking (images_at self.old name.now).place (images_at self.new name.now).place size _cached (⟦<Faulty<MemMedium> as Medium>⟧.device medium)) }
+        ensures taken { IfOk result (λ medium. IsTaking (images_at self.old name.now).place (images_at self.new name.now).place size cached (⟦<Faulty<Volatile<MemMedium>> as Medium>⟧.device medium)) }
         ensures stays { OnErr result ((images_at self.new name.now).place ≡ (images_at self.old name.now).place) }
         ensures missing { (images_at self.old name.now).place ≡ Missing → IsErr result }
         ensures short_only { IsShort (images_at self.old name.now).place size → IsErr result }
@@ -113,7 +112,7 @@ impl Images for MemImages {
     {
         let fails = self.failing.next_fails();
         match self.slots.get_mut(name) {
-            Some(slot) => slot.take_out(alloc, size, fails),
+            Some(slot) => slot.take_out(alloc, size, cached, fails),
             None => {
                 let name = String::from_str(alloc, name)?;
                 self.slots
@@ -130,13 +129,13 @@ impl Images for MemImages {
         &mut self,
         _alloc: Global,
         name: &str,
-        medium: Faulty<MemMedium>,
+        medium: Faulty<Volatile<MemMedium>>,
     ) -> Result<(), PutFault>
         requires taken { IsTaken (images_at self.old name.now).place }
         ensures free { IsFree (images_at self.new name.now).place }
-        ensures place { (images_at self.new name.now).place ≡ put_place (images_at self.old name.now).place (⟦<Faulty<MemMedium> as Medium>⟧.device medium).kept result }
+        ensures place { (images_at self.new name.now).place ≡ put_place (images_at self.old name.now).place (⟦<Faulty<Volatile<MemMedium>> as Medium>⟧.device medium).kept result }
         ensures cause { HasCauseOf PutFault.Failed (images_at self.old name.now).faults (images_at self.new name.now).faults result }
-        ensures worn { (images_at self.new name.now).worn ≡ adds (images_at self.old name.now).worn (⟦<Faulty<MemMedium> as Medium>⟧.device medium).failed }
+        ensures worn { (images_at self.new name.now).worn ≡ adds (images_at self.old name.now).worn (⟦<Faulty<Volatile<MemMedium>> as Medium>⟧.device medium).failed }
         ensures others { ChangesOnly name.now (images_at self.old) (images_at self.new) }
         ensures plans { (other : List ℕ) → plans_at self.new other ≡ plans_at self.old other }
         ensures failing { IsTrue (is_next_failing (images_calls self.old)) ↔ (result ≡ Err PutFault.Failed) }

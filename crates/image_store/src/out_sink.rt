@@ -1,4 +1,6 @@
-ghost use Rattle.std.specs.Prelude.{◌≡◌, None};
+ghost use Rattle.std.specs.Prelude.{◌≡◌, None, OnOk};
+ghost use Rattle.std.specs.Io.KnownBytes.{Appends as WritesOn};
+ghost use Rattle.image_store.specs.Edge.{PutsText, HasCauseOf};
 
 use crate::{PutFault, Sink};
 use std::io::Write;
@@ -24,8 +26,15 @@ impl<W: Write> Sink for OutSink<W> {
 
     ghost faults = { λ sink. sink.faults };
 
+    ghost use Rattle.image_store.specs.Streams.{writer_of};
+
+    /// Hands the bytes to the writer.
     #[tactic(auto, using(crate::proofs::Fronts::untold_put), unfolding(crate::specs::Edge::Appends))]
-    fn put(&mut self, bytes: &[u8]) -> Result<(), PutFault> {
+    fn put(&mut self, bytes: &[u8]) -> Result<(), PutFault>
+        ensures text { PutsText (⟦<OutSink<W> as Sink>⟧.wrote self.old) (⟦<OutSink<W> as Sink>⟧.wrote self.new) result bytes.now }
+        ensures cause { HasCauseOf PutFault.Failed (⟦<OutSink<W> as Sink>⟧.faults self.old) (⟦<OutSink<W> as Sink>⟧.faults self.new) result }
+        ensures bytes { OnOk result (WritesOn (W.contents (writer_of self.old)) (W.contents (writer_of self.new)) bytes.now) }
+    {
         match self.to.write_all(bytes) {
             Ok(()) => Ok(()),
             Err(_) => {

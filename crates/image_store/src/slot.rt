@@ -7,7 +7,7 @@ ghost use Rattle.image_store.specs.Place.{Missing, IsFree, IsTaken, IsTaking, Is
 
 use crate::cut_image::{Cut, cut_image};
 use crate::{PutFault, TakeFault};
-use medium::{Faulty, Medium, MemMedium, Planned};
+use medium::{Faulty, Medium, MemMedium, Planned, Volatile};
 use std::alloc::{AllocError, Global};
 use std::mem;
 
@@ -76,11 +76,12 @@ impl Slot {
         &mut self,
         alloc: Global,
         size: u32,
+        cached: bool,
         fails: bool,
-    ) -> Result<Faulty<MemMedium>, TakeFault>
+    ) -> Result<Faulty<Volatile<MemMedium>>, TakeFault>
         requires size { IsBlockSize size }
         requires free { IsFree (place_of self.old.stored) }
-        ensures taken { IfOk result (λ medium. IsTaking (place_of self.old.stored) (place_of self.new.stored) size false (⟦<Faulty<MemMedium> as Medium>⟧.device medium)) }
+        ensures taken { IfOk result (λ medium. IsTaking (place_of self.old.stored) (place_of self.new.stored) size cached (⟦<Faulty<Volatile<MemMedium>> as Medium>⟧.device medium)) }
         ensures stays { OnErr result (place_of self.new.stored ≡ place_of self.old.stored) }
         ensures missing { place_of self.old.stored ≡ Missing → IsErr result }
         ensures short_only { IsShort (place_of self.old.stored) size → IsErr result }
@@ -106,18 +107,22 @@ impl Slot {
         let plan = Vec::from_slice(alloc, &self.plan)?;
         let Cut { medium, tail } = cut_image(alloc, bytes, size)?;
         self.stored = Stored::Tail(tail);
-        Ok(Faulty::make(medium, plan))
+        Ok(Faulty::make(Volatile::make(alloc, medium, cached), plan))
     }
 
     /// Puts a medium back, or fails. The image is gone after a fault.
-    pub fn put_in(&mut self, medium: Faulty<MemMedium>, fails: bool) -> Result<(), PutFault>
+    pub fn put_in(
+        &mut self,
+        medium: Faulty<Volatile<MemMedium>>,
+        fails: bool,
+    ) -> Result<(), PutFault>
         requires taken { IsTaken (place_of self.old.stored) }
         ensures free { IsFree (place_of self.new.stored) }
-        ensures place { place_of self.new.stored ≡ put_place (place_of self.old.stored) (⟦<Faulty<MemMedium> as Medium>⟧.device medium).kept result }
+        ensures place { place_of self.new.stored ≡ put_place (place_of self.old.stored) (⟦<Faulty<Volatile<MemMedium>> as Medium>⟧.device medium).kept result }
         ensures cause { HasCauseOf PutFault.Failed self.old.faults self.new.faults result }
         ensures plan { self.new.plan ≡ self.old.plan }
         ensures failing { IsTrue fails ↔ (result ≡ Err PutFault.Failed) }
-        ensures worn { self.new.worn ≡ adds self.old.worn (⟦<Faulty<MemMedium> as Medium>⟧.device medium).failed }
+        ensures worn { self.new.worn ≡ adds self.old.worn (⟦<Faulty<Volatile<MemMedium>> as Medium>⟧.device medium).failed }
     {
         self.worn = self.worn.saturating_add(medium.failed());
         let stored = mem::replace(&mut self.stored, Stored::Gone);
@@ -125,7 +130,10 @@ impl Slot {
             self.faults = self.faults.saturating_add(1);
             return Err(PutFault::Failed);
         }
-        let mut bytes = medium.inner().into_bytes()?;
+        let Ok(settled) = medium.inner().settle() else {
+            unreachable!()
+        };
+        let mut bytes = settled.into_bytes()?;
         if let Stored::Tail(tail) = stored {
             bytes.extend_from_slice(&tail)?;
         }

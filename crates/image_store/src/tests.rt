@@ -55,18 +55,24 @@ fn readers_and_writers(rt: HostRuntime) -> Result<(), Fail> {
 fn files(rt: HostRuntime) -> Result<(), Fail> {
     let alloc = rt.alloc();
     let mut images = FileImages::make(alloc, &rt);
-    assert_eq!(rt;
-        images.take(alloc, "no.img", 512, false).err(),
-        Some(TakeFault::Failed)
-    );
-    fs::write(&rt, "one.img", &[7; 1030])?;
-    let mut medium = images.take(alloc, "one.img", 512, false)?;
-    assert_eq!(rt; fill(alloc, &mut medium, 9)?, Ok(()));
-    images.put_back(alloc, "one.img", medium)?;
-    let mut back = vec![in alloc; 9; 1024]?;
-    back.extend_from_slice(&[7; 6])?;
-    assert_eq!(rt; fs::read(&rt, "one.img")?, back);
-    fs::remove_file(&rt, "one.img")?;
+    fs::create_dir(&rt, "folder.img")?;
+    for name in ["no.img", "folder.img"] {
+        assert_eq!(rt;
+            images.take(alloc, name, 512, false).err(),
+            Some(TakeFault::Failed)
+        );
+    }
+    fs::remove_dir(&rt, "folder.img")?;
+    for (cached, byte) in [(false, 9), (true, 7)] {
+        fs::write(&rt, "one.img", &[7; 1030])?;
+        let mut medium = images.take(alloc, "one.img", 512, cached)?;
+        assert_eq!(rt; fill(alloc, &mut medium, 9)?, Ok(()));
+        images.put_back(alloc, "one.img", medium)?;
+        let mut back = vec![in alloc; byte; 1024]?;
+        back.extend_from_slice(&[7; 6])?;
+        assert_eq!(rt; fs::read(&rt, "one.img")?, back);
+        fs::remove_file(&rt, "one.img")?;
+    }
     Ok(())
 }
 

@@ -1,10 +1,7 @@
 -- Causes of faults over several calls.
-use Rattle.std.proofs.Common.{ℕ, ◌≤◌, Result, arith}
-use Rattle.image_store.specs.Edge.{Rose, HasCauseOf}
+use Rattle.std.proofs.Common.{◌≡◌, ℕ, Result, subst}
+use Rattle.image_store.specs.Edge.{HasCauseOf}
 
--- a fault whose count rose from a later moment on rose from an earlier one on
-pub earlier_cause : {T E : Type 0} (fault : E) (a b c : ℕ) (result : Result T E) → a ≤ b → HasCauseOf fault b c result → HasCauseOf fault a c result
-earlier_cause fault a b c result later cause = record {
-  later = let more : b ≤ c = cause.later in omega arith;
-  failed = λ is. let rose : Rose b c = cause.failed is in omega arith;
-}
+-- a count that stayed up to a moment has the cause that it has from that moment on
+pub earlier_cause : {T E : Type 0} (fault : E) (a b c : ℕ) (result : Result T E) → b ≡ a → HasCauseOf fault b c result → HasCauseOf fault a c result
+earlier_cause fault a b c result same cause = subst (λ (n : ℕ). HasCauseOf fault n c result) same cause

@@ -1,4 +1,4 @@
-use Rattle.std.proofs.Common.{rules, arith, ◌≡◌, take, ◌++◌}
+use Rattle.std.proofs.Common.{rules, arith, ◌≡◌, ◌∙◌, take, ◌++◌}
 use Rattle.std.proofs.lemmas.Grind.{common_steps}
 use Rattle.stack_run.proofs.Read.{so-far-more, so-far-ended, so-far-long}
 use Rattle.stack_run.proofs.reading.read_source.Goals as goal
@@ -11,7 +11,7 @@ pub pieces-preserved : goal.pieces-preserved
 pieces-preserved g c =
     let piece : c.extend_from_slice.new.self.items ≡ c.pieces.bytes.items ++ take c.in-Ok.count c.next.new.out = search (rules, common_steps) in (
       rw piece (so-far-more (g.R.Source.left c.args.source.now) (g.R.Source.left c.pieces.source) (g.R.Source.left c.next.new.self) c.pieces.bytes.items c.next.new.out c.in-Ok.count c.pieces.invariant.0 c.in-Ok.ensures.taken.1),
-      omega (arith, c.pieces.invariant.1, c.in-Ok.ensures.cause.later),
+      c.in-Ok.ensures.cause.quiet ∙ c.pieces.invariant.1,
     )
 
 pub returns-clause-read : goal.returns-clause-read

@@ -1,4 +1,4 @@
-use Rattle.std.proofs.Common.{string_bytes, ◌≤◌}
+use Rattle.std.proofs.Common.{string_bytes, ◌≡◌}
 use Rattle.script_text.specs.Entries.{line_text}
 use Rattle.script_text.proofs.LineLoops.{HasAdded}
 use Rattle.script_text.proofs.report.writer.add_entries.Given as goal
@@ -6,5 +6,5 @@ use Rattle.script_text.proofs.report.writer.add_entries.Given as goal
 abbrev pub invariant-loop-place : goal.invariant-loop-place
 invariant-loop-place g l = record {
   added : HasAdded (line_text l.per) 0 l.entries l.place (g.O.Sink.wrote l.initial.out) (g.O.Sink.wrote l.out) (string_bytes l.initial.held) (string_bytes l.held);
-  later : g.O.Sink.faults l.initial.out ≤ g.O.Sink.faults l.out;
+  quiet : g.O.Sink.faults l.out ≡ g.O.Sink.faults l.initial.out;
 }
