@@ -3,7 +3,7 @@ use Rattle.std.proofs.Common.{◌≡◌, ◌⊎◌, ℕ, zero, suc, ◌+◌, inl
 use Rattle.std.specs.List.{list_all}
 use Rattle.std.proofs.lemmas.Bool.{cases_Bool, cases_eq, and_parts, and_from, and_left, and_right, both_ways, true_from_ne_false, eq-eqb, ne_eqb, not_from_false, false_from_ne_true}
 use Rattle.efi_status.specs.declared.Status.{Status}
-use Rattle.efi_status.specs.declared.Status.TheVariants.{Success, DeviceError}
+use Rattle.efi_status.specs.declared.Status.TheVariants.{Success}
 use Rattle.disk_split.specs.declared.span.Span.{Span}
 use Rattle.disk_split.specs.Units.{IsUnit}
 use Rattle.disk_split.proofs.Shared.{units-same}
@@ -11,11 +11,11 @@ use Rattle.history.specs.declared.entry.View.{View}
 use Rattle.history.specs.declared.entry.Asked.{Asked}
 use Rattle.history.specs.declared.entry.Command.{Command}
 use Rattle.history.specs.declared.entry.Entry.{Entry}
-use Rattle.history.specs.declared.entry.Entry.TheVariants.{Accept, Done, Fault}
+use Rattle.history.specs.declared.entry.Entry.TheVariants.{Accept, Done}
 use Rattle.history.specs.Setup.{Setup, IsSetup}
 use Rattle.history.specs.Tokens.{Request, accepted, request, is_flush, from_of, until_of}
 use Rattle.history.specs.Commands.{is_transfer, done_commands, has_done}
-use Rattle.history.specs.Marks.{mark_of, first_from, status_if, is_complete, is_outstanding, IsOutstanding}
+use Rattle.history.specs.Marks.{first_from, status_if, is_complete, is_outstanding, IsOutstanding}
 use Rattle.history.specs.Rules.{MayFollow, IsLegal}
 use Rattle.history.specs.Tasks.{Task, Moves, Syncs, tasks_of, is_finished, Todo, todo_of, todo_before, pending}
 use Rattle.history.specs.Next.{first_open}
@@ -23,12 +23,12 @@ use Rattle.history_laws.specs.Told.{concerns}
 use Rattle.history_laws.specs.Units.{IsUnitCommand}
 use Rattle.history_laws.specs.Pending.{is_todo, todo_at, todos_of, is_task_of, is_todo_of}
 use Rattle.history_laws.proofs.CountLemmas.{accepted-more, accepted-same}
-use Rattle.history_laws.proofs.TokenLemmas.{request-same, request-accept, done_commands-same, done_commands-other, mark-other, done-concerns, fault-concerns, accept-concerns}
-use Rattle.history_laws.proofs.EndLemmas.{mark-accept, mark-done, mark-fault, unaccepted, untold-done, command-open}
+use Rattle.history_laws.proofs.TokenLemmas.{request-same, request-accept, done_commands-same, done_commands-other, mark-other, done-concerns, accept-concerns}
+use Rattle.history_laws.proofs.EndLemmas.{mark-accept, mark-done, unaccepted, untold-done, command-open}
 use Rattle.history_laws.proofs.UnitLemmas.{is_within, within-from, within-parts, unit-inside, moved-more}
 use Rattle.history_laws.proofs.TaskLemmas.{complete-tasks, task-unit, task-sync}
 use Rattle.history_laws.proofs.OwedLemmas.{span-moving}
-use Rattle.history_laws.proofs.NextLemmas.{ended-test, outstanding-test}
+use Rattle.history_laws.proofs.NextLemmas.{outstanding-test}
 use Rattle.history_laws.proofs.RunnableLemmas.{Agrees, agrees-before}
 use Rattle.history_laws.proofs.PendingLemmas.{IsPending, filter-everything, filter-alike, todo-closed, todo-open, todo-stays, before-keeps, before-is, pending-is, pending-keeps}
 
