@@ -1,6 +1,6 @@
 ghost use Rattle.std.specs.Prelude.{◌≡◌, ◌+◌, ◌<◌, ◌≤◌};
 
-use crate::{BlockFailed, Faulty, Medium, MemMedium, Planned};
+use crate::{BlockFailed, Faulty, Medium, MemMedium, Planned, Volatile};
 use std::alloc::{AllocError, Global};
 use std::test::Fail;
 
@@ -15,11 +15,25 @@ fn fill<M: Medium>(
     requires some { 0 < count }
     requires most { count ≤ 64 }
     requires fits { lba + count ≤ (M.device medium.old).blocks }
-    ensures { (M.device medium.new).blocks ≡ (M.device medium.old).blocks }
+    ensures blocks { (M.device medium.new).blocks ≡ (M.device medium.old).blocks }
+    ensures size { (M.device medium.new).size ≡ (M.device medium.old).size }
 {
     medium.prepare(alloc, lba, count)?;
     let bytes = vec![in alloc; byte; (count * u64::from(medium.size())) as usize]?;
     Ok(medium.write_blocks(lba, &bytes))
+}
+
+/// Makes what was written stay, where it is asked to.
+fn sync_where<M: Medium>(medium: &mut M, asked: bool) -> Result<(), BlockFailed>
+    ensures blocks { (M.device medium.new).blocks ≡ (M.device medium.old).blocks }
+    ensures size { (M.device medium.new).size ≡ (M.device medium.old).size }
+{
+    if asked { medium.sync() } else { Ok(()) }
+}
+
+/// The first byte of each of the first four blocks, which have 512 bytes.
+fn firsts(bytes: &[u8]) -> [Option<u8>; 4] {
+    [0, 512, 1024, 1536].map(|at| bytes.get(at).copied())
 }
 
 #[test]
@@ -44,6 +58,58 @@ fn planned_writes(rt: HostRuntime) -> Result<(), Fail> {
         let bytes = medium.inner().into_bytes()?;
         let written = bytes.as_slice().iter().filter(|byte| **byte == 9).count();
         assert_eq!(rt; written, done as usize * 512);
+    }
+    Ok(())
+}
+
+#[test]
+fn settled(rt: HostRuntime) -> Result<(), Fail> {
+    let alloc = rt.alloc();
+    for (cached, synced, kept) in [
+        (true, false, [7, 7, 7, 7]),
+        (true, true, [7, 9, 9, 7]),
+        (false, false, [5, 5, 5, 7]),
+    ] {
+        let inner = MemMedium::make(alloc, vec![in alloc; 7; 4 * 512]?, 512)?;
+        let mut medium = Volatile::make(alloc, inner, cached);
+        assert_eq!(rt; fill(alloc, &mut medium, 1, 2, 9)?, Ok(()));
+        assert_eq!(rt; sync_where(&mut medium, synced), Ok(()));
+        assert_eq!(rt; fill(alloc, &mut medium, 0, 3, 5)?, Ok(()));
+        let mut now = [0; 4 * 512];
+        assert_eq!(rt; medium.read_blocks(0, &mut now), Ok(()));
+        assert_eq!(rt; firsts(&now), [5, 5, 5, 7].map(Some));
+        match medium.settle() {
+            Ok(settled) => {
+                let bytes = settled.into_bytes()?;
+                assert_eq!(rt; firsts(&bytes), kept.map(Some));
+            }
+            Err(_) => assert!(rt; false),
+        }
+    }
+    Ok(())
+}
+
+#[test]
+fn commands_inside_fail_in_turn(rt: HostRuntime) -> Result<(), Fail> {
+    let alloc = rt.alloc();
+    // Two saving reads and the write, of which the first block is done where it fails.
+    for (call, done) in [(2, 0), (3, 0), (4, 1)] {
+        let inner = MemMedium::make(alloc, vec![in alloc; 7; 4 * 512]?, 512)?;
+        let plan = vec![in alloc; Planned { call, done: 1 }]?;
+        let mut medium = Volatile::make(alloc, Faulty::make(inner, plan), true);
+        assert_eq!(rt; fill(alloc, &mut medium, 1, 1, 9)?, Ok(()));
+        assert_eq!(rt;
+            fill(alloc, &mut medium, 0, 3, 5)?,
+            Err(BlockFailed { done })
+        );
+        assert_eq!(rt; medium.failed(), 1);
+        match medium.settle() {
+            Ok(settled) => {
+                let bytes = settled.inner().into_bytes()?;
+                assert_eq!(rt; firsts(&bytes), [7, 7, 7, 7].map(Some));
+            }
+            Err(_) => assert!(rt; false),
+        }
     }
     Ok(())
 }
