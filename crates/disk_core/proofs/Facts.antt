@@ -1,5 +1,5 @@
 -- Where the next unit lies: in its record's buffer, in its blocks, and on the medium.
-use Rattle.std.proofs.Common.{◌≡◌, ℕ, ◌+◌, ◌-◌, ◌*◌, ◌/◌, ◌<◌, ◌≤◌, min, Bool, true, false, length, sym, ◌∙◌, ap, arith}
+use Rattle.std.proofs.Common.{◌≡◌, ℕ, ◌+◌, ◌-◌, ◌*◌, ◌/◌, ◌<◌, ◌≤◌, min, Bool, true, false, length, sym, ◌∙◌, arith}
 use Rattle.std.proofs.Math.Nat.{lt_of_mul-lt-mul_right, div-mul-le_self}
 use Rattle.disk_split.specs.declared.geometry.Geometry.{Geometry}
 use Rattle.disk_split.specs.declared.span.Span.{Span}
@@ -8,12 +8,11 @@ use Rattle.disk_split.proofs.Shared.{are-get}
 use Rattle.disk_split.proofs.Units.{units-are}
 use Rattle.medium.specs.Device.{Device, IsShaped, IsTransfer}
 use Rattle.history.specs.declared.entry.Kind.{Kind}
-use Rattle.history.specs.Setup.{Setup, size_of, per_of, blocks_of, IsSetup}
+use Rattle.history.specs.Setup.{Setup, per_of, blocks_of, IsSetup}
 use Rattle.history.specs.Tokens.{Request, from_of, until_of}
 use Rattle.history_laws.proofs.PieceLemmas.{run-low, run-high}
 use Rattle.disk_core.specs.declared.record.Record.{Record}
 use Rattle.disk_core.specs.declared.record.Core.{Core}
-use Rattle.disk_core.specs.State.{setup_of}
 use Rattle.disk_core.specs.Sound.{IsSound, Tracks}
 use Rattle.disk_core.specs.Stepping.{NextUnit, UnitLies}
 use Rattle.disk_core.specs.Submitting.{LieOn}

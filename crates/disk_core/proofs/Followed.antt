@@ -1,5 +1,5 @@
 -- The medium follows the history, entry by entry.
-use Rattle.std.proofs.Common.{◌≡◌, ℕ, ◌+◌, ◌^◌, ◌<◌, ◌≤◌, Bool, true, false, List, ◌∷◌, length, Option, None, Some, Result, Ok, Err, OnErr, refl, sym, ◌∙◌, ap, arith, if◌then◌else◌, option_map}
+use Rattle.std.proofs.Common.{◌≡◌, ℕ, ◌+◌, ◌^◌, ◌<◌, ◌≤◌, Bool, true, false, List, ◌∷◌, length, Option, None, Some, Result, Ok, Err, OnErr, refl, sym, ◌∙◌, arith, if◌then◌else◌, option_map}
 use Rattle.byte_lists.specs.Patching.{patch}
 use Rattle.medium.specs.declared.block_failed.BlockFailed.{BlockFailed}
 use Rattle.medium.specs.Counts.{adds, Rose}
@@ -13,11 +13,11 @@ use Rattle.history.specs.declared.entry.Entry.TheVariants.{Accept, Refuse, Done,
 use Rattle.history.specs.Setup.{Setup}
 use Rattle.history.specs.Eras.{is_eject, is_insert, is_protected, is_command, is_fault}
 use Rattle.history.specs.Commands.{is_sync}
-use Rattle.history.specs.Contents.{contents, kept_contents}
+use Rattle.history.specs.Contents.{contents}
 use Rattle.history.specs.Room.{commands, faults}
 use Rattle.history_laws.proofs.CountLemmas.{ejects-same, inserts-same, commands-more, commands-same, faults-more, faults-same, commands-few, faults-few}
 use Rattle.history_laws.proofs.ContentLemmas.{is_flush_entry, piece-none, contents-same, kept-same, kept-more}
-use Rattle.disk_core.specs.State.{setup_of, Meets}
+use Rattle.disk_core.specs.State.{Meets}
 use Rattle.disk_core.specs.Sound.{IsPlain}
 use Rattle.disk_core.proofs.Setups.{setup-same, cached-of}
 

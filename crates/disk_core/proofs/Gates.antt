@@ -1,5 +1,5 @@
 -- Which block is held after an entry.
-use Rattle.std.proofs.Common.{◌≡◌, ℕ, ◌*◌, true, false, List, ◌∷◌, slice_get, Option, None, Some, sym, ◌∙◌, ap, inl, inr}
+use Rattle.std.proofs.Common.{◌≡◌, ℕ, ◌*◌, false, List, ◌∷◌, slice_get, Option, None, Some, sym, ◌∙◌, ap, inl, inr}
 use Rattle.std.proofs.lemmas.Bool.{both_ways}
 use Rattle.efi_status.specs.declared.Status.TheVariants.{DeviceError}
 use Rattle.medium.specs.Device.{AreToldAt}

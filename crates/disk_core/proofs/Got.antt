@@ -1,5 +1,5 @@
 -- The next unit of a read is read, or its read fails.
-use Rattle.std.proofs.Common.{inr, ◌≡◌, ℕ, ◌+◌, ◌-◌, ◌^◌, ◌<◌, ◌≤◌, List, ◌∷◌, length, None, Ok, Err, refl, sym, ◌∙◌, arith}
+use Rattle.std.proofs.Common.{◌≡◌, ℕ, ◌+◌, ◌-◌, ◌^◌, ◌<◌, ◌≤◌, List, ◌∷◌, length, Ok, Err, refl, sym, ◌∙◌, arith}
 use Rattle.byte_lists.proofs.Patched.{length-patch}
 use Rattle.disk_split.specs.declared.span.Span.{Span}
 use Rattle.medium.specs.declared.block_failed.BlockFailed.{BlockFailed}

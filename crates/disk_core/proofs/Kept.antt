@@ -14,8 +14,8 @@ use Rattle.history.specs.declared.entry.Kind.TheVariants.{Read, Write, Flush, Er
 use Rattle.history.specs.declared.entry.Entry.{Entry}
 use Rattle.history.specs.declared.entry.Entry.TheVariants.{Accept}
 use Rattle.history.specs.Setup.{Setup, size_of, blocks_of, IsSetup}
-use Rattle.history.specs.Tokens.{Request, accepted, was_collected, from_of, until_of}
-use Rattle.history.specs.Commands.{moves, is_moved}
+use Rattle.history.specs.Tokens.{Request, accepted, from_of, until_of}
+use Rattle.history.specs.Commands.{moves}
 use Rattle.history.specs.Contents.{contents, bytes_read}
 use Rattle.history.specs.Marks.{mark_of, Holds}
 use Rattle.history.specs.Rules.{IsLegal, MayFollow, IsPayload}

@@ -1,5 +1,5 @@
 -- The first open record's next unit is the command that comes next.
-use Rattle.std.proofs.Common.{◌≡◌, ℕ, ◌<◌, ◌≤◌, true, false, List, slice_get, Option, None, Some, option_map, refl, sym, ◌∙◌, ap, arith, nat_lt}
+use Rattle.std.proofs.Common.{◌≡◌, ℕ, ◌<◌, ◌≤◌, true, List, slice_get, Option, None, Some, option_map, refl, sym, ◌∙◌, ap, arith, nat_lt}
 use Rattle.std.proofs.lemmas.Bool.{lt-ltb}
 use Rattle.std.proofs.lemmas.Option.{slice_get-map}
 use Rattle.disk_split.specs.declared.span.Span.{Span}
@@ -7,7 +7,7 @@ use Rattle.disk_split.specs.Units.{units_of}
 use Rattle.disk_split.proofs.Tiled.{tile-within, tile-parted}
 use Rattle.history.specs.declared.entry.Entry.{Entry}
 use Rattle.history.specs.Setup.{Setup}
-use Rattle.history.specs.Tokens.{Request, is_flush, from_of, until_of}
+use Rattle.history.specs.Tokens.{Request, from_of, until_of}
 use Rattle.history.specs.Tasks.{Task, Moves, tasks_of, is_finished}
 use Rattle.history.specs.Next.{next_task}
 use Rattle.history_laws.proofs.NextLemmas.{next-task-is}

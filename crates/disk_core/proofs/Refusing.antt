@@ -1,5 +1,5 @@
 -- A disk that refuses a request.
-use Rattle.std.proofs.Common.{◌≡◌, ℕ, ◌+◌, ◌^◌, ◌<◌, ◌≤◌, true, false, List, ◌∷◌, length, Some, inl, inr, refl, sym, ◌∙◌}
+use Rattle.std.proofs.Common.{◌≡◌, ℕ, ◌+◌, ◌^◌, ◌<◌, ◌≤◌, true, List, ◌∷◌, length, Some, inl, inr, refl, sym, ◌∙◌}
 use Rattle.efi_status.specs.declared.Status.{Status}
 use Rattle.medium.specs.Device.{Device}
 use Rattle.history.specs.declared.entry.View.{View}

@@ -1,8 +1,7 @@
 -- What a medium says of the setup of its disk.
-use Rattle.std.proofs.Common.{◌≡◌, ℕ, ◌%◌, ◌<◌, ◌≤◌, ◌⊎◌, inl, inr, Bool, true, ◌||◌, nat_eq, refl, sym, ◌∙◌, ap, arith}
+use Rattle.std.proofs.Common.{◌≡◌, ℕ, ◌≤◌, ◌⊎◌, inl, inr, true, ◌||◌, nat_eq, sym, ap, arith}
 use Rattle.std.proofs.lemmas.Bool.{or_cases, eqb-true}
 use Rattle.medium.specs.Device.{Device, IsShaped, IsSame, is_block_size}
-use Rattle.disk_split.specs.declared.geometry.Geometry.{Geometry}
 use Rattle.history.specs.Setup.{Setup, size_of, per_of, blocks_of, IsSetup}
 use Rattle.disk_core.specs.State.{setup_of}
 

@@ -30,12 +30,12 @@ use Rattle.disk_core.proofs.Endings.{Ends, kept-same, faulted, wrote, may-done, 
 use Rattle.disk_core.proofs.Facts.{next-of, unit-facts}
 use Rattle.disk_core.proofs.Followed.{meets-command, done-command, told-patched}
 use Rattle.disk_core.proofs.Gates.{NoneHeld, none-held, gate-fetch, none-after, none-after-store}
-use Rattle.disk_core.proofs.May.{IsNext, may-fetch, may-store, may-put, moves-put, moves-store, next-unstored}
+use Rattle.disk_core.proofs.May.{IsNext, may-fetch, may-store, may-put, moves-put, moves-store}
 use Rattle.disk_core.proofs.Places.{set-itself}
 use Rattle.disk_core.proofs.Setups.{size-of}
 use Rattle.disk_core.proofs.Stepped.{LeavesDisk, done-own, sound-after}
 use Rattle.disk_core.proofs.Tracked.{MovesUnit, tracks-fetch}
-use Rattle.disk_core.proofs.Turned.{moves-by, turn-fetch, turn-store, turn-put, unfetched}
+use Rattle.disk_core.proofs.Turned.{moves-by, turn-fetch, turn-store, turn-put}
 
 -- the bytes of the unit
 abbrev pub unit_bytes : Record → Span → List ℕ

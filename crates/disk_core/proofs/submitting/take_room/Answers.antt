@@ -1,4 +1,4 @@
-use Rattle.std.proofs.Common.{refl, arith, ◌≡◌}
+use Rattle.std.proofs.Common.{refl, arith}
 use Rattle.disk_split.specs.Units.{IsGeometry}
 use Rattle.disk_core.proofs.Facts.{lie-on}
 use Rattle.disk_core.proofs.Setups.{sizes-bounds}
