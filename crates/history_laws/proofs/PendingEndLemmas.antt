@@ -13,9 +13,9 @@ use Rattle.history.specs.Tokens.{Request, is_accept, request, is_flush, changes_
 use Rattle.history.specs.Commands.{is_sync}
 use Rattle.history.specs.Marks.{mark_of, ending, status_if, has_view, is_complete, is_outstanding, IsOutstanding}
 use Rattle.history.specs.Tasks.{is_finished, Todo, pending}
-use Rattle.history_laws.specs.Told.{concerns}
+use Rattle.history_laws.specs.Told.{is_done, concerns}
 use Rattle.history_laws.specs.Pending.{is_todo}
-use Rattle.history_laws.proofs.TokenLemmas.{is_done, request-same, has_done-done, done_commands-same, done_commands-other, mark-other, done-concerns, fault-concerns}
+use Rattle.history_laws.proofs.TokenLemmas.{request-same, has_done-done, done_commands-same, done_commands-other, mark-other, done-concerns, fault-concerns}
 use Rattle.history_laws.proofs.EndLemmas.{mark-done, mark-fault}
 use Rattle.history_laws.proofs.TaskLemmas.{complete-flush}
 use Rattle.history_laws.proofs.NextLemmas.{ended-test, outstanding-test}

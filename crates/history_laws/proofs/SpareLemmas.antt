@@ -14,6 +14,7 @@ use Rattle.history.specs.Tokens.{Request, is_accept, accepted, request, is_colle
 use Rattle.history.specs.Marks.{IsOutstanding, mark_of, ending, or_else, is_same_view}
 use Rattle.history.specs.Rules.{MayCommand, MayFollow, IsLegal}
 use Rattle.history.specs.Room.{commands_owed, owed_by, token_owed, tokens_owed, media_owed, owed_entries}
+use Rattle.history_laws.specs.Laws.{is_owed}
 use Rattle.history_laws.proofs.CountLemmas.{inserts-none, accepted-more, accepted-same, ejects-more, ejects-same, inserts-more, inserts-same}
 use Rattle.history_laws.proofs.TokenLemmas.{accept-concerns, request-kept, request-same, request-some, collected-collect}
 use Rattle.history_laws.proofs.EndLemmas.{mark-stays, mark-next, command-open, unaccepted, untold-mark}
@@ -173,6 +174,18 @@ unfolding MayFollow owed_entries
 entries-insert S H tag k (out, is, within) =
     rw (accepted-same H (Insert tag k) refl)
     (omega (arith, tokens-less S H (Insert tag k ∷ H) (accepted H) (λ t below. owed-stays S H (Insert tag k) t below), ejects-same H (Insert tag k) refl, inserts-more H (Insert tag k) refl))
+
+-- every entry but an accept, a refusal and a change of protection takes at least one
+pub entries-owed : (S : Setup) (H : List Entry) (e : Entry) → IsSetup S → 1 ≤ length S.media → IsLegal S H → MayFollow S H e → is_owed e ≡ true → owed_entries S (e ∷ H) + 1 ≤ owed_entries S H
+unfolding MayFollow
+entries-owed S H (Done t c) is some legal may owed = entries-done S H t c is legal may
+entries-owed S H (Fault t c done) is some legal (may, stops) owed = omega (arith, entries-fault S H t c done is legal may)
+entries-owed S H (Collect tag t) is some legal may owed = entries-collect S H tag t legal may
+entries-owed S H (Cancel tag view) is some legal may owed = entries-cancel S H tag view may
+entries-owed S H (Reset tag) is some legal may owed = entries-reset S H tag may
+entries-owed S H (Eject tag) is some legal may owed = entries-eject S H tag some legal may
+entries-owed S H (Insert tag k) is some legal may owed = entries-insert S H tag k may
+entries-owed S H e is some legal may owed = cc
 
 token-within : (S : Setup) (H : List Entry) (n t : ℕ) → t < n → token_owed S H t ≤ tokens_owed S H n
 unfolding tokens_owed

@@ -15,7 +15,7 @@ use Rattle.history.specs.Commands.{first_block, block_count, is_get, lies_in, do
 use Rattle.history.specs.Contents.{contents, byte_at, bytes_read}
 use Rattle.history.specs.Marks.{mark_of, ending, or_else, ticket_of}
 use Rattle.history.specs.Room.{commands_of}
-use Rattle.history_laws.specs.Told.{Told, told, concerns}
+use Rattle.history_laws.specs.Told.{is_done, Told, told, concerns}
 use Rattle.history_laws.proofs.CountLemmas.{accepted-none, accepted-more, accepted-same}
 
 -- an end that is none leaves the mark
@@ -152,10 +152,6 @@ done_commands-done H t c = rw (eq-eqb t t refl)
 pub has_done-done : (test : Command → Bool) (H : List Entry) (t : ℕ) (c : Command) → has_done test (Done t c ∷ H) t ≡ (test c || has_done test H t)
 unfolding has_done
 has_done-done test H t c = ap (list_any test) (done_commands-done H t c)
-
-abbrev pub is_done : Entry → Bool
-is_done (Done t c) = true
-is_done e = false
 
 -- another entry leaves the done commands of every token
 pub done_commands-same : (H : List Entry) (e : Entry) (t : ℕ) → is_done e ≡ false → done_commands (e ∷ H) t ≡ done_commands H t

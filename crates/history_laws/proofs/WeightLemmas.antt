@@ -1,6 +1,5 @@
 -- What the open tokens can still need: each of them one command, and for each byte that is not moved one more, or two where its group is not fetched.
-use Rattle.std.proofs.Common.{◌≡◌, ◌≢◌, ℕ, zero, suc, ◌+◌, ◌-◌, ◌*◌, ◌/◌, ◌<◌, ◌≤◌, ◌⊎◌, inl, inr, Bool, true, false, List, [], ◌∷◌, slice_get, Option, None, Some, refl, sym, ◌∙◌, ap, subst, arith, if◌then◌else◌, nat_lt, nat_le, min}
-use Rattle.std.specs.List.{list_any}
+use Rattle.std.proofs.Common.{◌≡◌, ℕ, zero, suc, ◌+◌, ◌-◌, ◌*◌, ◌/◌, ◌<◌, ◌≤◌, ◌⊎◌, inl, inr, Bool, true, false, List, [], ◌∷◌, Option, None, Some, refl, sym, ◌∙◌, ap, subst, arith, if◌then◌else◌, nat_lt, nat_le, min}
 use Rattle.std.proofs.lemmas.Bool.{cases_eq, and_from, or_left, eq-eqb, le-leb, lt-ltb}
 use Rattle.std.proofs.lemmas.Nat.{div-mul-add}
 use Rattle.std.proofs.Math.Nat.{add-mul}
@@ -22,7 +21,7 @@ use Rattle.history.specs.Setup.{Setup, size_of, per_of, IsSetup}
 use Rattle.history.specs.Tokens.{Request, accepted, request, is_flush, from_of, until_of}
 use Rattle.history.specs.Commands.{is_fetch, is_sync, is_at, moves, lies_in, done_commands, has_done, is_moved}
 use Rattle.history.specs.Marks.{mark_of, status_if, is_complete, was_fetched}
-use Rattle.history.specs.Tasks.{Task, Moves, Syncs, is_finished, span_command, task_command}
+use Rattle.history.specs.Tasks.{Task, Moves, Syncs, span_command, task_command}
 use Rattle.history.specs.Next.{next_task, Turn, next_turn, Outcome, Made, Failed, entry_of}
 use Rattle.history_laws.specs.Told.{concerns}
 use Rattle.history_laws.proofs.CountLemmas.{accepted-none, accepted-more, accepted-same}

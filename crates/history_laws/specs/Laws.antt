@@ -1,5 +1,5 @@
 -- The laws of a history (own profile).
-use Rattle.std.specs.Prelude.{◌≡◌, ℕ, ◌+◌, ◌*◌, ◌<◌, ◌≤◌, Bool, true, false, not, ◌&&◌, List, ◌∷◌, length, None, Some, option_map, ◌++◌, ◌⊎◌, filter}
+use Rattle.std.specs.Prelude.{◌≡◌, ℕ, ◌+◌, ◌*◌, ◌<◌, ◌≤◌, Bool, true, false, not, ◌&&◌, List, ◌∷◌, length, None, Some, is_none, option_map, ◌++◌, ◌⊎◌, filter}
 use Rattle.std.specs.List.{list_all}
 use Rattle.efi_status.specs.declared.Status.{Status}
 use Rattle.disk_split.specs.declared.span.Span.{Span}
@@ -9,18 +9,18 @@ use Rattle.history.specs.declared.entry.Asked.{Asked}
 use Rattle.history.specs.declared.entry.Command.{Command}
 use Rattle.history.specs.declared.entry.Command.TheVariants.{Fetch}
 use Rattle.history.specs.declared.entry.Entry.{Entry}
-use Rattle.history.specs.declared.entry.Entry.TheVariants.{Accept, Done, Fault, Collect, Cancel, Reset, Eject, Protect}
+use Rattle.history.specs.declared.entry.Entry.TheVariants.{Accept, Refuse, Done, Fault, Cancel, Reset, Eject, Protect}
 use Rattle.history.specs.Setup.{Setup, IsSetup, size_of, per_of, first_of}
 use Rattle.history.specs.Eras.{ejects, inserts, media_id_of, era_commands, era_faults}
 use Rattle.history.specs.Tokens.{Request, is_accept, accepted, request, from_of, until_of}
 use Rattle.history.specs.Commands.{is_transfer, done_commands, is_moved}
 use Rattle.history.specs.Contents.{pieces_of, contents, kept_contents, byte_at, bytes_read}
-use Rattle.history.specs.Marks.{mark_of, has_view, is_some_change, is_outstanding, is_complete, is_held, fetches, Holds, HoldsBy}
+use Rattle.history.specs.Marks.{ending, mark_of, has_view, is_some_change, is_outstanding, is_complete, is_held, fetches, Holds, HoldsBy}
 use Rattle.history.specs.Rules.{MayCommand, MayFollow, IsLegal}
-use Rattle.history.specs.Tasks.{tasks_of, is_finished, Todo, pending, first_runnable, task_command}
+use Rattle.history.specs.Tasks.{Moves, tasks_of, is_finished, Todo, pending, first_runnable, task_command}
 use Rattle.history.specs.Next.{next_turn}
 use Rattle.history.specs.Room.{commands, AreFewCommands, owed_entries}
-use Rattle.history_laws.specs.Told.{told, IsUntold, concerns}
+use Rattle.history_laws.specs.Told.{is_done, told, IsUntold, concerns}
 use Rattle.history_laws.specs.Units.{IsUnitCommand, AreTaskCommands}
 use Rattle.history_laws.specs.Pending.{is_todo, todos_of, is_todo_of, IsBefore, Ordered}
 use Rattle.history_laws.specs.Ranges.{AreInViews, AreToldWhole}
@@ -61,6 +61,16 @@ abbrev pub MoveTogether : Type 0
 MoveTogether =
     (S : Setup) (H : List Entry) (t : ℕ) (r : Request) (u : Span) (x : ℕ) → IsSetup S → IsLegal S H → request H t ≡ Some r → IsUnit S.geometry (from_of S r) (until_of S r) u
     → u.low ≤ x → x < u.high → is_moved S H t x ≡ is_moved S H t u.low
+
+-- a done transfer finishes its unit
+abbrev pub FinishesUnit : Type 0
+FinishesUnit = (S : Setup) (H : List Entry) (t : ℕ) (r : Request) (c : Command) (u : Span) → IsUnitCommand S r c u → is_transfer c ≡ true → is_finished S (Done t c ∷ H) t (Moves u) ≡ true
+
+-- and no other
+abbrev pub FinishesNoOther : Type 0
+FinishesNoOther =
+    (S : Setup) (H : List Entry) (t : ℕ) (r : Request) (c : Command) (u v : Span) → IsSetup S → IsUnitCommand S r c u → is_transfer c ≡ true → IsUnit S.geometry (from_of S r) (until_of S r) v → (v ≡ u → ⊥)
+    → is_finished S (Done t c ∷ H) t (Moves v) ≡ is_finished S H t (Moves v)
 
 -- a token is complete exactly where all its units are finished
 abbrev pub CompletesWhereFinished : Type 0
@@ -114,17 +124,22 @@ OutStays =
 abbrev pub LaterIsFirst : Type 0
 LaterIsFirst = (S : Setup) (k : ℕ) (H : List Entry) → media_id_of H < k → (contents S k H ≡ first_of S k) × (kept_contents S k H ≡ first_of S k)
 
--- every command lowers the entries that are owed, and a failed one by two
-abbrev pub DoneLowers : Type 0
-DoneLowers = (S : Setup) (H : List Entry) (t : ℕ) (c : Command) → IsSetup S → IsLegal S H → MayCommand S H t c → owed_entries S (Done t c ∷ H) + 1 ≤ owed_entries S H
-
+-- a failed command lowers the entries that are owed by two
 abbrev pub FaultLowers : Type 0
 FaultLowers = (S : Setup) (H : List Entry) (t : ℕ) (c : Command) (done : ℕ) → IsSetup S → IsLegal S H → MayCommand S H t c → owed_entries S (Fault t c done ∷ H) + 2 ≤ owed_entries S H
 
--- so does a collect, and no entry but an accept raises them
-abbrev pub CollectLowers : Type 0
-CollectLowers = (S : Setup) (H : List Entry) (tag t : ℕ) → IsLegal S H → MayFollow S H (Collect tag t) → owed_entries S (Collect tag t ∷ H) + 1 ≤ owed_entries S H
+-- an accept, a refusal and a change of protection need a place beside the owed ones
+abbrev pub is_owed : Entry → Bool
+is_owed (Accept tag view asked bytes) = false
+is_owed (Refuse tag view asked media_id status) = false
+is_owed (Protect tag on) = false
+is_owed e = true
 
+-- every other entry lowers them: a command, a collect, a cancel, a reset, an ejection and an insertion
+abbrev pub OwedLowers : Type 0
+OwedLowers = (S : Setup) (H : List Entry) (e : Entry) → IsSetup S → 1 ≤ length S.media → IsLegal S H → MayFollow S H e → is_owed e ≡ true → owed_entries S (e ∷ H) + 1 ≤ owed_entries S H
+
+-- no entry but an accept raises them
 abbrev pub OthersRaiseNothing : Type 0
 OthersRaiseNothing = (S : Setup) (H : List Entry) (e : Entry) → is_accept e ≡ false → owed_entries S (e ∷ H) ≤ owed_entries S H
 
@@ -159,6 +174,10 @@ abbrev pub TakesUnit : Type 0
 TakesUnit =
     (S : Setup) (H : List Entry) (t : ℕ) (c : Command) (r : Request) (u : Span) → IsSetup S → IsLegal S (Done t c ∷ H) → request H t ≡ Some r → IsUnitCommand S r c u → is_transfer c ≡ true
     → pending S (Done t c ∷ H) ≡ filter (λ todo. not (is_todo_of t u todo)) (pending S H)
+
+-- an entry that is no accept and no done command takes away the units of the tokens that it ends, and no other
+abbrev pub EndTakes : Type 0
+EndTakes = (S : Setup) (H : List Entry) (e : Entry) → is_accept e ≡ false → is_done e ≡ false → pending S (e ∷ H) ≡ filter (λ todo. is_none (ending S H e todo.token)) (pending S H)
 
 -- the units that are left stand in the order of their tokens, and those of one token in the order of their bytes
 abbrev pub StandInOrder : Type 0

@@ -1,5 +1,5 @@
 -- All that a history tells of a token, and which entries concern it (own profile).
-use Rattle.std.specs.Prelude.{◌≡◌, ℕ, Bool, false, nat_eq, nat_lt, ◌&&◌, List, [], Option, None}
+use Rattle.std.specs.Prelude.{◌≡◌, ℕ, Bool, true, false, nat_eq, nat_lt, ◌&&◌, List, [], Option, None}
 use Rattle.efi_status.specs.declared.Status.{Status}
 use Rattle.history.specs.declared.entry.Command.{Command}
 use Rattle.history.specs.declared.entry.Entry.{Entry}
@@ -51,3 +51,7 @@ concerns H (Reset tag) t = nat_lt t (accepted H)
 concerns H (Eject tag) t = nat_lt t (accepted H)
 concerns H (Insert tag media_id) t = false
 concerns H (Protect tag on) t = on && is_some_change (request H t)
+
+abbrev pub is_done : Entry → Bool
+is_done (Done t c) = true
+is_done e = false

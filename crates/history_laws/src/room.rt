@@ -1,10 +1,9 @@
-ghost use Rattle.history_laws.specs.Laws.{DoneLowers, FaultLowers, CollectLowers, OthersRaiseNothing, CostsFew, CountsAreWithin, CommandsAreFewer};
+ghost use Rattle.history_laws.specs.Laws.{OwedLowers, FaultLowers, OthersRaiseNothing, CostsFew, CountsAreWithin, CommandsAreFewer};
 
 /// What each entry does to the entries that are owed. It does nothing else than to carry these laws.
 pub fn entries_lower_room()
-    ensures done { DoneLowers }
+    ensures owed { OwedLowers }
     ensures fault { FaultLowers }
-    ensures collect { CollectLowers }
     ensures others { OthersRaiseNothing }
 {}
 

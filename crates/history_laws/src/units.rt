@@ -1,10 +1,12 @@
-ghost use Rattle.history_laws.specs.Laws.{AreOfUnits, MoveTogether, CompletesWhereFinished, OpenIsIncomplete, HasOneHolder, HeldHasHolder, HolderHolds, HasOneTicket, HeldBefore, NextIsRunnable, RunnableMay, KeepsTodo, AddsUnits, TakesUnit, StandInOrder};
+ghost use Rattle.history_laws.specs.Laws.{AreOfUnits, MoveTogether, FinishesUnit, FinishesNoOther, CompletesWhereFinished, OpenIsIncomplete, HasOneHolder, HeldHasHolder, HolderHolds, HasOneTicket, HeldBefore, NextIsRunnable, RunnableMay, KeepsTodo, AddsUnits, TakesUnit, EndTakes, StandInOrder};
 
-/// A token's done commands are of its units, a unit's bytes are moved together, and a token is complete where its units
-/// are finished. It does nothing else than to carry these laws.
+/// A token's done commands are of its units, each finishes its own alone, a unit's bytes are moved together, and a token is
+/// complete where its units are finished. It does nothing else than to carry these laws.
 pub fn units_finish()
     ensures of_units { AreOfUnits }
     ensures together { MoveTogether }
+    ensures finishes { FinishesUnit }
+    ensures others { FinishesNoOther }
     ensures complete { CompletesWhereFinished }
     ensures incomplete { OpenIsIncomplete }
 {}
@@ -36,5 +38,6 @@ pub fn units_are_left()
     ensures keeps { KeepsTodo }
     ensures adds { AddsUnits }
     ensures takes { TakesUnit }
+    ensures ends { EndTakes }
     ensures order { StandInOrder }
 {}
