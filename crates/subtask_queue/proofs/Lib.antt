@@ -1,0 +1,6 @@
+pub mod SubsLemmas
+mod Owning
+mod Removing
+mod Holding
+mod Pushing
+mod Finding
