@@ -54,9 +54,9 @@ fn readers_and_writers(rt: HostRuntime) -> Result<(), Fail> {
 #[test]
 fn files(rt: HostRuntime) -> Result<(), Fail> {
     let alloc = rt.alloc();
-    let mut images = FileImages::make(alloc, &rt);
     fs::create_dir(&rt, "folder.img")?;
     for name in ["no.img", "folder.img"] {
+        let mut images = FileImages::make(alloc, &rt);
         assert_eq!(rt;
             images.take(alloc, name, 512, false).err(),
             Some(TakeFault::Failed)
@@ -64,6 +64,7 @@ fn files(rt: HostRuntime) -> Result<(), Fail> {
     }
     fs::remove_dir(&rt, "folder.img")?;
     for (cached, byte) in [(false, 9), (true, 7)] {
+        let mut images = FileImages::make(alloc, &rt);
         fs::write(&rt, "one.img", &[7; 1030])?;
         let mut medium = images.take(alloc, "one.img", 512, cached)?;
         assert_eq!(rt; fill(alloc, &mut medium, 9)?, Ok(()));
