@@ -16,7 +16,7 @@ diskio=$(find "$top/crates/diskio/out" -type f -name diskio -perm -u+x | head -n
 
 program=$scratch/crates/write_bench
 mkdir -p "$program/src"
-for crate in efi_status byte_lists disk_split medium history disk_core; do
+for crate in efi_status byte_lists disk_split medium history history_laws disk_core; do
     cp -r "$top/crates/$crate" "$scratch/crates/"
     grep "^$crate:" "$top/crates.txt" >> "$scratch/crates.txt"
 done
