@@ -7,7 +7,7 @@ ghost use Rattle.block_gate.specs.Back.{IsGivenBack};
 
 use crate::back::Back;
 use crate::finding::{Sought, count_sets, find_set, holder, least_of};
-use crate::relinking::{FREE, GONE, HELD, first_of, free_links, relink};
+use crate::relinking::{FREE, GONE, HELD, first_gone, first_of, free_links, relink};
 use crate::set::{Set, make_sets, rest_of};
 use crate::work::Work;
 use index_links::Links;
@@ -130,8 +130,7 @@ impl Gates {
     pub fn out(&self) -> u32
         ensures { result ≡ outs self.now }
     {
-        let lent = count_sets(&self.sets, &self.links, HELD, true);
-        lent + count_sets(&self.sets, &self.links, GONE, true)
+        works_out(self)
     }
 
     /// How many sets are free.
@@ -200,7 +199,7 @@ impl Gates {
     {
         let mut count: u32 = 0;
         for _ in 0..self.sets.len() {
-            let Some(node) = self.links.first(GONE) else {
+            let Some(node) = first_gone(&self.links) else {
                 return Ok(count);
             };
             self.sets[node as usize].refit(self.alloc)?;
@@ -209,4 +208,12 @@ impl Gates {
         }
         Ok(count)
     }
+}
+
+/// How many works are out: those of held sets, and those of sets that are out under a revoked ticket.
+fn works_out(gates: &Gates) -> u32
+    ensures { result ≡ outs gates.now }
+{
+    let lent = count_sets(&gates.sets, &gates.links, HELD, true);
+    lent + count_sets(&gates.sets, &gates.links, GONE, true)
 }

@@ -34,6 +34,14 @@ pub fn first_of(links: &Links, list: u32) -> u32
     node
 }
 
+/// The first set that is out under a revoked ticket, if there is one.
+pub fn first_gone(links: &Links) -> Option<u32>
+    requires { 2 < length links.now.lists }
+    ensures { result ≡ slice_get (list_at links.now 2) 0 }
+{
+    links.first(GONE)
+}
+
 /// So many sets, all free. The error is want of memory.
 pub fn free_links(alloc: Global, count: u32) -> Result<Links, AllocError>
     ensures nodes { IfOk result (λ links. links.nodes ≡ count) }

@@ -51,9 +51,9 @@ node-path links k l x linked among =
     (there, (ys, path))
 
 -- linked lists keep their nodes apart
-pub apart-of : (links : List Link) (k : ℕ) → AreLinked links k → AreApart (lists_of links k)
+pub apart_of : (links : List Link) (k : ℕ) → AreLinked links k → AreApart (lists_of links k)
 unfolding IsDistinct
-apart-of links k linked = record {
+apart_of links k linked = record {
   within = λ l x among.
       let there : l < k = (node-path links k l x linked among).0 in
       let inside : k + x < length links = path-within links linked.rings k l (list_at (lists_of links k) l) l x (omega (arith, linked.room)) (list-path links k l linked there) among in
@@ -380,4 +380,4 @@ node-there links k x s linked is there = omega (arith, ap (λ t. t.nodes) is, ma
 pub listed-there : (links : List Link) (k x : ℕ) (s : LinkedLists) → AreLinked links k → lists_of links k ≡ s → is_listed s x ≡ true → k + x < length links
 listed-there links k x s linked is listed =
     let (l, inside, among) = listed-in (lists_of links k) x (subst (λ t. is_listed t x ≡ true) (sym is) listed) in
-    node-there links k x s linked is (subst (λ t. x < t.nodes) is ((apart-of links k linked).within l x among))
+    node-there links k x s linked is (subst (λ t. x < t.nodes) is ((apart_of links k linked).within l x among))

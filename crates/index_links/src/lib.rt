@@ -2,6 +2,7 @@
 #![tactic(auto)]
 
 mod links;
+mod moves;
 mod rings;
 
 pub use links::Links;

@@ -1,6 +1,7 @@
 ghost use Rattle.std.specs.Prelude.{◌≡◌, ◌≢◌, ℕ, ◌+◌, ◌<◌, ◌^◌, true, false, length, slice_get, IfOk, IfSome, OnOk, OnErr};
 ghost use Rattle.index_links.specs.Lists.{list_at, is_among, is_listed, empty_lists, grown, pushed, unlinked, moved, AreApart};
 
+use crate::moves::{append, extend, is_in_list, join, take_out};
 use crate::rings::{Rings, node_at};
 use std::alloc::{AllocError, Global};
 use std::marker::Model;
@@ -46,8 +47,7 @@ impl Links {
         ensures err { OnErr result (self.new ≡ self.old) }
         ensures apart { AreApart self.new }
     {
-        self.rings.grow(nodes as usize)?;
-        Ok(())
+        extend(&mut self.rings, self.heads, nodes)
     }
 
     /// Puts a node at the end of a list, in a constant number of steps.
@@ -58,8 +58,7 @@ impl Links {
         ensures value { self.new ≡ pushed self.old list node }
         ensures apart { AreApart self.new }
     {
-        let last = self.rings.before(list as usize);
-        self.rings.splice(last, self.heads + node as usize);
+        append(&mut self.rings, self.heads, list, node);
     }
 
     /// Takes a node out of its list, in a constant number of steps. True exactly where it was in one.
@@ -69,10 +68,9 @@ impl Links {
         ensures value { self.new ≡ unlinked self.old node }
         ensures apart { AreApart self.new }
     {
-        let place = self.heads + node as usize;
-        let before = self.rings.before(place);
-        self.rings.splice(before, place);
-        before != place
+        let listed = is_in_list(&self.rings, self.heads, node);
+        take_out(&mut self.rings, self.heads, node);
+        listed
     }
 
     /// The first node of a list. None exactly where the list is empty.
@@ -94,6 +92,7 @@ impl Links {
         node_at(self.rings.after(place), self.heads)
     }
 
+    #[tactic(auto, using(crate::proofs::Calls::apart_of))]
     /// Appends the nodes of one list to another and leaves the one empty, in a constant number of steps.
     pub fn move_all(&mut self, from: u32, to: u32)
         requires from { from < length self.old.lists }
@@ -102,12 +101,6 @@ impl Links {
         ensures value { self.new ≡ moved self.old from to }
         ensures apart { AreApart self.new }
     {
-        let (from, to) = (from as usize, to as usize);
-        let last = self.rings.before(to);
-        let last_moved = self.rings.before(from);
-        if last_moved != from {
-            self.rings.splice(last, last_moved);
-            self.rings.splice(last, from);
-        }
+        join(&mut self.rings, self.heads, from, to);
     }
 }

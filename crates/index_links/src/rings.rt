@@ -59,7 +59,8 @@ impl Rings {
     /// The place after this one in its ring.
     pub fn after(&self, place: usize) -> usize
         requires { place < length self.now }
-        ensures { result ≡ after_at self.now place }
+        ensures value { result ≡ after_at self.now place }
+        ensures inside { AreRings self.now → result < length self.now }
     {
         self.links[place].after
     }

@@ -16,7 +16,7 @@ loop-init c = (c.self.invariant, c.self.view_is ∙ refitted-none c.args.self.no
 pub returns-in_default-clause-all : goal.returns-in_default-clause-all
 returns-in_default-clause-all c =
     let (ordered, shown, counted, fits, few) = c.loop.invariant in
-    omega (arith, gone-left c.loop.self-inside.sets.items c.loop.self-inside.links c.loop.self-inside.size c.loop.count c.args.self.now shown, none-first (list_at c.loop.self-inside.links 2) (sym c.first.ensures.value ∙ c.in_default.is))
+    omega (arith, gone-left c.loop.self-inside.sets.items c.loop.self-inside.links c.loop.self-inside.size c.loop.count c.args.self.now shown, none-first (list_at c.loop.self-inside.links 2) (sym c.first_gone.ensures ∙ c.in_default.is))
 
 pub returns-in_default-clause-sound : goal.returns-in_default-clause-sound
 returns-in_default-clause-sound c = sound-of c.loop.self-inside.sets.items c.loop.self-inside.links c.loop.self-inside.size c.loop.invariant.0
@@ -27,34 +27,34 @@ returns-clause-sound c = sound-of c.loop.self-inside.sets.items c.loop.self-insi
 pub index_mut-requires : goal.index_mut-requires
 index_mut-requires c =
     let (ordered, shown, counted, fits, few) = c.loop.invariant in
-    omega (arith, inside-of c.loop.self-inside.sets.items c.loop.self-inside.links c.loop.self-inside.size 2 c.in-Some.node ordered (among-at (list_at c.loop.self-inside.links 2) 0 c.in-Some.node (sym c.first.ensures.value ∙ c.in-Some.is)), c.loop.self-inside.sets.ok)
+    omega (arith, inside-of c.loop.self-inside.sets.items c.loop.self-inside.links c.loop.self-inside.size 2 c.in-Some.node ordered (among-at (list_at c.loop.self-inside.links 2) 0 c.in-Some.node (sym c.first_gone.ensures ∙ c.in-Some.is)), c.loop.self-inside.sets.ok)
 
 pub relink-requires-clause-node : goal.relink-requires-clause-node
 relink-requires-clause-node c =
     let (ordered, shown, counted, fits, few) = c.loop.invariant in
-    omega (arith, inside-of c.loop.self-inside.sets.items c.loop.self-inside.links c.loop.self-inside.size 2 c.in-Some.node ordered (among-at (list_at c.loop.self-inside.links 2) 0 c.in-Some.node (sym c.first.ensures.value ∙ c.in-Some.is)), ordered.nodes)
+    omega (arith, inside-of c.loop.self-inside.sets.items c.loop.self-inside.links c.loop.self-inside.size 2 c.in-Some.node ordered (among-at (list_at c.loop.self-inside.links 2) 0 c.in-Some.node (sym c.first_gone.ensures ∙ c.in-Some.is)), ordered.nodes)
 
 pub returns-in_err-refit-clause-err : goal.returns-in_err-refit-clause-err
 returns-in_err-refit-clause-err c =
     let (ordered, shown, counted, fits, few) = c.loop.invariant in
-    let same : set c.loop.self-inside.sets.items c.in-Some.node c.refit.new.self ≡ c.loop.self-inside.sets.items = kept-get c.loop.self-inside.sets.items c.in-Some.node c.index_mut.result.now c.refit.new.self (inside-of c.loop.self-inside.sets.items c.loop.self-inside.links c.loop.self-inside.size 2 c.in-Some.node ordered (among-at (list_at c.loop.self-inside.links 2) 0 c.in-Some.node (sym c.first.ensures.value ∙ c.in-Some.is))) c.index_mut.ensures.value c.in_err-refit.ensures.err in
+    let same : set c.loop.self-inside.sets.items c.in-Some.node c.refit.new.self ≡ c.loop.self-inside.sets.items = kept-get c.loop.self-inside.sets.items c.in-Some.node c.index_mut.result.now c.refit.new.self (inside-of c.loop.self-inside.sets.items c.loop.self-inside.links c.loop.self-inside.size 2 c.in-Some.node ordered (among-at (list_at c.loop.self-inside.links 2) 0 c.in-Some.node (sym c.first_gone.ensures ∙ c.in-Some.is))) c.index_mut.ensures.value c.in_err-refit.ensures.err in
     let shows : gates_of (set c.loop.self-inside.sets.items c.in-Some.node c.refit.new.self) c.loop.self-inside.links c.loop.self-inside.size ≡ refitted c.args.self.now c.loop.count = ap (λ ss. gates_of ss c.loop.self-inside.links c.loop.self-inside.size) same ∙ shown in
     on-err c.from_residual.result _ (shows ∙ left-after c.args.self.now c.loop.count fits ∙ ap (λ (g : Gates). refitted c.args.self.now (length c.args.self.now.gone - length g.gone)) (sym shows))
 
 pub returns-in_err-refit-clause-sound : goal.returns-in_err-refit-clause-sound
 returns-in_err-refit-clause-sound c =
     let (ordered, shown, counted, fits, few) = c.loop.invariant in
-    let same : set c.loop.self-inside.sets.items c.in-Some.node c.refit.new.self ≡ c.loop.self-inside.sets.items = kept-get c.loop.self-inside.sets.items c.in-Some.node c.index_mut.result.now c.refit.new.self (inside-of c.loop.self-inside.sets.items c.loop.self-inside.links c.loop.self-inside.size 2 c.in-Some.node ordered (among-at (list_at c.loop.self-inside.links 2) 0 c.in-Some.node (sym c.first.ensures.value ∙ c.in-Some.is))) c.index_mut.ensures.value c.in_err-refit.ensures.err in
+    let same : set c.loop.self-inside.sets.items c.in-Some.node c.refit.new.self ≡ c.loop.self-inside.sets.items = kept-get c.loop.self-inside.sets.items c.in-Some.node c.index_mut.result.now c.refit.new.self (inside-of c.loop.self-inside.sets.items c.loop.self-inside.links c.loop.self-inside.size 2 c.in-Some.node ordered (among-at (list_at c.loop.self-inside.links 2) 0 c.in-Some.node (sym c.first_gone.ensures ∙ c.in-Some.is))) c.index_mut.ensures.value c.in_err-refit.ensures.err in
     subst (λ ss. AreSound (gates_of ss c.loop.self-inside.links c.loop.self-inside.size)) (sym same) (sound-of c.loop.self-inside.sets.items c.loop.self-inside.links c.loop.self-inside.size ordered)
 
 pub loop-preserved : goal.loop-preserved
 loop-preserved c =
     let (ordered, shown, counted, fits, few) = c.loop.invariant in
     let turns : TurnsSo (set c.loop.self-inside.sets.items c.in-Some.node c.refit.new.self) c.relink.new.links c.loop.self-inside.size (refitted (refitted c.args.self.now c.loop.count) 1) =
-    refits-so c.loop.self-inside.sets.items c.loop.self-inside.links c.relink.new.links c.loop.self-inside.size c.in-Some.node (refitted c.args.self.now c.loop.count) c.index_mut.result.now c.refit.new.self ordered shown (sym c.first.ensures.value ∙ c.in-Some.is) c.index_mut.ensures.value c.in_ok-refit.ensures.ok c.relink.ensures.value c.relink.ensures.apart in (
+    refits-so c.loop.self-inside.sets.items c.loop.self-inside.links c.relink.new.links c.loop.self-inside.size c.in-Some.node (refitted c.args.self.now c.loop.count) c.index_mut.result.now c.refit.new.self ordered shown (sym c.first_gone.ensures ∙ c.in-Some.is) c.index_mut.ensures.value c.in_ok-refit.ensures.ok c.relink.ensures.value c.relink.ensures.apart in (
       turns.ordered,
       turns.shows ∙ refitted-more c.args.self.now c.loop.count,
       ap (λ n. n + 1) counted,
-      omega (arith, gone-left c.loop.self-inside.sets.items c.loop.self-inside.links c.loop.self-inside.size c.loop.count c.args.self.now shown, some-first (list_at c.loop.self-inside.links 2) c.in-Some.node (sym c.first.ensures.value ∙ c.in-Some.is)),
+      omega (arith, gone-left c.loop.self-inside.sets.items c.loop.self-inside.links c.loop.self-inside.size c.loop.count c.args.self.now shown, some-first (list_at c.loop.self-inside.links 2) c.in-Some.node (sym c.first_gone.ensures ∙ c.in-Some.is)),
       omega (arith, length-set c.loop.self-inside.sets.items c.in-Some.node c.refit.new.self),
     )

@@ -7,7 +7,7 @@ pub returns-clause-after : goal.returns-clause-after
 returns-clause-after c p =
     c.set_before-2.ensures.after p ∙ c.set_before.ensures.after p ∙ c.set_after-2.ensures.after p
     ∙ ap (λ x. cond (eqb p c.args.right) c.after-after_left.result x) (c.set_after.ensures.after p)
-    ∙ after-exchanged (after_at c.args.self.now) c.args.left c.args.right _ _ p c.after-after_left.ensures c.after-after_right.ensures
+    ∙ after-exchanged (after_at c.args.self.now) c.args.left c.args.right _ _ p c.after-after_left.ensures.value c.after-after_right.ensures.value
 
 pub returns-clause-rings : goal.returns-clause-rings
 returns-clause-rings c =
@@ -15,4 +15,4 @@ returns-clause-rings c =
     (returns-clause-after c)
     (λ p. c.set_before-2.ensures.before p
     ∙ ap (λ x. cond (eqb p c.after-after_right.result) c.args.left x) (c.set_before.ensures.before p ∙ ap (λ x. cond (eqb p c.after-after_left.result) c.args.right x) (c.set_after-2.ensures.before p ∙ c.set_after.ensures.before p))
-    ∙ before-exchanged c.args.self.now c.requires.rings c.args.left c.args.right _ _ p c.after-after_left.ensures c.after-after_right.ensures)
+    ∙ before-exchanged c.args.self.now c.requires.rings c.args.left c.args.right _ _ p c.after-after_left.ensures.value c.after-after_right.ensures.value)
