@@ -46,8 +46,11 @@ fn readers_and_writers(rt: HostRuntime) -> Result<(), Fail> {
     assert_eq!(rt; part, *b"ab");
     assert_eq!(rt; source.next(&mut part), Ok(1));
     assert_eq!(rt; source.next(&mut part), Ok(0));
-    let mut sink = OutSink::make(Vec::<u8>::new(rt.alloc()));
+    let mut text = Vec::<u8>::new(rt.alloc());
+    let mut sink = OutSink::make(&mut text);
     assert_eq!(rt; sink.put(b"abc"), Ok(()));
+    assert_eq!(rt; sink.put(b"de"), Ok(()));
+    assert_eq!(rt; text.as_slice(), b"abcde".as_slice());
     Ok(())
 }
 
@@ -55,7 +58,8 @@ fn readers_and_writers(rt: HostRuntime) -> Result<(), Fail> {
 fn files(rt: HostRuntime) -> Result<(), Fail> {
     let alloc = rt.alloc();
     fs::create_dir(&rt, "folder.img")?;
-    for name in ["no.img", "folder.img"] {
+    // A missing file, a folder, and a file that runs, which nobody may write.
+    for name in ["no.img", "folder.img", "/proc/self/exe"] {
         let mut images = FileImages::make(alloc, &rt);
         assert_eq!(rt;
             images.take(alloc, name, 512, false).err(),

@@ -7,4 +7,5 @@ pub mod Faults
 pub mod Files
 pub mod Memory
 pub mod Places
+pub mod Saving
 pub mod Volatiles

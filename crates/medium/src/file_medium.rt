@@ -1,12 +1,13 @@
-ghost use Rattle.std.specs.Prelude.{◌≡◌, ℕ, ◌+◌, ◌*◌, ◌^◌, ◌<◌, ◌≤◌, length, ⊤, Ok, Err};
-ghost use Rattle.std.specs.Bool.{OnFalse};
+ghost use Rattle.std.specs.Prelude.{◌≡◌, ℕ, ◌+◌, ◌*◌, ◌^◌, ◌<◌, ◌≤◌, length, ⊤, Ok, Err, IfOk, OnOk, OnErr};
+ghost use Rattle.std.specs.Bool.{OnTrue, OnFalse};
 ghost use Rattle.medium.specs.Counts.{adds};
-ghost use Rattle.medium.specs.Device.{IsBlockSize};
-ghost use Rattle.medium.specs.Files.{file_device};
+ghost use Rattle.medium.specs.Device.{IsBlockSize, failures};
+ghost use Rattle.medium.specs.Files.{file_device, has_all, read_answer, write_answer, sync_answer};
 
 use crate::{BlockFailed, Medium};
 use std::alloc::{AllocError, Global};
 use std::fs::OpenFile;
+use std::io;
 use std::os::unix::fs::FileExt;
 
 /// The most bytes of one transfer: 64 blocks of 4,096 bytes.
@@ -72,6 +73,72 @@ impl<F: FileExt + OpenFile> FileMedium<F> {
         self.count(1);
         Err(BlockFailed { done })
     }
+
+    // A read brought all its bytes, or failed.
+    fn end_read(&mut self, all: bool) -> Result<(), BlockFailed>
+        ensures answer { result ≡ read_answer all }
+        ensures counted { self.new ≡ record self.old { faults = self.new.faults; calls = adds self.old.calls 1; failed = adds self.old.failed (failures result) } }
+        ensures quiet { OnOk result (self.new.faults ≡ self.old.faults) }
+        ensures cause { OnErr result (self.new.faults ≡ adds self.old.faults 1) }
+        ensures later { self.old.faults ≤ self.new.faults }
+    {
+        if all { self.done() } else { self.fail(0) }
+    }
+
+    // A write of so many bytes was answered so by the system.
+    fn end_write(&mut self, answer: io::Result<usize>, wanted: usize) -> Result<(), BlockFailed>
+        requires { IfOk answer (λ count. (count ≤ wanted) × (wanted < 2 ^ 32)) }
+        ensures answer { result ≡ write_answer self.old.size answer wanted }
+        ensures counted { self.new ≡ record self.old { faults = self.new.faults; calls = adds self.old.calls 1; failed = adds self.old.failed (failures result) } }
+        ensures quiet { OnOk result (self.new.faults ≡ self.old.faults) }
+        ensures cause { OnErr result (self.new.faults ≡ adds self.old.faults 1) }
+        ensures later { self.old.faults ≤ self.new.faults }
+    {
+        match answer {
+            Ok(count) => {
+                if count == wanted {
+                    self.done()
+                } else {
+                    self.fail((count / self.size as usize) as u32)
+                }
+            }
+            Err(_) => self.fail(0),
+        }
+    }
+
+    // A write-through was answered so by the system.
+    fn end_sync(&mut self, answer: io::Result<()>) -> Result<(), BlockFailed>
+        ensures answer { result ≡ sync_answer answer }
+        ensures counted { self.new ≡ record self.old { faults = self.new.faults; calls = adds self.old.calls 1; failed = adds self.old.failed (failures result) } }
+        ensures quiet { OnOk result (self.new.faults ≡ self.old.faults) }
+        ensures cause { OnErr result (self.new.faults ≡ adds self.old.faults 1) }
+        ensures later { self.old.faults ≤ self.new.faults }
+    {
+        match answer {
+            Ok(()) => self.done(),
+            Err(_) => self.fail(0),
+        }
+    }
+}
+
+/// Takes what a read brought, where that is all that was asked for. Else `out` stays as it was.
+fn take_read(answer: io::Result<usize>, part: &[u8], out: &mut [u8]) -> bool
+    requires { length part.now ≡ length out.old }
+    ensures all { result ≡ has_all answer (length out.old) }
+    ensures taken { OnTrue result (out.new ≡ part.now) }
+    ensures left { OnFalse result (out.new ≡ out.old) }
+{
+    match answer {
+        Ok(count) => {
+            if count == out.len() {
+                out.copy_from_slice(part);
+                true
+            } else {
+                false
+            }
+        }
+        Err(_) => false,
+    }
 }
 
 /// Reads at a place of a file by way of room for `N` bytes. Where less comes than was asked for, `out` stays as it was.
@@ -82,23 +149,8 @@ fn read_whole<F: FileExt, const N: usize>(file: &F, at: u64, out: &mut [u8]) -> 
 {
     let mut room = [0; N];
     let part = &mut room[..out.len()];
-    match file.read_at(part, at) {
-        Ok(count) if count == out.len() => {
-            out.copy_from_slice(part);
-            true
-        }
-        _ => false,
-    }
-}
-
-/// How many bytes were written at a place of a file.
-fn write_front<F: FileExt>(file: &F, at: u64, bytes: &[u8]) -> usize
-    ensures { result ≤ length bytes.now }
-{
-    match file.write_at(bytes, at) {
-        Ok(count) => count,
-        Err(_) => 0,
-    }
+    let answer = file.read_at(part, at);
+    take_read(answer, part, out)
 }
 
 impl<F: FileExt + OpenFile> Medium for FileMedium<F> {
@@ -125,25 +177,18 @@ impl<F: FileExt + OpenFile> Medium for FileMedium<F> {
         } else {
             read_whole::<F, MOST_BYTES>(&self.file, at, out)
         };
-        if read { self.done() } else { self.fail(0) }
+        self.end_read(read)
     }
 
     fn write_blocks(&mut self, lba: u64, bytes: &[u8]) -> Result<(), BlockFailed> {
         let at = lba * u64::from(self.size);
-        let count = write_front(&self.file, at, bytes);
-        if count == bytes.len() {
-            self.done()
-        } else {
-            self.fail((count / self.size as usize) as u32)
-        }
+        let answer = self.file.write_at(bytes, at);
+        self.end_write(answer, bytes.len())
     }
 
     fn sync(&mut self) -> Result<(), BlockFailed> {
-        if self.file.sync_all().is_ok() {
-            self.done()
-        } else {
-            self.fail(0)
-        }
+        let answer = self.file.sync_all();
+        self.end_sync(answer)
     }
 
     ghost use Rattle.medium.specs.Files.{file_shaped};

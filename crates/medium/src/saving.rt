@@ -1,8 +1,9 @@
-ghost use Rattle.std.specs.Prelude.{◌≡◌, ℕ, ◌+◌, ◌*◌, ◌^◌, ◌<◌, ◌≤◌, length, IsSome, None, OnOk, OnErr, Ok};
+ghost use Rattle.std.specs.Prelude.{◌≡◌, ℕ, ◌+◌, ◌*◌, ◌^◌, ◌<◌, ◌≤◌, cond, length, is_none, IsSome, None, OnOk, OnErr, Ok};
 ghost use Rattle.medium.specs.BlockMap.{block_at, HasPlace};
 ghost use Rattle.medium.specs.Cached.{restored, HasTried, HoldsOthers, most_blocks};
-ghost use Rattle.medium.specs.Counts.{Rose};
-ghost use Rattle.medium.specs.Device.{IsSame, StayPrepared};
+ghost use Rattle.medium.specs.Counts.{adds, Rose};
+ghost use Rattle.medium.specs.Device.{IsSame, StayPrepared, failures};
+ghost use Rattle.medium.specs.Saving.{unsaved_runs, AreSavedTo, HasMade};
 
 use crate::block_map::BlockMap;
 use crate::{BlockFailed, Medium};
@@ -38,6 +39,8 @@ fn save_run<M: Medium>(
     requires places { (b : ℕ) → first ≤ b → b < first + count → HasPlace saved.old b }
     requires unsaved { (b : ℕ) → first ≤ b → b < first + count → block_at saved.old b ≡ None }
     ensures tried { HasTried (M.device inner.old) result (M.device inner.new) }
+    ensures calls { (M.device inner.new).calls ≡ adds (M.device inner.old).calls 1 }
+    ensures failed { (M.device inner.new).failed ≡ adds (M.device inner.old).failed (failures result) }
     ensures prepared { StayPrepared (M.prepared inner.old) (M.prepared inner.new) }
     ensures restored { restored (block_at saved.new) saved.old.size (M.device inner.old).blocks (M.device inner.old).now ≡ restored (block_at saved.old) saved.old.size (M.device inner.old).blocks (M.device inner.old).now }
     ensures held { OnOk result ((b : ℕ) → first ≤ b → b < first + count → IsSome (block_at saved.new b)) }
@@ -50,6 +53,37 @@ fn save_run<M: Medium>(
     inner.read_blocks(first, part)?;
     saved.hold_all(first, count, part);
     Ok(())
+}
+
+// Saves the longest run of blocks from one on that are not saved, up to an end, by one read.
+fn save_from<M: Medium>(
+    inner: &mut M,
+    saved: &mut BlockMap,
+    scratch: &mut [u8],
+    block: u64,
+    end: u64,
+) -> Result<(), BlockFailed>
+    requires some { block < end }
+    requires most { end ≤ block + most_blocks }
+    requires fits { end ≤ (M.device inner.old).blocks }
+    requires size { saved.old.size ≡ (M.device inner.old).size }
+    requires room { most_blocks * saved.old.size ≤ length scratch.old }
+    requires places { (b : ℕ) → block ≤ b → b < end → HasPlace saved.old b }
+    ensures tried { HasTried (M.device inner.old) result (M.device inner.new) }
+    ensures made { HasMade (M.device inner.old) result (M.device inner.new) (cond (is_none (block_at saved.old block)) 1 0) }
+    ensures prepared { StayPrepared (M.prepared inner.old) (M.prepared inner.new) }
+    ensures restored { restored (block_at saved.new) saved.old.size (M.device inner.old).blocks (M.device inner.old).now ≡ restored (block_at saved.old) saved.old.size (M.device inner.old).blocks (M.device inner.old).now }
+    ensures held { OnOk result (IsSome (block_at saved.new block)) }
+    ensures run { OnOk result (AreSavedTo (block_at saved.old) (block_at saved.new) block end (block + 1)) }
+    ensures others { HoldsOthers block end (block_at saved.old) (block_at saved.new) }
+    ensures stay { (b : ℕ) → HasPlace saved.old b → HasPlace saved.new b }
+    ensures size { saved.new.size ≡ saved.old.size }
+{
+    if saved.holds(block) {
+        return Ok(());
+    }
+    let run = run_of(saved, block, end);
+    save_run(inner, saved, scratch, block, run as usize)
 }
 
 /// Saves each of these blocks that is not saved yet, by one read for each longest run of them.
@@ -66,6 +100,7 @@ pub fn save<M: Medium>(
     requires room { most_blocks * saved.old.size ≤ length scratch.old }
     requires places { (b : ℕ) → first ≤ b → b < first + count → HasPlace saved.old b }
     ensures tried { HasTried (M.device inner.old) result (M.device inner.new) }
+    ensures made { HasMade (M.device inner.old) result (M.device inner.new) (unsaved_runs (block_at saved.old) first count) }
     ensures prepared { StayPrepared (M.prepared inner.old) (M.prepared inner.new) }
     ensures restored { restored (block_at saved.new) saved.old.size (M.device inner.old).blocks (M.device inner.old).now ≡ restored (block_at saved.old) saved.old.size (M.device inner.old).blocks (M.device inner.old).now }
     ensures held { OnOk result ((b : ℕ) → first ≤ b → b < first + count → IsSome (block_at saved.new b)) }
@@ -75,10 +110,7 @@ pub fn save<M: Medium>(
 {
     let end = first + count;
     for block in first..end {
-        if !saved.holds(block) {
-            let run = run_of(saved, block, end);
-            save_run(inner, saved, scratch, block, run as usize)?;
-        }
+        save_from(inner, saved, scratch, block, end)?;
     }
     Ok(())
 }

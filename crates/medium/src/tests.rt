@@ -1,7 +1,8 @@
 ghost use Rattle.std.specs.Prelude.{◌≡◌, ◌+◌, ◌<◌, ◌≤◌};
 
-use crate::{BlockFailed, Faulty, Medium, MemMedium, Planned, Volatile};
+use crate::{BlockFailed, Faulty, FileMedium, Medium, MemMedium, Planned, Volatile};
 use std::alloc::{AllocError, Global};
+use std::fs::{self, OpenOptions};
 use std::test::Fail;
 
 /// Writes this byte to so many blocks by one command, as the stack does through the trait.
@@ -111,5 +112,32 @@ fn commands_inside_fail_in_turn(rt: HostRuntime) -> Result<(), Fail> {
             Err(_) => assert!(rt; false),
         }
     }
+    Ok(())
+}
+
+/// What a command answers that failed before its first block.
+const NONE_DONE: Result<(), BlockFailed> = Err(BlockFailed { done: 0 });
+
+#[test]
+fn file_commands_fail(rt: HostRuntime) -> Result<(), Fail> {
+    let alloc = rt.alloc();
+    let mut options = OpenOptions::new();
+    let options = options.read(true).write(true);
+    // A device of the system that takes no byte.
+    let full = options.open(&rt, "/dev/full")?;
+    let mut medium = FileMedium::make(full, 4, 512);
+    assert_eq!(rt; fill(alloc, &mut medium, 0, 2, 9)?, NONE_DONE);
+    // A file that ends within its second block.
+    fs::write(&rt, "short.img", &[7; 700])?;
+    let mut out = [5; 512];
+    let whole = options.open(&rt, "short.img")?;
+    let mut medium = FileMedium::make(whole, 2, 512);
+    assert_eq!(rt; medium.read_blocks(0, &mut out), Ok(()));
+    assert_eq!(rt; out, [7; 512]);
+    let cut = options.open(&rt, "short.img")?;
+    let mut medium = FileMedium::make(cut, 2, 512);
+    assert_eq!(rt; medium.read_blocks(1, &mut out), NONE_DONE);
+    assert_eq!(rt; out, [7; 512]);
+    fs::remove_file(&rt, "short.img")?;
     Ok(())
 }

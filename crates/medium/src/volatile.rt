@@ -1,9 +1,10 @@
-ghost use Rattle.std.specs.Prelude.{◌≡◌, ℕ, ◌+◌, ◌*◌, ◌<◌, ◌≤◌, false, true, Some, IfOk, IfErr, OnOk, IsSome, length, vec_len};
+ghost use Rattle.std.specs.Prelude.{◌≡◌, ℕ, ◌+◌, ◌*◌, ◌/◌, ◌<◌, ◌≤◌, false, true, Some, IfOk, IfErr, OnOk, IsSome, length, vec_len};
 ghost use Rattle.medium.specs.Blocks.{overlay};
 ghost use Rattle.medium.specs.BlockMap.{block_at, HasPlace};
 ghost use Rattle.medium.specs.Cached.{cached_device, AreRestoredLong, IsReady, IsWrittenInside};
 ghost use Rattle.medium.specs.Counts.{Rose};
-ghost use Rattle.medium.specs.Device.{IsSame, IsTransfer, StayPrepared, failures};
+ghost use Rattle.medium.specs.Device.{IsSame, IsTransfer, IsRead, IsWrite, IsSync, StayPrepared, failures};
+ghost use Rattle.medium.specs.Saving.{saving_reads, IsSavedWrite};
 
 use crate::block_map::BlockMap;
 use crate::saving::{save, write_back};
@@ -111,6 +112,7 @@ fn write_saved<M: Medium>(
     requires ready { (b : ℕ) → lba ≤ b → b * (M.device inner.old).size < lba * (M.device inner.old).size + length bytes.now → IsReady (M.prepared inner.old b) cached saved.old (length scratch.old) (M.device inner.old).size b }
     requires size { saved.old.size ≡ (M.device inner.old).size }
     ensures written { IsWrittenInside (M.device inner.old) cached (block_at saved.old) (block_at saved.new) lba bytes.now result (M.device inner.new) }
+    ensures made { IsSavedWrite (M.device inner.old) (saving_reads cached (block_at saved.old) lba (length bytes.now / (M.device inner.old).size)) result (M.device inner.new) }
     ensures prepared { StayPrepared (M.prepared inner.old) (M.prepared inner.new) }
     ensures stay { (b : ℕ) → HasPlace saved.old b → HasPlace saved.new b }
     ensures size { saved.new.size ≡ saved.old.size }
@@ -124,6 +126,8 @@ fn write_saved<M: Medium>(
 }
 
 impl<M: Medium> Medium for Volatile<M> {
+    ghost use Rattle.medium.specs.Volatiles.{inside_of, saved_of};
+
     ghost device = { λ m. cached_device (M.device m.inner) m.cached (block_at m.saved) m.calls m.failed };
 
     ghost prepared = { λ m b. IsReady (M.prepared m.inner b) m.cached m.saved (vec_len m.scratch) (M.device m.inner).size b };
@@ -148,14 +152,27 @@ impl<M: Medium> Medium for Volatile<M> {
         self.saved.make_places(lba, count)
     }
 
-    fn read_blocks(&mut self, lba: u64, out: &mut [u8]) -> Result<(), BlockFailed> {
+    /// Makes the same read inside.
+    fn read_blocks(&mut self, lba: u64, out: &mut [u8]) -> Result<(), BlockFailed>
+        requires { IsTransfer (⟦<Volatile<M> as Medium>⟧.device self.old) lba (length out.old) }
+        ensures read { IsRead (⟦<Volatile<M> as Medium>⟧.device self.old) lba result (⟦<Volatile<M> as Medium>⟧.device self.new) out.old out.new }
+        ensures stay { StayPrepared (⟦<Volatile<M> as Medium>⟧.prepared self.old) (⟦<Volatile<M> as Medium>⟧.prepared self.new) }
+        ensures inside { IsRead (M.device (inside_of self.old)) lba result (M.device (inside_of self.new)) out.old out.new }
+    {
         let answer = self.inner.read_blocks(lba, out);
         self.calls = self.calls.saturating_add(1);
         self.failed = self.failed.saturating_add(failures_of(answer));
         answer
     }
 
-    fn write_blocks(&mut self, lba: u64, bytes: &[u8]) -> Result<(), BlockFailed> {
+    /// Saves what it changes for the first time, by one read inside for each longest run of blocks, and then writes inside.
+    fn write_blocks(&mut self, lba: u64, bytes: &[u8]) -> Result<(), BlockFailed>
+        requires transfer { IsTransfer (⟦<Volatile<M> as Medium>⟧.device self.old) lba (length bytes.now) }
+        requires ready { (b : ℕ) → lba ≤ b → b * (⟦<Volatile<M> as Medium>⟧.device self.old).size < lba * (⟦<Volatile<M> as Medium>⟧.device self.old).size + length bytes.now → ⟦<Volatile<M> as Medium>⟧.prepared self.old b }
+        ensures written { IsWrite (⟦<Volatile<M> as Medium>⟧.device self.old) lba bytes.now result (⟦<Volatile<M> as Medium>⟧.device self.new) }
+        ensures stay { StayPrepared (⟦<Volatile<M> as Medium>⟧.prepared self.old) (⟦<Volatile<M> as Medium>⟧.prepared self.new) }
+        ensures inside { IsSavedWrite (M.device (inside_of self.old)) (saving_reads (⟦<Volatile<M> as Medium>⟧.device self.old).cached (saved_of self.old) lba (length bytes.now / (M.device (inside_of self.old)).size)) result (M.device (inside_of self.new)) }
+    {
         let answer = write_saved(
             &mut self.inner,
             &mut self.saved,
@@ -169,7 +186,12 @@ impl<M: Medium> Medium for Volatile<M> {
         answer
     }
 
-    fn sync(&mut self) -> Result<(), BlockFailed> {
+    /// Makes a sync inside. Done, it lets the saved blocks go.
+    fn sync(&mut self) -> Result<(), BlockFailed>
+        ensures synced { IsSync (⟦<Volatile<M> as Medium>⟧.device self.old) result (⟦<Volatile<M> as Medium>⟧.device self.new) }
+        ensures stay { StayPrepared (⟦<Volatile<M> as Medium>⟧.prepared self.old) (⟦<Volatile<M> as Medium>⟧.prepared self.new) }
+        ensures inside { IsSync (M.device (inside_of self.old)) result (M.device (inside_of self.new)) }
+    {
         let answer = self.inner.sync();
         self.calls = self.calls.saturating_add(1);
         self.failed = self.failed.saturating_add(failures_of(answer));
