@@ -6,3 +6,4 @@ pub mod Gates
 pub mod Eras
 pub mod Turns
 pub mod Pending
+pub mod Left

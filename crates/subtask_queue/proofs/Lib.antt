@@ -4,3 +4,4 @@ mod Removing
 mod Holding
 mod Pushing
 mod Finding
+mod From

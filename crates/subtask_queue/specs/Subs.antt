@@ -1,5 +1,5 @@
 -- Unfinished units as a queue keeps them, and what each call makes of them (units: UEFI 2.10, 13.7; the queue: own profile).
-use Rattle.std.specs.Prelude.{◌≡◌, ℕ, ◌+◌, ◌-◌, ◌*◌, ◌/◌, ◌<◌, ◌≤◌, Bool, true, not, ◌&&◌, ◌||◌, nat_eq, if◌then◌else◌, List, [], ◌∷◌, ◌++◌, map, filter}
+use Rattle.std.specs.Prelude.{◌≡◌, ℕ, ◌+◌, ◌-◌, ◌*◌, ◌/◌, ◌<◌, ◌≤◌, Bool, true, not, ◌&&◌, ◌||◌, nat_eq, nat_le, if◌then◌else◌, List, [], ◌∷◌, ◌++◌, map, filter}
 use Rattle.disk_split.specs.declared.geometry.Geometry.{Geometry}
 use Rattle.disk_split.specs.declared.parts.Parts.{Parts}
 use Rattle.disk_split.specs.declared.span.Span.{Span}
@@ -33,6 +33,10 @@ may_run held free (Sync token) = true
 -- a unit of this token
 unfoldable pub is_of : ℕ → Sub → Bool
 is_of token s = nat_eq token (token_of s)
+
+-- a unit of this token or a later one
+unfoldable pub is_from : ℕ → Sub → Bool
+is_from token s = nat_le token (token_of s)
 
 -- a unit with this first block
 unfoldable pub has_block : ℕ → Sub → Bool

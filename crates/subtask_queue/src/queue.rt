@@ -2,7 +2,8 @@ ghost use Rattle.std.specs.Prelude.{◌≡◌, ℕ, ◌+◌, ◌<◌, ◌^◌, �
 ghost use Rattle.std.specs.List.{find, filter, count_by};
 ghost use Rattle.block_gate.specs.Gates.{is_block_held};
 ghost use Rattle.disk_split.specs.Units.{IsGeometry};
-ghost use Rattle.subtask_queue.specs.Subs.{token_of, block_of, is_unit, is_of, may_run, without_first, without_token, subs_of_request, AreParts, AreBelow};
+ghost use Rattle.std.specs.Option.{option_map};
+ghost use Rattle.subtask_queue.specs.Subs.{token_of, block_of, is_unit, is_of, is_from, may_run, without_first, without_token, subs_of_request, AreParts, AreBelow};
 
 use crate::entries;
 use crate::sub::Sub;
@@ -80,6 +81,16 @@ impl Queue {
             }
         }
         None
+    }
+
+    /// The least token from this one on that has an unfinished unit. None exactly where no such token has one.
+    pub fn token_from(&self, token: u64) -> Option<u64>
+        ensures { result ≡ option_map token_of (find (is_from token) self.now) }
+    {
+        match self.tokens.range(token..).next() {
+            Some((token, _)) => Some(*token),
+            None => None,
+        }
     }
 
     /// Takes a unit out: the first one with this token and this first block. Where there is none nothing changes.
