@@ -1,113 +1,294 @@
--- A disk that accepts a request.
-use Rattle.std.proofs.Common.{◌≡◌, ℕ, zero, suc, ◌+◌, ◌-◌, ◌*◌, ◌≤◌, ◌⊎◌, inl, inr, Bool, true, false, not, ◌&&◌, ◌||◌, List, [], ◌∷◌, ◌++◌, slice_get, length, None, Some, refl, sym, ◌∙◌, ap, arith, nat_eq, nat_lt, if◌then◌else◌}
-use Rattle.std.proofs.lemmas.Bool.{cases_eq, eq-eqb, ne_eqb, ltb-false, eqb-true, and_parts, or_parts}
-use Rattle.efi_status.specs.declared.Status.TheVariants.{Success, InvalidParameter, MediaChanged, WriteProtected}
-use Rattle.disk_split.specs.Units.{units_of}
+-- A request is accepted.
+use Rattle.std.proofs.Common.{◌≡◌, ◌≢◌, ℕ, suc, ◌+◌, ◌*◌, ◌<◌, ◌≤◌, inl, inr, true, false, List, [], ◌∷◌, ◌++◌, length, map, Option, None, Some, refl, sym, ◌∙◌, ap, subst, arith, nat_eq}
+use Rattle.std.specs.Prelude.{vec_capacity, if◌then◌else◌}
+use Rattle.std.specs.Option.{option_map}
+use Rattle.std.proofs.lemmas.Bool.{cases_eq, cases_lt, eq-eqb, ne_eqb}
+use Rattle.std.proofs.lemmas.List.{get_or_past, get_or_append_left, get_or_push, length-append, length-map, map-append}
+use Rattle.medium.specs.Device.{Device, AreToldAt}
+use Rattle.drive.specs.Drives.{DriveState, medium_in}
+use Rattle.disk_split.specs.declared.parts.Parts.{Parts}
+use Rattle.block_gate.specs.Gates.{Gates}
 use Rattle.history.specs.declared.entry.View.{View}
+use Rattle.history.specs.declared.entry.Kind.TheVariants.{Write}
 use Rattle.history.specs.declared.entry.Asked.{Asked}
-use Rattle.history.specs.declared.entry.UnitKind.TheVariants.{Bytes}
+use Rattle.history.specs.declared.entry.Command.TheVariants.{Fetch}
 use Rattle.history.specs.declared.entry.Entry.{Entry}
-use Rattle.history.specs.declared.entry.Entry.TheVariants.{Accept}
-use Rattle.history.specs.Setup.{Setup, size_of, blocks_of}
-use Rattle.history.specs.Tokens.{accepted, changes_bytes, from_of}
-use Rattle.history.specs.Commands.{moves, is_moved}
-use Rattle.history.specs.Marks.{mark_of, status_if, is_complete, all_from}
-use Rattle.history.specs.Rules.{IsLegal, refusal_of}
-use Rattle.history_laws.proofs.TokenLemmas.{request-accept, has_done-same}
-use Rattle.history_laws.proofs.EndLemmas.{mark-accept, unaccepted, untold-has_done}
-use Rattle.history_laws.proofs.ScanLemmas.{all_from-false}
-use Rattle.history_laws.proofs.TaskLemmas.{complete-moved}
-use Rattle.disk_core.specs.declared.record.Record.{Record}
-use Rattle.disk_core.specs.Sound.{IsPlain}
-use Rattle.disk_core.specs.Submitting.{has_buffer, plain_refusal, is_beyond, IsMoving}
-use Rattle.disk_core.proofs.Tracked.{buffered}
+use Rattle.history.specs.declared.entry.Entry.TheVariants.{Accept, Done}
+use Rattle.history.specs.Setup.{Setup, IsSetup, size_of}
+use Rattle.history.specs.Eras.{media_id_of}
+use Rattle.history.specs.Tokens.{Request, accepted, request, was_collected, changes_bytes, from_of, until_of}
+use Rattle.history.specs.Contents.{contents, bytes_read}
+use Rattle.history.specs.Marks.{mark_of, HoldsBy}
+use Rattle.history.specs.Rules.{MayAccept, MayFollow, IsLegal}
+use Rattle.history.specs.Tasks.{pending}
+use Rattle.history.specs.Room.{owed_entries}
+use Rattle.history_laws.specs.Pending.{todos_of}
+use Rattle.history_laws.proofs.CountLemmas.{accepted-more, fetches-same}
+use Rattle.history_laws.proofs.TokenLemmas.{mark-other, accept-concerns, request-accept, request-accepted, request-kept, request-stays, collected-same}
+use Rattle.history_laws.proofs.EndLemmas.{unaccepted}
+use Rattle.history_laws.proofs.ContentLemmas.{contents-same, piece-none}
+use Rattle.history_laws.proofs.EraLemmas.{protected-same}
+use Rattle.history_laws.proofs.MediaLemmas.{media-id-same, present-same}
+use Rattle.history_laws.proofs.PendingLemmas.{open-before}
+use Rattle.history_laws.proofs.FinishLemmas.{pending-accept}
+use Rattle.history_laws.proofs.TicketLemmas.{holds-by-before, holds-by-stays}
+use Rattle.token_table.specs.declared.record.Record.{Record}
+use Rattle.token_table.specs.Records.{Records, IsShown}
+use Rattle.token_table.proofs.RecordsLemmas.{at-push}
+use Rattle.subtask_queue.specs.declared.sub.Sub.{Sub}
+use Rattle.subtask_queue.specs.Subs.{sub_of, subs_of_request, AreParts}
+use Rattle.subtask_queue.proofs.SubsLemmas.{subs-of-tasks}
+use Rattle.disk_core.specs.declared.parts.Core.{Core}
+use Rattle.disk_core.specs.declared.parts.Holder.{Holder}
+use Rattle.disk_core.specs.State.{Kept, kept_at, setup_of}
+use Rattle.disk_core.specs.Facts.{IsBuffer, KeptFollow, GatesFollow, buffer_length}
+use Rattle.disk_core.specs.Parts.{kept_from, kept_of, state_of}
+use Rattle.disk_core.specs.Inside.{DriveFollows, Tracks, RecordsFollow, HoldersFollow, AreReady, group_low, group_high}
+use Rattle.disk_core.specs.Admission.{accepting, left_at_first}
+use Rattle.disk_core.specs.Moves.{IsDisk}
+use Rattle.disk_core.proofs.Following.{era-still}
+use Rattle.disk_core.proofs.Still.{left-done, buffer-kept}
+use Rattle.disk_core.proofs.HistoryAccepted.{left-new, uncollected-new}
 
--- where medium 1 is in and not protected, a request for bytes is refused by its medium id and its range
-pub refusal-is : (S : Setup) (H : List Entry) (view : View) (media_id : ℕ) (asked : Asked) → IsPlain S H → has_buffer asked.kind ≡ true → asked.unit ≡ Bytes
-    → refusal_of S H view asked media_id ≡ plain_refusal (blocks_of S 1 * size_of S) view media_id asked.at asked.length
-unfolding refusal_of
-refusal-is S H view media_id asked plain moving bytes =
-    rw (plain.ejects, plain.inserts, plain.unprotected, buffered asked.kind moving, bytes) (by (changes_bytes asked.kind))
-  where
-    by : (w : Bool)
-        → (if not (nat_eq media_id 1 && nat_eq view.media_id 1) then Some MediaChanged else (if w && false then Some WriteProtected else (if is_beyond (blocks_of S 1 * size_of S) view asked.at asked.length then Some InvalidParameter else None)))
-        ≡ plain_refusal (blocks_of S 1 * size_of S) view media_id asked.at asked.length
-    by true = refl
-    by false = refl
-
--- an accepted request names medium 1 twice, and lies in its view, which lies on the medium
-pub record IsWithin (total : ℕ) (view : View) (media_id at n : ℕ) : Type 0 where
-  pub given : media_id ≡ 1
-  pub view_is : view.media_id ≡ 1
-  pub beyond : is_beyond total view at n ≡ false
-
-within-by : (total : ℕ) (view : View) (media_id at n : ℕ) (ids beyond : Bool) → (nat_eq media_id 1 && nat_eq view.media_id 1) ≡ ids → is_beyond total view at n ≡ beyond
-    → (if not ids then Some MediaChanged else (if beyond then Some InvalidParameter else None)) ≡ None → IsWithin total view media_id at n
-within-by total view media_id at n true false ids beyond none =
-    let parts : (nat_eq media_id 1 ≡ true) × (nat_eq view.media_id 1 ≡ true) = and_parts (nat_eq media_id 1) (nat_eq view.media_id 1) ids in
-    record { given = eqb-true media_id 1 parts.0; view_is = eqb-true view.media_id 1 parts.1; beyond = beyond }
-within-by total view media_id at n true true ids beyond none = absurd (clash none)
-  where
-    clash : Some InvalidParameter ≡ None → ⊥
-    clash e = cc
-within-by total view media_id at n false beyond ids is none = absurd (clash none)
-  where
-    clash : Some MediaChanged ≡ None → ⊥
-    clash e = cc
-
-pub within : (total : ℕ) (view : View) (media_id at n : ℕ) → plain_refusal total view media_id at n ≡ None → IsWithin total view media_id at n
-within total view media_id at n none =
-    within-by total view media_id at n (nat_eq media_id 1 && nat_eq view.media_id 1) (is_beyond total view at n) refl refl none
-
-pub within-range : (total : ℕ) (view : View) (media_id at n : ℕ) → IsWithin total view media_id at n → view.start + at + n ≤ total
-within-range total view media_id at n is =
-    let first : ((nat_lt total (view.start + view.length) || nat_lt view.length at) ≡ false) × (nat_lt (view.length - at) n ≡ false) = or_parts _ _ is.beyond in
-    let second : (nat_lt total (view.start + view.length) ≡ false) × (nat_lt view.length at ≡ false) = or_parts _ _ first.0 in
-    omega (arith, ltb-false total (view.start + view.length) second.0, ltb-false view.length at second.1, ltb-false (view.length - at) n first.1)
-
--- the medium id of the view does as well as the one given
-pub view-refusal : (S : Setup) (H : List Entry) (view : View) (media_id : ℕ) (asked : Asked) → IsPlain S H → has_buffer asked.kind ≡ true → asked.unit ≡ Bytes
-    → IsWithin (blocks_of S 1 * size_of S) view media_id asked.at asked.length → refusal_of S H view asked view.media_id ≡ None
-view-refusal S H view media_id asked plain moving bytes is =
-    refusal-is S H view view.media_id asked plain moving bytes ∙ (rw (is.view_is, is.beyond) refl)
-
-pub last-or : (records : List Record) (r x : Record) (t : ℕ) → slice_get (records ++ (r ∷ [])) t ≡ Some x → (slice_get records t ≡ Some x) ⊎ ((t ≡ length records) × (x ≡ r))
-last-or [] r x zero is = let same : r ≡ x = cc in inr (refl, sym same)
-last-or [] r x (suc t) is = cc
-last-or (y ∷ records) r x zero is = inl is
-last-or (y ∷ records) r x (suc t) is = elim (last-or records r x t is) [
-  | inl before ↦ inl before
-  | inr (same, one) ↦ inr (ap suc same, one)
+-- what is kept of the last token and of those before
+pub kept-last : (kept : List (Option Kept)) (u : ℕ) (k : Option Kept) → kept_at (kept ++ k ∷ []) u ≡ (if nat_eq u (length kept) then k else kept_at kept u)
+unfolding kept_at
+kept-last kept u k = elim (cases_eq u (length kept)) [
+  | inl same ↦ rw (eq-eqb u (length kept) same) (get_or_push kept k None u (sym same))
+  | inr other ↦ rw (ne_eqb u (length kept) other) (elim (cases_lt u (length kept)) [
+    | inl within ↦ get_or_append_left kept (k ∷ []) None u within
+    | inr past ↦ get_or_past (kept ++ k ∷ []) u None (omega (arith, length-append kept (k ∷ []))) ∙ sym (get_or_past kept u None past)
+  ])
 ]
 
--- what a new record has
-pub record IsNew (S : Setup) (asked : Asked) (view : View) (buffer : List ℕ) (r : Record) : Type 0 where
-  pub kind : r.kind ≡ asked.kind
-  pub from : r.from ≡ view.start + asked.at
-  pub units : r.units.items ≡ units_of S.geometry (view.start + asked.at) (view.start + asked.at + length buffer)
-  pub finished : r.finished ≡ 0
-  pub status : r.status ≡ (if nat_eq (length buffer) 0 then Some Success else None)
-  pub collected : r.collected ≡ false
-  pub bytes : r.buffer.items ≡ buffer
+pub kept-added : (records : Records) (r : Record) → kept_of (records ++ Some r ∷ []) ≡ kept_of records ++ Some (kept_from r) ∷ []
+unfolding kept_of
+kept-added records r = map-append (option_map kept_from) records (Some r ∷ [])
 
-complete-new : (S : Setup) (H : List Entry) (tag : ℕ) (view : View) (asked : Asked) (bytes : List ℕ) → has_buffer asked.kind ≡ true
-    → is_complete S (Accept tag view asked bytes ∷ H) (accepted H) ≡ all_from (is_moved S (Accept tag view asked bytes ∷ H) (accepted H)) (from_of S (record { tag = tag; view = view; asked = asked; bytes = bytes })) asked.length
-complete-new S H tag view asked bytes moving = complete-moved S (Accept tag view asked bytes ∷ H) (accepted H) (record { tag = tag; view = view; asked = asked; bytes = bytes }) (request-accept H tag view asked bytes) (buffered asked.kind moving)
+pub length-kept : (records : Records) → length (kept_of records) ≡ length records
+unfolding kept_of
+length-kept records = length-map records (option_map kept_from)
 
--- the status of as many bytes of which the first is not moved
-first-status : (test : ℕ → Bool) (first n m : ℕ) → n ≡ m → test first ≡ false → status_if (all_from test first n) Success ≡ (if nat_eq m 0 then Some Success else None)
-unfolding all_from
-first-status test first n m same unmoved = elim (cases_eq n 0) [
-  | inl none ↦ rw (none, eq-eqb m 0 (sym same ∙ none)) refl
-  | inr some ↦ rw (ne_eqb m 0 (λ e. some (same ∙ e)), all_from-false test first n first (omega arith) (omega (arith, some)) unmoved) refl
-]
+some-none : {X : Type 0} (m : Option X) (x : X) → m ≡ None → m ≡ Some x → ⊥
+some-none m x none some = cc
 
--- a new token of a request of no bytes has ended, and another is open
-pub mark-new : (S : Setup) (H : List Entry) (tag : ℕ) (view : View) (asked : Asked) (bytes : List ℕ) (buffer : List ℕ) → IsLegal S H → IsMoving asked buffer
-    → mark_of S (Accept tag view asked bytes ∷ H) (accepted H) ≡ (if nat_eq (length buffer) 0 then Some Success else None)
-mark-new S H tag view asked bytes buffer legal is =
-    let first : ℕ = from_of S (record { tag = tag; view = view; asked = asked; bytes = bytes }) in
-    mark-accept S H tag view asked bytes legal
-    ∙ (ap (λ b. status_if b Success) (complete-new S H tag view asked bytes is.moving)
-    ∙ first-status (is_moved S (Accept tag view asked bytes ∷ H) (accepted H)) first asked.length (length buffer) is.long
-    (has_done-same (moves S first) H (Accept tag view asked bytes) (accepted H) refl ∙ untold-has_done S (moves S first) H (accepted H) (unaccepted S H (accepted H) legal (omega arith))))
+some-same : {X : Type 0} (x y : X) → Some x ≡ Some y → x ≡ y
+some-same x y e = cc
+
+module _ (S : Setup) (H : List Entry) (tag : ℕ) (view : View) (asked : Asked) (bytes : List ℕ) (setup : IsSetup S) (legal : IsLegal S H) (may : MayAccept S H view asked bytes) where
+  abbrev e : Entry
+  e = Accept tag view asked bytes
+
+  abbrev q : Request
+  q = record { tag = tag; view = view; asked = asked; bytes = bytes }
+
+  pub legal-accept : IsLegal S (e ∷ H)
+  unfolding IsLegal MayFollow
+  legal-accept = (legal, may)
+
+  may-follow : MayFollow S H e
+  unfolding MayFollow
+  may-follow = may
+
+  more : accepted (e ∷ H) ≡ accepted H + 1
+  more = accepted-more H e refl
+
+  older : (u : ℕ) → u < accepted H → u ≢ accepted H
+  older u lt same = absurd (omega arith)
+
+  mark-old : (u : ℕ) → u ≢ accepted H → mark_of S (e ∷ H) u ≡ mark_of S H u
+  mark-old u other = mark-other S H e u (accept-concerns H tag view asked bytes u other)
+
+  holds-accept : (t b k : ℕ) → HoldsBy S H t b k → HoldsBy S (e ∷ H) t b k
+  holds-accept t b k holds =
+      holds-by-stays S H e t b k setup may-follow refl (mark-old t (older t holds.holds.outstanding.token) ∙ holds.holds.outstanding.unmarked) holds
+
+  no-fetch : (t b : ℕ) → e ≡ Done t (Fetch b) → ⊥
+  no-fetch t b is = cc
+
+  holds-was : (t b k : ℕ) → HoldsBy S (e ∷ H) t b k → HoldsBy S H t b k
+  holds-was t b k holds = elim (holds-by-before S H e t b k setup legal-accept holds) [
+    | inl before ↦ before
+    | inr is ↦ absurd (no-fetch t b is.0)
+  ]
+
+  contents-accept : contents S (media_id_of (e ∷ H)) (e ∷ H) ≡ contents S (media_id_of H) H
+  contents-accept = ap (λ k. contents S k (e ∷ H)) (media-id-same H e refl) ∙ contents-same S (media_id_of H) H e (piece-none S H e refl)
+
+  pub gates-accept : (gates : Gates) → GatesFollow S H gates → GatesFollow S (e ∷ H) gates
+  gates-accept gates follow = record {
+    sized = follow.sized;
+    each = λ k g there. (let t = (follow.each k g there).0 in let is = (follow.each k g there).1 in (
+      t,
+      record {
+        holds = holds-accept t g.block k is.holds;
+        lent = is.lent;
+        copied = subst (λ told. AreToldAt told (g.block * size_of S) g.copy) (sym contents-accept) is.copied;
+      },
+    ));
+    all = λ t b k holds. follow.all t b k (holds-was t b k holds);
+    below = λ k out. subst (λ n. k < n) (sym (fetches-same H e refl)) (follow.below k out);
+  }
+
+  pub holders-accept : (gates : Gates) (holders : List Holder) (places : ℕ) → HoldersFollow S H gates holders places → HoldersFollow S (e ∷ H) gates holders places
+  holders-accept gates holders places follow = record {
+    each = λ k t b holds. follow.each k t b (holds-was t b k holds);
+    only = λ k t there. (let h = follow.only k t there in (h.0, holds-accept t h.0 k h.1));
+    apart = follow.apart;
+    paired = follow.paired;
+    rising = follow.rising;
+    fits = follow.fits;
+  }
+
+  pub drive-accept : {M : Type 0} (device : M → Device) (drive : DriveState M) → DriveFollows device S H drive → DriveFollows device S (e ∷ H) drive
+  drive-accept device drive follow = record {
+    shape = follow.shape;
+    fit = follow.fit;
+    media_id = follow.media_id ∙ sym (media-id-same H e refl);
+    present = follow.present ∙ sym (present-same H e refl refl);
+    protected = follow.protected ∙ sym (protected-same S H e refl);
+  }
+
+  tracks-old : (t : ℕ) (r : Record) (was : Request) → Tracks S H t r was → Tracks S (e ∷ H) t r was
+  tracks-old t r was is = record {
+    named = request-stays H e t was is.named;
+    asked = is.asked;
+    viewed = is.viewed;
+    begins = is.begins;
+    mark = mark-old t (older t (request-accepted H t was is.named)) ∙ is.mark;
+    left = λ unended. is.left unended ∙ sym (left-done S H e t was refl);
+  }
+
+  -- the record of the new token
+  pub record IsNew (r : Record) (buffer : List ℕ) : Type 0 where
+    pub same : r.request.asked ≡ asked
+    pub viewed : r.request.view ≡ view
+    pub begins : r.request.at ≡ from_of S q
+    pub mark : mark_of S (e ∷ H) (accepted H) ≡ r.ended
+    pub left : r.ended ≡ None → r.request.left ≡ left_at_first asked.kind asked.length
+    pub kept : r.request.buffer ≡ buffer
+    pub shown : IsShown r
+
+  tracks-new : (r : Record) (buffer : List ℕ) → IsNew r buffer → Tracks S (e ∷ H) (accepted H) r q
+  tracks-new r buffer is = record {
+    named = request-accept H tag view asked bytes;
+    asked = is.same;
+    viewed = is.viewed;
+    begins = is.begins;
+    mark = is.mark;
+    left = λ unended. is.left unended ∙ sym (left-new S H tag view asked bytes setup legal);
+  }
+
+  pub records-accept : (records : Records) (r : Record) (buffer : List ℕ) → accepted H ≡ length records → IsNew r buffer → RecordsFollow S H records → RecordsFollow S (e ∷ H) (records ++ Some r ∷ [])
+  records-accept records r buffer counted is follow = record {
+    each = λ t found there. elim (cases_eq t (length records)) [
+      | inl same ↦
+          let here : r ≡ found = some-same r found (sym (at-push records t (Some r) ∙ rw (eq-eqb t (length records) same) refl) ∙ there) in
+          (q, subst (λ u. Tracks S (e ∷ H) u found q) (counted ∙ sym same) (subst (λ x. Tracks S (e ∷ H) (accepted H) x q) here (tracks-new r buffer is)))
+      | inr other ↦
+          let before = follow.each t found (sym (at-push records t (Some r) ∙ rw (ne_eqb t (length records) other) refl) ∙ there) in
+          (before.0, tracks-old t found before.0 before.1)
+    ];
+    shown = record {
+      each = λ t found there. elim (cases_eq t (length records)) [
+        | inl same ↦ subst IsShown (some-same r found (sym (at-push records t (Some r) ∙ rw (eq-eqb t (length records) same) refl) ∙ there)) is.shown
+        | inr other ↦ follow.shown.each t found (sym (at-push records t (Some r) ∙ rw (ne_eqb t (length records) other) refl) ∙ there)
+      ];
+    };
+  }
+
+  buffer-new : (buffer : List ℕ) → length buffer ≡ buffer_length asked.kind asked.length → (asked.kind ≡ Write → buffer ≡ bytes) → IsBuffer S (e ∷ H) (accepted H) q buffer
+  unfolding bytes_read
+  buffer-new buffer long written = record {
+    named = request-accept H tag view asked bytes;
+    long = long;
+    bytes = written;
+    given = λ reads x v from until read. absurd (some-none (bytes_read S (e ∷ H) (accepted H) x) v (unread x) read);
+  }
+    where
+      unread : (x : ℕ) → bytes_read S (e ∷ H) (accepted H) x ≡ None
+      unread x = (unaccepted S H (accepted H) legal (omega arith)).unread x
+
+  pub kept-accept : (kept : List (Option Kept)) (k : Kept) → length k.buffer ≡ buffer_length asked.kind asked.length → (asked.kind ≡ Write → k.buffer ≡ bytes) → KeptFollow S H kept → KeptFollow S (e ∷ H) (kept ++ Some k ∷ [])
+  kept-accept kept k long written follow = record {
+    counted = (let one = length-append kept (Some k ∷ []) in let many = follow.counted in let plus = more in omega arith);
+    there = λ t found is. elim (cases_eq t (length kept)) [
+      | inl same ↦
+          let here : k ≡ found = some-same k found (sym (kept-last kept t (Some k) ∙ rw (eq-eqb t (length kept) same) refl) ∙ is) in
+          subst (λ u. (was_collected (e ∷ H) u ≡ false) × ((was : Request) × IsBuffer S (e ∷ H) u was found.buffer)) (sym (same ∙ follow.counted))
+          (subst (λ x. (was_collected (e ∷ H) (accepted H) ≡ false) × ((was : Request) × IsBuffer S (e ∷ H) (accepted H) was x.buffer)) here (uncollected-new S H tag view asked bytes setup legal, (q, buffer-new k.buffer long written)))
+      | inr other ↦
+          let old = follow.there t found (sym (kept-last kept t (Some k) ∙ rw (ne_eqb t (length kept) other) refl) ∙ is) in
+          (collected-same H e t refl ∙ old.0, (old.1.0, buffer-kept S H e t old.1.0 found.buffer refl old.1.1))
+    ];
+    gone = λ t lt none. elim (cases_eq t (length kept)) [
+      | inl same ↦ absurd (some-none (kept_at (kept ++ Some k ∷ []) t) k none (kept-last kept t (Some k) ∙ rw (eq-eqb t (length kept) same) refl))
+      | inr other ↦
+          let many = follow.counted in
+          let plus = more in
+          collected-same H e t refl ∙ follow.gone t (omega (arith, other)) (sym (kept-last kept t (Some k) ∙ rw (ne_eqb t (length kept) other) refl) ∙ none)
+    ];
+  }
+
+  pub queue-accept : (queue : List Sub) (parts : Parts) → AreParts S.geometry (from_of S q) (until_of S q) parts → queue ≡ map (sub_of (size_of S)) (pending S H)
+      → queue ++ subs_of_request S.geometry (accepted H) asked.kind parts ≡ map (sub_of (size_of S)) (pending S (e ∷ H))
+  queue-accept queue parts are is =
+      ap (λ old. old ++ subs_of_request S.geometry (accepted H) asked.kind parts) is
+      ∙ ap (λ own. map (sub_of (size_of S)) (pending S H) ++ own) (subs-of-tasks S q (accepted H) parts are)
+      ∙ sym (map-append (sub_of (size_of S)) (pending S H) (todos_of S (accepted H) q))
+      ∙ sym (ap (map (sub_of (size_of S))) (pending-accept S H tag view asked bytes setup legal-accept))
+
+  pub ready-accept : (ready : ℕ → Type 0) → AreReady S H ready → (changes_bytes asked.kind ≡ true → mark_of S (e ∷ H) (accepted H) ≡ None → (b : ℕ) → group_low S q ≤ b → b < group_high S q → ready b) → AreReady S (e ∷ H) ready
+  ready-accept ready are now t b was open_now named changes low high = elim (cases_eq t (accepted H)) [
+    | inl same ↦
+        let here : q ≡ was = some-same q was (sym (subst (λ u. request (e ∷ H) u ≡ Some q) (sym same) (request-accept H tag view asked bytes)) ∙ named) in
+        now (ap (λ x. changes_bytes x.asked.kind) here ∙ changes) (subst (λ u. mark_of S (e ∷ H) u ≡ None) same open_now.unmarked) b
+        (subst (λ x. group_low S x ≤ b) (sym here) low) (subst (λ x. b < group_high S x) (sym here) high)
+    | inr other ↦ are t b was (open-before S H e t other open_now) (sym (request-kept H e t other) ∙ named) changes low high
+  ]
+
+module _ {M : Type 0} (device : M → Device) (prepared : M → ℕ → Type 0) (drive : DriveState M) (c : Core) (sound : IsDisk device prepared drive c) (tag : ℕ) (view : View) (asked : Asked) (bytes : List ℕ)
+    (legal : IsLegal (setup_of device drive c.protected_at_first) c.history.entries) (may : MayAccept (setup_of device drive c.protected_at_first) c.history.entries view asked bytes) where
+  abbrev S : Setup
+  S = setup_of device drive c.protected_at_first
+
+  abbrev asks : Request
+  asks = record { tag = tag; view = view; asked = asked; bytes = bytes }
+
+  abbrev entry : Entry
+  entry = Accept tag view asked bytes
+
+  pub accept-sound : (r : Record) (buffer : List ℕ) (owed : ℕ) (parts : Parts) → IsNew S c.history.entries tag view asked bytes sound.geometry legal may r buffer
+      → AreParts S.geometry (from_of S asks) (until_of S asks) parts → length buffer ≡ buffer_length asked.kind asked.length → (asked.kind ≡ Write → buffer ≡ bytes)
+      → owed_entries S (entry ∷ c.history.entries) ≤ owed_entries S c.history.entries + owed → c.owed + owed + 1 ≤ c.history.spare
+      → (changes_bytes asked.kind ≡ true → mark_of S (entry ∷ c.history.entries) (accepted c.history.entries) ≡ None → (m : M) → medium_in drive ≡ Some m → (b : ℕ) → group_low S asks ≤ b → b < group_high S asks → prepared m b)
+      → IsDisk device prepared drive (accepting c entry owed (c.tokens ++ Some r ∷ []) (c.queue ++ subs_of_request c.blocks c.accepted asked.kind parts))
+  unfolding state_of accepting
+  accept-sound r buffer owed parts is are long written more_owed places now =
+      let H = c.history.entries in
+      let many : accepted H ≡ length c.tokens = sym sound.facts.tokens.counted ∙ length-kept c.tokens in
+      record {
+        setup = refl;
+        geometry = sound.geometry;
+        facts = record {
+          legal = legal-accept S H tag view asked bytes sound.geometry legal may;
+          media = λ i d there. era-still S H entry (suc i) d refl (sound.facts.media i d there);
+          tokens = subst (KeptFollow S (entry ∷ H)) (sym (kept-added c.tokens r))
+              (kept-accept S H tag view asked bytes sound.geometry legal may (kept_of c.tokens) (kept_from r) (ap length is.kept ∙ long) (λ writes. is.kept ∙ written writes) sound.facts.tokens);
+          gates = gates-accept S H tag view asked bytes sound.geometry legal may c.gates sound.facts.gates;
+        };
+        drive_follows = drive-accept S H tag view asked bytes sound.geometry legal may device drive sound.drive_follows;
+        records = records-accept S H tag view asked bytes sound.geometry legal may c.tokens r buffer many is sound.records;
+        queue = ap (λ G. c.queue ++ subs_of_request G c.accepted asked.kind parts) sound.fitted.blocks ∙ ap (λ n. c.queue ++ subs_of_request S.geometry n asked.kind parts) sound.fitted.accepts
+            ∙ queue-accept S H tag view asked bytes sound.geometry legal may c.queue parts are sound.queue;
+        holders = holders-accept S H tag view asked bytes sound.geometry legal may c.gates c.holders.items (vec_capacity c.holders) sound.holders;
+        room = (let before = sound.room.owed in let few = sound.room.few in record { owed = omega arith; places = omega arith; few = omega arith });
+        ready = λ m there. ready-accept S H tag view asked bytes sound.geometry legal may (prepared m) (sound.ready m there) (λ changes open_. now changes open_ m there);
+        fitted = record {
+          blocks = sound.fitted.blocks;
+          accepts = ap (λ n. n + 1) sound.fitted.accepts ∙ sym (accepted-more H entry refl);
+          fetches_are = sound.fitted.fetches_are ∙ sym (fetches-same H entry refl);
+          group = sound.fitted.group;
+          zeros = sound.fitted.zeros;
+        };
+      }

@@ -1,106 +1,236 @@
--- A disk that hands a request back.
-use Rattle.std.proofs.Common.{◌≡◌, ℕ, ◌<◌, inl, inr, true, false, List, ◌∷◌, slice_get, None, Some, is_some, refl, sym, ◌∙◌, ap, arith}
-use Rattle.std.proofs.lemmas.Bool.{cases_eq}
+-- An ended request is handed back.
+use Rattle.std.proofs.Common.{◌≡◌, ◌≢◌, ℕ, suc, ◌+◌, ◌-◌, ◌*◌, ◌^◌, ◌<◌, ◌≤◌, ◌⊎◌, inl, inr, Bool, true, false, List, [], ◌∷◌, length, map, Option, None, Some, refl, sym, ◌∙◌, ap, subst, arith, IsSome, Result, Ok, Err, OnOk, OnErr}
+use Rattle.std.specs.Prelude.{slice_set, nat_eq, vec_capacity}
+use Rattle.std.specs.Option.{option_map}
+use Rattle.std.proofs.lemmas.Bool.{cases_eq, cases_lt, ne_eqb}
+use Rattle.std.proofs.lemmas.List.{length-set}
 use Rattle.efi_status.specs.declared.Status.{Status}
 use Rattle.medium.specs.Device.{Device}
+use Rattle.drive.specs.Drives.{DriveState, medium_in, devices_of}
 use Rattle.history.specs.declared.entry.Entry.{Entry}
 use Rattle.history.specs.declared.entry.Entry.TheVariants.{Collect}
-use Rattle.history.specs.Setup.{Setup}
-use Rattle.history.specs.Eras.{is_protected}
-use Rattle.history.specs.Tokens.{Request, was_collected}
-use Rattle.history.specs.Marks.{mark_of, Holds}
-use Rattle.history.specs.Rules.{MayFollow}
-use Rattle.history_laws.proofs.TokenLemmas.{collect-concerns, request-same, collected-collect}
-use Rattle.history_laws.proofs.HolderLemmas.{holds-before, holds-stays, end-frees}
-use Rattle.history_laws.proofs.PlainLemmas.{mark-collect}
+use Rattle.history.specs.Setup.{Setup, IsSetup, size_of}
+use Rattle.history.specs.Tokens.{Request, accepted, request, was_collected}
+use Rattle.history.specs.Marks.{mark_of, ending}
+use Rattle.history.specs.Rules.{MayFollow, IsLegal}
+use Rattle.history.specs.Tasks.{pending}
+use Rattle.history.specs.Room.{owed_entries}
+use Rattle.history_laws.proofs.TokenLemmas.{collected-collect, collected-same, request-accepted}
+use Rattle.history_laws.proofs.PendingLemmas.{pending-collect}
 use Rattle.history_laws.proofs.SpareLemmas.{entries-collect}
-use Rattle.disk_core.specs.declared.record.Record.{Record}
-use Rattle.disk_core.specs.declared.record.Core.{Core}
-use Rattle.disk_core.specs.Bookkeeping.{HandsBack}
-use Rattle.disk_core.specs.Sound.{IsSound, Tracks, IsGate}
-use Rattle.disk_core.proofs.Followed.{meets-quiet, quiet-contents, collect-quiet}
-use Rattle.disk_core.proofs.Places.{get-set-other}
-use Rattle.disk_core.proofs.Stepped.{IsOwn, sound-after}
+use Rattle.token_table.specs.declared.record.Record.{Record}
+use Rattle.token_table.specs.declared.record.Done.{Done}
+use Rattle.token_table.specs.declared.record.NotThere.{NotThere}
+use Rattle.token_table.specs.Records.{Records, record_at, without_record, done_at, done_of, done_by, mark_at, mark_of_record, mark_of_end, AreShown}
+use Rattle.subtask_queue.specs.Subs.{sub_of}
+use Rattle.disk_core.specs.declared.parts.Core.{Core}
+use Rattle.disk_core.specs.State.{State, Kept, kept_at, setup_of}
+use Rattle.disk_core.specs.Facts.{IsBuffer, KeptFollow, AreFacts}
+use Rattle.disk_core.specs.Parts.{kept_from, kept_of, state_of}
+use Rattle.disk_core.specs.Inside.{IsSound, RecordsFollow, Tracks, HasRoom}
+use Rattle.disk_core.specs.Calls.{CollectSays, Collects, IsUnknown, MarkSays}
+use Rattle.disk_core.specs.Moves.{IsDisk, Reaches, HasPlace, entered, collected}
+use Rattle.disk_core.proofs.Following.{era-still}
+use Rattle.disk_core.proofs.Kept.{kept-record, kept-without, kept-cleared, kept-others, records-cleared, records-others}
+use Rattle.disk_core.proofs.Still.{IsStill, gates-still, holders-still, drive-still, ready-still, tracks-still, buffer-still, accepted-still, fetches-still}
 
-collect-own : (S : Setup) (H : List Entry) (tag t : ℕ) → IsOwn S H (Collect tag t) t
-unfolding is_protected
-collect-own S H tag t = record { other = λ u ne. collect-concerns H tag t u ne; no_accept = refl; no_eject = refl; no_insert = refl; no_protect = refl }
+still-collect : (S : Setup) (H : List Entry) (tag t : ℕ) → IsSetup S → IsLegal S H → MayFollow S H (Collect tag t) → IsStill S H (Collect tag t)
+unfolding IsLegal ending
+still-collect S H tag t setup legal may = record {
+  setup = setup;
+  legal = (legal, may);
+  may = may;
+  quiet = refl;
+  adds_none = refl;
+  stays_in = refl;
+  puts_none = refl;
+  keeps_protection = refl;
+  unending = λ u. refl;
+}
 
-may-collect : (S : Setup) (H : List Entry) (tag t : ℕ) (status : Status) → mark_of S H t ≡ Some status → was_collected H t ≡ false → MayFollow S H (Collect tag t)
-unfolding MayFollow
-may-collect S H tag t status marked uncollected = (ap is_some marked, uncollected)
+some-none : {X : Type 0} (m : Option X) (x : X) → m ≡ None → m ≡ Some x → ⊥
+some-none m x none some = clash (sym none ∙ some)
+  where
+    clash : None ≡ Some x → ⊥
+    clash e = cc
 
--- a handed back record
-tracks-collect : (S : Setup) (H : List Entry) (tag t : ℕ) (r r' : Record) (q : Request) (c c' : Core) (status : Status) → Tracks S H t r q → r.status ≡ Some status → HandsBack c c' tag t r r' → Tracks S (Collect tag t ∷ H) t r' q
-tracks-collect S H tag t r r' q c c' status tracks ended back = record {
-  named = request-same H (Collect tag t) t refl ∙ tracks.named;
-  of_kind = tracks.of_kind ∙ sym back.kind;
-  moving = rw back.kind tracks.moving;
-  from = back.from ∙ tracks.from;
-  units = rw back.units tracks.units;
-  within = tracks.within;
-  status = mark-collect S H tag t t ∙ (tracks.status ∙ sym back.status);
-  collected = collected-collect H tag t ∙ sym back.collected;
-  unfinished = λ open_. absurd (clash (sym ended ∙ (sym back.status ∙ open_)));
-  moved = λ open_. absurd (clash (sym ended ∙ (sym back.status ∙ open_)));
-  uncollected = λ open_. absurd (clash (sym ended ∙ (sym back.status ∙ open_)));
-  long = λ kept. absurd (true-false (sym back.collected ∙ kept));
-  bytes = λ kept. absurd (true-false (sym back.collected ∙ kept));
-  given = λ kept. absurd (true-false (sym back.collected ∙ kept));
-  emptied = λ _. back.emptied;
+other-collect : (H : List Entry) (tag t u : ℕ) → t ≢ u → was_collected (Collect tag t ∷ H) u ≡ was_collected H u
+other-collect H tag t u other = collected-same H (Collect tag t) u (ne_eqb t u other)
+
+collect-kept : (S : Setup) (H : List Entry) (tag t : ℕ) (kept : List (Option Kept)) → IsStill S H (Collect tag t) → KeptFollow S H kept → KeptFollow S (Collect tag t ∷ H) (slice_set kept t None)
+collect-kept S H tag t kept still follow = record {
+  counted = length-set kept t None ∙ follow.counted ∙ sym (accepted-still S H (Collect tag t) still);
+  there = there;
+  gone = gone;
 }
   where
-    clash : Some status ≡ None → ⊥
-    clash e = cc
+    apart : (u : ℕ) (k : Kept) → kept_at (slice_set kept t None) u ≡ Some k → t ≢ u
+    apart u k is same = some-none (kept_at (slice_set kept t None) u) k (subst (λ v. kept_at (slice_set kept t None) v ≡ None) same (kept-cleared kept t)) is
 
-    true-false : true ≡ false → ⊥
-    true-false e = cc
+    there : (u : ℕ) (k : Kept) → kept_at (slice_set kept t None) u ≡ Some k → (was_collected (Collect tag t ∷ H) u ≡ false) × ((q : Request) × IsBuffer S (Collect tag t ∷ H) u q k.buffer)
+    there u k is =
+        let other = apart u k is in
+        let old = follow.there u k (sym (kept-others kept t u other) ∙ is) in
+        (other-collect H tag t u other ∙ old.0, (old.1.0, buffer-still S H (Collect tag t) still u old.1.0 k.buffer old.1.1))
 
-collect-gate : (S : Setup) (d : Device) (prepared : ℕ → Type 0) (c c' : Core) (tag t : ℕ) (r r' : Record) (status : Status) → IsSound S d prepared c → slice_get c.records.items t ≡ Some r → mark_of S c.history.entries t ≡ Some status → HandsBack c c' tag t r r'
-    → IsGate S (Collect tag t ∷ c.history.entries) c'.records.items c.first c'.block.items c'.held
-collect-gate S d prepared c c' tag t r r' status sound was marked back =
-    let H = c.history.entries in
-    rw (back.records, back.block, back.held) (record {
-      only = λ u b holds. elim (holds-before S H (Collect tag t) u b sound.legal holds) [ inl before ↦ sound.gate.only u b before | inr now ↦ cc ];
-      holds = λ b held.
-          let holds : Holds S H c.first b = sound.gate.holds b held in
-          holds-stays S H (Collect tag t) c.first b (collect-concerns H tag t c.first (λ same. end-frees S H t b status marked (rw (sym same) at holds))) holds;
-      copy = λ b held. rw (quiet-contents S H (Collect tag t) (collect-quiet S H tag t)) (sound.gate.copy b held);
-      unit = λ b x u held is unit. elim (cases_eq t c.first) [
-        | inl same ↦ absurd (clash (sym marked ∙ (rw (sym same) at (sound.gate.holds b held).outstanding.unmarked)))
-        | inr other ↦ sound.gate.unit b x u held (sym (get-set-other c.records.items t c.first r' other) ∙ is) unit
-      ];
-    })
+    gone : (u : ℕ) → u < accepted (Collect tag t ∷ H) → kept_at (slice_set kept t None) u ≡ None → was_collected (Collect tag t ∷ H) u ≡ true
+    gone u lt none = elim (cases_eq t u) [
+      | inl same ↦ subst (λ v. was_collected (Collect tag t ∷ H) v ≡ true) same (collected-collect H tag t)
+      | inr other ↦ other-collect H tag t u other ∙ follow.gone u (subst (λ n. u < n) (accepted-still S H (Collect tag t) still) lt) (sym (kept-others kept t u other) ∙ none)
+    ]
+
+collect-records : (S : Setup) (H : List Entry) (tag t : ℕ) (records : Records) → IsStill S H (Collect tag t) → RecordsFollow S H records → RecordsFollow S (Collect tag t ∷ H) (without_record records t)
+collect-records S H tag t records still follow = record {
+  each = λ u r is. (let old = follow.each u r (before u r is) in (old.0, tracks-still S H (Collect tag t) still u r old.0 old.1));
+  shown = record { each = λ u r is. follow.shown.each u r (before u r is) };
+}
   where
-    clash : Some status ≡ None → ⊥
-    clash e = cc
+    before : (u : ℕ) (r : Record) → record_at (without_record records t) u ≡ Some r → record_at records u ≡ Some r
+    before u r is = elim (cases_eq t u) [
+      | inl same ↦ absurd (some-none (record_at (without_record records t) u) r (subst (λ v. record_at (without_record records t) v ≡ None) same (records-cleared records t)) is)
+      | inr other ↦ sym (records-others records t u other) ∙ is
+    ]
 
-pub collected-sound : (S : Setup) (d : Device) (prepared : ℕ → Type 0) (c c' : Core) (tag t : ℕ) (r r' : Record) (q : Request) (status : Status) → IsSound S d prepared c → slice_get c.records.items t ≡ Some r → Tracks S c.history.entries t r q
-    → r.status ≡ Some status → r.collected ≡ false → HandsBack c c' tag t r r' → IsSound S d prepared c'
-collected-sound S d prepared c c' tag t r r' q status sound was tracks ended kept back =
-    let H = c.history.entries in
-    let marked : mark_of S H t ≡ Some status = tracks.status ∙ ended in
-    let uncollected : was_collected H t ≡ false = tracks.collected ∙ kept in
-    sound-after S d d prepared prepared c c' (Collect tag t) t r r' q sound (λ b ready. ready) (record {
-      was = was;
-      entries = back.entries;
-      spare = back.spare;
-      records = back.records;
-      first = back.first;
-      block = rw back.block sound.block;
-      own = collect-own S H tag t;
-      may = may-collect S H tag t status marked uncollected;
-      meets = meets-quiet S H d (Collect tag t) (collect-quiet S H tag t) sound.meets;
-      tracks = tracks-collect S H tag t r r' q c c' status tracks ended back;
-      gate = collect-gate S d prepared c c' tag t r r' status sound was marked back;
-      more = 0;
-      pays = back.owed;
-      owed = omega (arith, entries-collect S H tag t sound.legal (may-collect S H tag t status marked uncollected));
-      becomes = record { units = rw back.units refl; kind = back.kind; unended = λ open_. sym back.status ∙ open_ };
-    })
+collect-room : (S : Setup) (c : Core) (tag t : ℕ) → IsLegal S c.history.entries → MayFollow S c.history.entries (Collect tag t) → HasRoom S c → HasRoom S (collected c tag t)
+unfolding collected entered
+collect-room S c tag t legal may room =
+    let less = entries-collect S c.history.entries tag t legal may in
+    let owed = room.owed in let places = room.places in let few = room.few in
+    record { owed = omega arith; places = omega arith; few = omega arith }
 
--- a disk with a request to hand back owes an entry
-pub collect-owes : (S : Setup) (d : Device) (prepared : ℕ → Type 0) (c : Core) (tag t : ℕ) (r : Record) (q : Request) (status : Status) → IsSound S d prepared c → slice_get c.records.items t ≡ Some r → Tracks S c.history.entries t r q → r.status ≡ Some status → r.collected ≡ false → 0 < c.owed
-collect-owes S d prepared c tag t r q status sound was tracks ended kept =
+pub collect-sound : {M : Type 0} (device : M → Device) (prepared : M → ℕ → Type 0) (drive : DriveState M) (c : Core) (tag t : ℕ) → IsDisk device prepared drive c
+    → MayFollow (setup_of device drive c.protected_at_first) c.history.entries (Collect tag t) → IsDisk device prepared drive (collected c tag t)
+unfolding state_of collected entered
+collect-sound device prepared drive c tag t sound may =
+    let S = setup_of device drive c.protected_at_first in
     let H = c.history.entries in
-    omega (arith, sound.room, entries-collect S H tag t sound.legal (may-collect S H tag t status (tracks.status ∙ ended) (tracks.collected ∙ kept)))
+    let e = Collect tag t in
+    let still = still-collect S H tag t sound.geometry sound.facts.legal may in
+    record {
+      setup = refl;
+      geometry = sound.geometry;
+      facts = record {
+        legal = still.legal;
+        media = λ i d is. era-still S H e (suc i) d refl (sound.facts.media i d is);
+        tokens = subst (KeptFollow S (e ∷ H)) (sym (kept-without c.tokens t)) (collect-kept S H tag t (kept_of c.tokens) still sound.facts.tokens);
+        gates = gates-still S H e still c.gates sound.facts.gates;
+      };
+      drive_follows = drive-still S H e still device drive sound.drive_follows;
+      records = collect-records S H tag t c.tokens still sound.records;
+      queue = sound.queue ∙ ap (map (sub_of (size_of S))) (sym (pending-collect S H tag t));
+      holders = holders-still S H e still c.gates c.holders.items (vec_capacity c.holders) sound.holders;
+      room = collect-room S c tag t sound.facts.legal may sound.room;
+      ready = λ m is. ready-still S H e still (prepared m) (sound.ready m is);
+      fitted = record {
+        blocks = sound.fitted.blocks;
+        accepts = sound.fitted.accepts ∙ sym (accepted-still S H e still);
+        fetches_are = sound.fitted.fetches_are ∙ sym (fetches-still S H e still);
+        group = sound.fitted.group;
+        zeros = sound.fitted.zeros;
+      };
+    }
+
+module _ {M : Type 0} (device : M → Device) (prepared : M → ℕ → Type 0) (drive : DriveState M) (c : Core) (tag n : ℕ) (sound : IsDisk device prepared drive c) where
+  record-may : (r : Record) (status : Status) → record_at c.tokens n ≡ Some r → r.ended ≡ Some status → MayFollow (setup_of device drive c.protected_at_first) c.history.entries (Collect tag n)
+  unfolding state_of MayFollow
+  record-may r status is ended =
+      let tracks = (sound.records.each n r is).1 in
+      (subst IsSome (sym (tracks.mark ∙ ended)) refl, (sound.facts.tokens.there n (kept_from r) (kept-record c.tokens n ∙ ap (option_map kept_from) is)).0)
+
+  may-place : MayFollow (setup_of device drive c.protected_at_first) c.history.entries (Collect tag n) → HasPlace c × (0 < c.owed)
+  unfolding state_of
+  may-place may =
+      let less = entries-collect (setup_of device drive c.protected_at_first) c.history.entries tag n sound.facts.legal may in
+      let owed = sound.room.owed in let places = sound.room.places in
+      (omega arith, omega arith)
+
+  pub collect-place : OnOk (done_at c.tokens n) (HasPlace c × (0 < c.owed))
+  unfolding done_at
+  collect-place = by (record_at c.tokens n) refl
+    where
+      ends : (r : Record) (s : Option Status) → record_at c.tokens n ≡ Some r → r.ended ≡ s → OnOk (done_by s r.request.buffer) (HasPlace c × (0 < c.owed))
+      ends r None is ended = tt
+      ends r (Some status) is ended = may-place (record-may r status is ended)
+
+      by : (m : Option Record) → record_at c.tokens n ≡ m → OnOk (done_of m) (HasPlace c × (0 < c.owed))
+      by None is = tt
+      by (Some r) is = ends r r.ended is refl
+
+  pub unknown-from : record_at c.tokens n ≡ None → IsUnknown (state_of device drive c) n
+  unfolding state_of
+  unknown-from is = elim (cases_lt n (accepted c.history.entries)) [
+    | inl lt ↦ inr (sound.facts.tokens.gone n lt (kept-record c.tokens n ∙ ap (option_map kept_from) is))
+    | inr le ↦ inl le
+  ]
+
+  mark-ended : (r : Record) (s : Option Status) → record_at c.tokens n ≡ Some r → r.ended ≡ s → MarkSays (state_of device drive c) n (mark_of_end s)
+  unfolding state_of MarkSays
+  mark-ended r None is ended = (let tracks = (sound.records.each n r is).1 in (request-accepted c.history.entries n (sound.records.each n r is).0 tracks.named, tracks.mark ∙ ended))
+  mark-ended r (Some status) is ended =
+      (let tracks = (sound.records.each n r is).1 in (tracks.mark ∙ ended, (sound.facts.tokens.there n (kept_from r) (kept-record c.tokens n ∙ ap (option_map kept_from) is)).0))
+
+  pub mark-says : MarkSays (state_of device drive c) n (mark_at c.tokens n)
+  unfolding MarkSays mark_at
+  mark-says = by (record_at c.tokens n) refl
+    where
+      by : (m : Option Record) → record_at c.tokens n ≡ m → MarkSays (state_of device drive c) n (mark_of_record m)
+      by None is = unknown-from is
+      by (Some r) is = mark-ended r r.ended is refl
+
+  collects : (r : Record) (status : Status) → record_at c.tokens n ≡ Some r → r.ended ≡ Some status
+      → CollectSays (state_of device drive c) tag n (Ok (record { status = status; buffer = r.request.buffer })) (state_of device drive (collected c tag n))
+  unfolding state_of CollectSays collected entered MayFollow IsLegal
+  collects r status is ended =
+      let tracks = (sound.records.each n r is).1 in
+      let there = kept-record c.tokens n ∙ ap (option_map kept_from) is in
+      let kept = sound.facts.tokens.there n (kept_from r) there in
+      let q = kept.1.0 in
+      let buffer = kept.1.1 in (
+        q,
+        kept_from r,
+        record {
+          named = buffer.named;
+          marked = tracks.mark ∙ ended;
+          uncollected = kept.0;
+          there = there;
+          handed_back = refl;
+          written = buffer.bytes;
+          read = buffer.given;
+          long = buffer.long;
+          new_is = ap (λ k. record {
+            setup = setup_of device drive c.protected_at_first;
+            entries = Collect tag n ∷ c.history.entries;
+            kept = k;
+            gates = c.gates;
+            devices = devices_of device drive;
+          }) (kept-without c.tokens n);
+          legal = (sound.facts.legal, record-may r status is ended);
+        },
+      )
+
+  abbrev pub Goal : Result Done NotThere → Type 0
+  Goal result = (c' : Core) → OnOk result (c' ≡ collected c tag n) → OnErr result (c' ≡ c) → Reaches device prepared drive c drive c' (λ s s'. CollectSays s tag n result s')
+
+  ends-reaches : (r : Record) (s : Option Status) → record_at c.tokens n ≡ Some r → r.ended ≡ s → Goal (done_by s r.request.buffer)
+  unfolding state_of CollectSays
+  ends-reaches r None is ended c' ok err =
+      let tracks = (sound.records.each n r is).1 in
+      subst (λ d. Reaches device prepared drive c drive d (λ s s'. CollectSays s tag n (Err NotThere.Outstanding) s')) (sym err) (record {
+        sound = sound;
+        says = (request-accepted c.history.entries n (sound.records.each n r is).0 tracks.named, tracks.mark ∙ ended, refl);
+      })
+  ends-reaches r (Some status) is ended c' ok err =
+      subst (λ d. Reaches device prepared drive c drive d (λ s s'. CollectSays s tag n (Ok (record { status = status; buffer = r.request.buffer })) s')) (sym ok) (record {
+        sound = collect-sound device prepared drive c tag n sound (record-may r status is ended);
+        says = collects r status is ended;
+      })
+
+  record-reaches : (m : Option Record) → record_at c.tokens n ≡ m → Goal (done_of m)
+  unfolding CollectSays
+  record-reaches None is c' ok err =
+      subst (λ d. Reaches device prepared drive c drive d (λ s s'. CollectSays s tag n (Err NotThere.Unknown) s')) (sym err) (record { sound = sound; says = (unknown-from is, refl) })
+  record-reaches (Some r) is c' ok err = ends-reaches r r.ended is refl c' ok err
+
+  pub collect-reaches : (result : Result Done NotThere) → result ≡ done_at c.tokens n → Goal result
+  unfolding done_at
+  collect-reaches result is = subst Goal (sym is) (record-reaches (record_at c.tokens n) refl)

@@ -1,254 +1,171 @@
--- How a command ends: what its end leaves, a failed command, and a done one of a write.
-use Rattle.std.proofs.Common.{◌≡◌, ℕ, ◌+◌, ◌^◌, ◌<◌, ◌≤◌, Bool, true, false, List, ◌∷◌, slice_get, set, length, Option, None, Some, Ok, Err, refl, sym, ◌∙◌, ap, arith, if◌then◌else◌, get_or, nat_eq}
-use Rattle.efi_status.specs.declared.Status.TheVariants.{Success}
-use Rattle.disk_split.specs.declared.span.Span.{Span}
-use Rattle.medium.specs.declared.block_failed.BlockFailed.{BlockFailed}
-use Rattle.medium.specs.Device.{Device, IsShaped, IsCommand, StayPrepared}
-use Rattle.history.specs.declared.entry.Kind.{Kind}
-use Rattle.history.specs.declared.entry.Kind.TheVariants.{Read, Write}
-use Rattle.history.specs.declared.entry.Command.{Command}
-use Rattle.history.specs.declared.entry.Command.TheVariants.{Fetch, Store, Put, Get, Wipe, Sync}
+-- A disk after an entry that ends tokens and makes no command.
+use Rattle.std.proofs.Common.{◌≡◌, ℕ, zero, suc, ◌+◌, ◌-◌, ◌<◌, ◌≤◌, inl, inr, Bool, true, false, ◌&&◌, List, ◌∷◌, length, map, slice_get, None, Some, is_some, refl, sym, ◌∙◌, ap, subst, arith}
+use Rattle.std.specs.Prelude.{vec_capacity, if◌then◌else◌}
+use Rattle.std.proofs.lemmas.Bool.{cases_eq, and_from, and_left, and_right}
+use Rattle.efi_status.specs.declared.Status.{Status}
+use Rattle.medium.specs.Device.{Device}
+use Rattle.drive.specs.Drives.{DriveState, medium_in}
 use Rattle.history.specs.declared.entry.Entry.{Entry}
 use Rattle.history.specs.declared.entry.Entry.TheVariants.{Done, Fault}
-use Rattle.history.specs.Setup.{Setup, IsSetup}
-use Rattle.history.specs.Tokens.{Request}
-use Rattle.history.specs.Contents.{contents}
-use Rattle.history.specs.Commands.{is_sync}
-use Rattle.history.specs.Marks.{mark_of}
-use Rattle.history.specs.Room.{owed_entries}
-use Rattle.history.specs.Rules.{IsLegal, MayFollow, MayCommand, StopsAt}
-use Rattle.history.specs.Next.{next_turn, Made, Failed}
-use Rattle.history_laws.proofs.RoomLemmas.{open-owed}
-use Rattle.history_laws.proofs.SpareLemmas.{owed-within, entries-done, entries-done-end, entries-fault}
-use Rattle.disk_core.specs.declared.answers.Step.TheVariants as step
-use Rattle.disk_core.specs.declared.record.Record.{Record}
-use Rattle.disk_core.specs.declared.record.Core.{Core}
-use Rattle.disk_core.specs.Bookkeeping.{finished_record, failed_record, end_paid}
-use Rattle.disk_core.specs.Sound.{IsSound, Tracks}
-use Rattle.disk_core.specs.Calls.{Fills, is_fetched}
-use Rattle.disk_core.specs.Submitting.{has_buffer}
-use Rattle.disk_core.specs.Stepping.{NextUnit, SameButBuffer, Stepped, buffers_of}
-use Rattle.disk_core.proofs.Facts.{next-of}
-use Rattle.disk_core.proofs.Followed.{meets-command, done-command, fault-command}
-use Rattle.disk_core.proofs.Gates.{NoneHeld, gate-none, none-after-fault}
-use Rattle.disk_core.proofs.May.{IsNext}
-use Rattle.disk_core.proofs.Places.{get-set-same}
-use Rattle.disk_core.proofs.Stepped.{done-own, fault-own}
-use Rattle.std.proofs.lemmas.Option.{get_or_from_slice_get, slice_get_read}
-use Rattle.disk_core.proofs.Tracked.{MovesUnit, Finishes, tracks-unit, tracks-fault}
-use Rattle.disk_core.proofs.Turned.{did, buffers-same}
+use Rattle.history.specs.Setup.{Setup}
+use Rattle.history.specs.Eras.{is_command}
+use Rattle.history.specs.Tokens.{Request, is_accept, accepted, request}
+use Rattle.history.specs.Marks.{mark_of, ending, status_if, is_outstanding, IsOutstanding, is_fetch_entry, fetches}
+use Rattle.history.specs.Rules.{IsLegal}
+use Rattle.history.specs.Tasks.{pending}
+use Rattle.history_laws.specs.Left.{ended_before, ended_by}
+use Rattle.history_laws.specs.Ranges.{AreToldWhole}
+use Rattle.history_laws.proofs.CountLemmas.{accepted-same, fetches-same}
+use Rattle.history_laws.proofs.TokenLemmas.{request-same}
+use Rattle.history_laws.proofs.EndLemmas.{mark-before}
+use Rattle.history_laws.proofs.NextLemmas.{outstanding-test, outstanding-from}
+use Rattle.block_gate.specs.Gates.{gate_of}
+use Rattle.disk_core.specs.declared.parts.Core.{Core}
+use Rattle.disk_core.specs.declared.ending.Meant.{Meant}
+use Rattle.disk_core.specs.State.{setup_of}
+use Rattle.disk_core.specs.Parts.{kept_of, state_of}
+use Rattle.disk_core.specs.Inside.{DriveFollows, AreReady}
+use Rattle.disk_core.specs.Moves.{IsDisk}
+use Rattle.disk_core.specs.Calls.{EndsBy, Revokes}
+use Rattle.disk_core.specs.Closing.{meant_in, GatesSoFar, RoomSoFar, IsClosing, IsToEnd, HaveEnded}
+use Rattle.disk_core.proofs.Following.{era-still}
+use Rattle.disk_core.proofs.Links.{StandsBeside, links-disk, disk-closed}
+use Rattle.disk_core.proofs.Begun.{IsEnding, begun, gates-begun, units-left}
+use Rattle.disk_core.proofs.Closed.{closed-all}
+use Rattle.disk_core.proofs.Failed.{beside-rest}
 
--- what the end of a command leaves of the disk, beside its medium, where so many entries more than its own are owed no longer
-pub record Ends (c c' : Core) (e : Entry) (r' : Record) (more : ℕ) : Type 0 where
-  pub entries : c'.history.entries ≡ e ∷ c.history.entries
-  pub spare : c'.history.spare + 1 ≡ c.history.spare
-  pub owed : c'.owed + (more + 1) ≡ c.owed
-  pub records : c'.records.items ≡ set c.records.items c.first r'
-  pub first : c'.first ≡ c.first
-  pub block : length c'.block.items ≡ length c.block.items
-  pub held : c'.held ≡ None
+clash : true ≡ false → ⊥
+clash e = cc
 
--- a device that a read leaves as it was, cached or not
-pub kept-same : (b : Bool) (kept now now' kept' : Option (List ℕ)) → (b ≡ false → kept ≡ now) → now' ≡ now → kept' ≡ kept → kept' ≡ (if b then kept else now')
-kept-same true kept now now' kept' uncached same is = is
-kept-same false kept now now' kept' uncached same is = is ∙ (uncached refl ∙ sym same)
+-- ---- how many tokens an entry ends
 
--- a record with the same bytes in its buffer
-pub tracks-same : (S : Setup) (H : List Entry) (t : ℕ) (r r' : Record) (q : Request) → SameButBuffer r r' → r'.buffer.items ≡ r.buffer.items → Tracks S H t r q → Tracks S H t r' q
-tracks-same S H t r r' q same bytes tracks = record {
-  named = tracks.named;
-  of_kind = tracks.of_kind ∙ sym same.kind;
-  moving = rw same.kind tracks.moving;
-  from = same.from ∙ tracks.from;
-  units = rw same.units tracks.units;
-  within = tracks.within;
-  status = tracks.status ∙ sym same.status;
-  collected = tracks.collected ∙ sym same.collected;
-  unfinished = rw (same.status, same.finished, same.units) tracks.unfinished;
-  moved = rw (same.status, same.finished, same.units) tracks.moved;
-  uncollected = rw (same.status, same.collected) tracks.uncollected;
-  long = rw (same.collected, bytes) tracks.long;
-  bytes = rw (same.collected, same.kind, bytes) tracks.bytes;
-  given = rw (same.collected, same.kind, bytes) tracks.given;
-  emptied = rw (same.collected, bytes) tracks.emptied;
-}
-
-pub read-write : Read ≡ Write → ⊥
-read-write e = cc
-
-pub same-finishes : (r r' : Record) → SameButBuffer r r' → Finishes r (finished_record r')
-same-finishes r r' same = record {
-  kind = same.kind;
-  from = same.from;
-  units = rw same.units refl;
-  finished = ap (λ n. n + 1) same.finished;
-  status = rw (same.finished, same.units, same.status) refl;
-  collected = same.collected;
-}
-
-pub may-done : (S : Setup) (H : List Entry) (t : ℕ) (command : Command) → MayCommand S H t command → MayFollow S H (Done t command)
-unfolding MayFollow
-may-done S H t command may = may
-
-pub may-fault : (S : Setup) (H : List Entry) (t : ℕ) (command : Command) (done : ℕ) → MayCommand S H t command → StopsAt S command done → MayFollow S H (Fault t command done)
-unfolding MayFollow
-may-fault S H t command done may stops = (may, stops)
-
-fills-failed : (S : Setup) (H : List Entry) (t : ℕ) (command : Command) (done : ℕ) (old new : List (List ℕ)) → new ≡ old → Fills S H t command (Failed done) old new
-fills-failed S H t (Fetch b) done old new same = same
-fills-failed S H t (Store b) done old new same = same
-fills-failed S H t (Put b n) done old new same = same
-fills-failed S H t (Get b n) done old new same = same
-fills-failed S H t (Wipe b n) done old new same = same
-fills-failed S H t Sync done old new same = same
-
-not-fetched : (command : Command) (done : ℕ) → is_fetched command (Failed done) ≡ false
-not-fetched (Fetch b) done = refl
-not-fetched (Store b) done = refl
-not-fetched (Put b n) done = refl
-not-fetched (Get b n) done = refl
-not-fetched (Wipe b n) done = refl
-not-fetched Sync done = refl
-
-pub made-failed : (done : ℕ) → Made ≡ Failed done → ⊥
-made-failed done e = cc
-
--- a command of the next unit failed
-pub faulted : (S : Setup) (d d' : Device) (prepared prepared' : ℕ → Type 0) (c c' : Core) (r r' : Record) (q : Request) (u : Span) (command : Command) (done : ℕ) (failure : BlockFailed)
-    → IsSound S d prepared c → StayPrepared prepared prepared' → IsNext S c.history.entries c.first r q u → slice_get c.records.items c.first ≡ Some r
-    → SameButBuffer r r' → r'.buffer.items ≡ r.buffer.items → IsCommand d (Err failure) d'
-    → MayCommand S c.history.entries c.first command → StopsAt S command done
-    → d'.now ≡ contents S 1 (Fault c.first command done ∷ c.history.entries) → d'.kept ≡ (if d.cached then d.kept else d'.now)
-    → next_turn S c.history.entries ≡ Some (record { token = c.first; command = command })
-    → Ends c c' (Fault c.first command done) (failed_record r') 1
-    → Stepped S d d' prepared' c c' step.Did
-faulted S d d' prepared prepared' c c' r r' q u command done failure sound stay is was same bytes made may stops now kept next ends =
-    let H = c.history.entries in
-    let tracks : Tracks S H c.first r q = is.tracks in
-    let few : length H + 1 < 2 ^ 63 = omega (arith, sound.few, ends.spare) in
-    let none : NoneHeld S (Fault c.first command done ∷ H) =
-    none-after-fault S H c.first command done sound.legal (λ t b holds. (sound.gate.only t b holds).0) (tracks.status ∙ is.unended) in
-    did S d d' prepared prepared' c c' (Fault c.first command done) r (failed_record r') q (record { token = c.first; command = command }) (Failed done) sound stay
-    (record {
-      was = was;
-      entries = ends.entries;
-      spare = ends.spare;
-      records = ends.records;
-      first = ends.first;
-      block = ends.block ∙ sound.block;
-      own = fault-own S H c.first command done;
-      may = may-fault S H c.first command done may stops;
-      meets = meets-command S H d d' (Fault c.first command done) 1 (Err failure) sound.meets made (fault-command c.first command done) refl few now kept;
-      tracks = tracks-fault S H c.first command done r' q (tracks-same S H c.first r r' q same bytes tracks) (same.status ∙ is.unended);
-      gate = gate-none S (Fault c.first command done ∷ H) c'.records.items c.first c'.block.items c'.held none ends.held;
-      more = 1;
-      pays = ends.owed;
-      owed = omega (arith, entries-fault S H c.first command done is.setup is.legal may);
-      becomes = record { units = rw same.units refl; kind = same.kind; unended = λ _. is.unended };
-    })
-    next refl
-    (fills-failed S H c.first command done (buffers_of c.records.items) (buffers_of c'.records.items) (buffers-same c.records.items c'.records.items c.first r (failed_record r') was ends.records bytes))
-    made.later (λ n failed. made.cause) (not-fetched command done)
-
--- a done command takes one entry, and two where it ends its token
-pub finish-owed : (S : Setup) (H : List Entry) (t : ℕ) (c : Command) (r : Record) → IsSetup S → IsLegal S H → MayCommand S H t c → mark_of S (Done t c ∷ H) t ≡ (finished_record r).status
-    → owed_entries S (Done t c ∷ H) + (end_paid r + 1) ≤ owed_entries S H
-finish-owed S H t c r setup legal may marked = by (nat_eq (r.finished + 1) (length r.units.items)) marked
+ended-rises : (S : Setup) (H : List Entry) (e : Entry) (n : ℕ) → ended_before S H e n ≤ ended_before S H e (suc n)
+unfolding ended_before
+ended-rises S H e n = by (is_outstanding S H n && is_some (ending S H e n))
   where
-    by : (last : Bool) → mark_of S (Done t c ∷ H) t ≡ (if last then Some Success else r.status) → owed_entries S (Done t c ∷ H) + ((if last then 1 else 0) + 1) ≤ owed_entries S H
-    by true ended = omega (arith, entries-done-end S H t c Success setup legal may ended)
-    by false _ = omega (arith, entries-done S H t c setup legal may)
+    by : (b : Bool) → ended_before S H e n ≤ (if b then ended_before S H e n + 1 else ended_before S H e n)
+    by true = omega arith
+    by false = omega arith
 
--- a store or a put of the next unit was done
-pub wrote : (S : Setup) (d d' : Device) (prepared prepared' : ℕ → Type 0) (c c' : Core) (r : Record) (q : Request) (u : Span) (command : Command)
-    → IsSound S d prepared c → StayPrepared prepared prepared' → IsNext S c.history.entries c.first r q u → slice_get c.records.items c.first ≡ Some r → r.kind ≡ Write
-    → IsCommand d (Ok tt) d' → is_sync command ≡ false → MovesUnit S q command u
-    → MayCommand S c.history.entries c.first command → NoneHeld S (Done c.first command ∷ c.history.entries)
-    → d'.now ≡ contents S 1 (Done c.first command ∷ c.history.entries) → d'.kept ≡ (if d.cached then d.kept else d'.now)
-    → ((old new : List (List ℕ)) → new ≡ old → Fills S c.history.entries c.first command Made old new) → is_fetched command Made ≡ false
-    → next_turn S c.history.entries ≡ Some (record { token = c.first; command = command })
-    → Ends c c' (Done c.first command) (finished_record r) (end_paid r)
-    → Stepped S d d' prepared' c c' step.Did
-wrote S d d' prepared prepared' c c' r q u command sound stay is was writes made unsynced moving may none now kept fills answer next ends =
-    let H = c.history.entries in
-    let tracks : Tracks S H c.first r q = is.tracks in
-    let few : length H + 1 < 2 ^ 63 = omega (arith, sound.few, ends.spare) in
-    let same : SameButBuffer r r = record { kind = refl; from = refl; units = refl; finished = refl; status = refl; collected = refl } in
-    let after : Tracks S (Done c.first command ∷ H) c.first (finished_record r) q =
-    tracks-unit S H c.first command r (finished_record r) q u tracks is.unended is.has moving (same-finishes r r same) refl (λ _. refl) (λ reads. absurd (read-write (sym reads ∙ writes))) in
-    did S d d' prepared prepared' c c' (Done c.first command) r (finished_record r) q (record { token = c.first; command = command }) Made sound stay
-    (record {
-      was = was;
-      entries = ends.entries;
-      spare = ends.spare;
-      records = ends.records;
-      first = ends.first;
-      block = ends.block ∙ sound.block;
-      own = done-own S H c.first command;
-      may = may-done S H c.first command may;
-      meets = meets-command S H d d' (Done c.first command) 0 (Ok tt) sound.meets made (done-command c.first command unsynced) refl few now kept;
-      tracks = after;
-      gate = gate-none S (Done c.first command ∷ H) c'.records.items c.first c'.block.items c'.held none ends.held;
-      more = end_paid r;
-      pays = ends.owed;
-      owed = finish-owed S H c.first command r is.setup is.legal may after.status;
-      becomes = record { units = refl; kind = refl; unended = λ _. is.unended };
-    })
-    next refl
-    (fills (buffers_of c.records.items) (buffers_of c'.records.items) (buffers-same c.records.items c'.records.items c.first r (finished_record r) was ends.records refl))
-    made.later (λ n failed. absurd (made-failed n failed)) answer
-
--- an open token's disk owes two entries and more
-pub owed-some : (S : Setup) (d : Device) (prepared : ℕ → Type 0) (c : Core) (r : Record) (q : Request) (u : Span) → IsSound S d prepared c → IsNext S c.history.entries c.first r q u → 2 ≤ c.owed
-owed-some S d prepared c r q u sound is =
-    omega (arith, sound.room, owed-within S c.history.entries c.first is.token, open-owed S c.history.entries c.first q is.tracks.named (is.tracks.status ∙ is.unended))
-
--- an element that was read from a list
-pub read-is : (records : List Record) (k : ℕ) (r x : Record) → slice_get records k ≡ Some r → x ≡ get_or records k x → x ≡ r
-read-is records k r x is at = at ∙ get_or_from_slice_get records k r x is
-
--- the record still has a unit to finish
-pub unit-left : (S : Setup) (H : List Entry) (records : List Record) (t : ℕ) (r r' x : Record) (q : Request) → Tracks S H t r q → r.status ≡ None → SameButBuffer r r' → slice_get records t ≡ Some r → slice_get (set records t r') t ≡ Some x → x.finished < length x.units.items
-unit-left S H records t r r' x q tracks open_ same was is =
-    let one : r' ≡ x = some-record r' x (sym (get-set-same records t r r' was) ∙ is) in
-    rw (sym one, same.finished, same.units) (tracks.unfinished open_)
+ended-least : (S : Setup) (H : List Entry) (e : Entry) (t n : ℕ) → t < n → (is_outstanding S H t && is_some (ending S H e t)) ≡ true → 1 ≤ ended_before S H e n
+unfolding ended_before
+ended-least S H e t zero below counts = absurd (omega arith)
+ended-least S H e t (suc n) below counts = elim (cases_eq t n) [
+  | inl same ↦ here same
+  | inr other ↦ (let rest = ended-least S H e t n (omega (arith, other)) counts in let more = ended-rises S H e n in omega arith)
+]
   where
-    some-record : (a b : Record) → Some a ≡ Some b → a ≡ b
-    some-record a b e = cc
+    here : t ≡ n → 1 ≤ ended_before S H e (suc n)
+    here same = rw (ap (λ m. is_outstanding S H m && is_some (ending S H e m)) (sym same) ∙ counts) (omega arith)
 
-pub next-owed : (S : Setup) (d : Device) (prepared : ℕ → Type 0) (c : Core) (r : Record) (u : Span) (kind : Kind) → IsShaped d → IsSound S d prepared c → NextUnit c u kind r → 2 ≤ c.owed
-next-owed S d prepared c r u kind shaped sound next =
-    let (q, is) = next-of S d prepared c r u kind shaped sound next in
-    owed-some S d prepared c r q u sound is
+-- an open token that the entry ends is counted
+pub ended-some : (S : Setup) (H : List Entry) (e : Entry) (t : ℕ) (status : Status) → IsOutstanding S H t → ending S H e t ≡ Some status → 1 ≤ ended_by S H e
+unfolding ended_by
+ended-some S H e t status open_now ends = ended-least S H e t (accepted H) open_now.token (and_from (is_outstanding S H t) (is_some (ending S H e t)) (outstanding-test S H t open_now) (ap is_some ends))
 
-pub next-left : (S : Setup) (d : Device) (prepared : ℕ → Type 0) (c : Core) (r x : Record) (u : Span) (kind : Kind) → IsShaped d → IsSound S d prepared c → NextUnit c u kind r → slice_get c.records.items c.first ≡ Some x → x.finished < length x.units.items
-next-left S d prepared c r x u kind shaped sound next there =
-    let (q, is) = next-of S d prepared c r u kind shaped sound next in
-    let one : r ≡ x = some-record r x (sym next.is ∙ there) in
-    rw (sym one) (is.tracks.unfinished is.unended)
+ended-nothing : (S : Setup) (H : List Entry) (e : Entry) (n : ℕ) → ((t : ℕ) → IsOutstanding S H t → ending S H e t ≡ None) → ended_before S H e n ≡ 0
+unfolding ended_before
+ended-nothing S H e zero none = refl
+ended-nothing S H e (suc n) none = rw (uncounted (is_outstanding S H n) refl) (ended-nothing S H e n none)
   where
-    some-record : (a b : Record) → Some a ≡ Some b → a ≡ b
-    some-record a b e = cc
+    uncounted : (b : Bool) → is_outstanding S H n ≡ b → (is_outstanding S H n && is_some (ending S H e n)) ≡ false
+    uncounted true is = and_right (is_outstanding S H n) (is_some (ending S H e n)) (ap is_some (none n (outstanding-from S H n is)))
+    uncounted false is = and_left (is_outstanding S H n) (is_some (ending S H e n)) is
 
--- a record that was read, with its unit that was read
-pub next-read : (S : Setup) (d : Device) (prepared : ℕ → Type 0) (c : Core) (kept : Record) (u : Span) (kind : Kind) → IsSound S d prepared c → c.first < length c.records.items
-    → ((r : Record) → slice_get c.records.items c.first ≡ Some r → r.status ≡ None) → kept ≡ get_or c.records.items c.first kept → u ≡ get_or kept.units.items kept.finished u → kept.kind ≡ kind
-    → (r : Record) × NextUnit c u kind r
-next-read S d prepared c kept u kind sound there unended at unit_at of_kind =
-    let is : slice_get c.records.items c.first ≡ Some kept = slice_get_read c.records.items (length c.records.items) c.first kept refl there at in
-    let (q, tracks) = sound.tracked c.first kept is in (
-      kept,
-      record {
-        is = is;
-        unended = unended kept is;
-        of_kind = of_kind;
-        unit = slice_get_read kept.units.items (length kept.units.items) kept.finished u refl (tracks.unfinished (unended kept is)) unit_at;
-      },
-    )
+pub ended-no : (S : Setup) (H : List Entry) (e : Entry) → ((t : ℕ) → IsOutstanding S H t → ending S H e t ≡ None) → ended_by S H e ≡ 0
+unfolding ended_by
+ended-no S H e none = ended-nothing S H e (accepted H) none
 
--- it has a buffer, so it is neither a flush nor an erase
-pub buffer-kind : (S : Setup) (d : Device) (prepared : ℕ → Type 0) (c : Core) (kept : Record) → IsSound S d prepared c → c.first < length c.records.items → kept ≡ get_or c.records.items c.first kept → has_buffer kept.kind ≡ true
-buffer-kind S d prepared c kept sound there at =
-    let is : slice_get c.records.items c.first ≡ Some kept = slice_get_read c.records.items (length c.records.items) c.first kept refl there at in
-    let (q, tracks) = sound.tracked c.first kept is in
-    tracks.moving
+-- ---- what no end touches, over such an entry
+
+no-fetch : (e : Entry) → is_command e ≡ false → is_fetch_entry e ≡ false
+no-fetch (Done t c) still = absurd (clash still)
+no-fetch (Fault t c done) still = absurd (clash still)
+no-fetch e still = refl
+
+pub ready-after : (S : Setup) (H : List Entry) (e : Entry) (ready : ℕ → Type 0) → is_accept e ≡ false → AreReady S H ready → AreReady S (e ∷ H) ready
+ready-after S H e ready adds_none are t b q open_now named changes low high =
+    are t b q (record { token = subst (λ n. t < n) (accepted-same H e adds_none) open_now.token; unmarked = mark-before S H e t open_now.unmarked }) (sym (request-same H e t adds_none) ∙ named) changes low high
+
+-- `c` has the entry more than `c₀`, whose links it has else
+pub record IsOneMore (e : Entry) (c₀ c : Core) : Type 0 where
+  pub entries : c.history.entries ≡ e ∷ c₀.history.entries
+  pub protected_at_first : c.protected_at_first ≡ c₀.protected_at_first
+  pub blocks : c.blocks ≡ c₀.blocks
+  pub accepted_same : c.accepted ≡ c₀.accepted
+  pub fetched : c.fetched ≡ c₀.fetched
+  pub tokens : c.tokens ≡ c₀.tokens
+  pub queue : c.queue ≡ c₀.queue
+  pub gates : c.gates ≡ c₀.gates
+  pub holders : c.holders ≡ c₀.holders
+  pub group : c.group ≡ c₀.group
+  pub zeros : c.zeros ≡ c₀.zeros
+
+module _ {M : Type 0} (device : M → Device) (prepared : M → ℕ → Type 0) (drive drive' : DriveState M) (c₀ c : Core) (e : Entry) (sound : IsDisk device prepared drive c₀) (more : IsOneMore e c₀ c) (quiet : is_command e ≡ false) where
+  abbrev pub Begin : Setup
+  Begin = setup_of device drive c₀.protected_at_first
+
+  abbrev pub Before : List Entry
+  Before = c₀.history.entries
+
+  module _ (is_ending : IsEnding Begin Before e) (same_setup : setup_of device drive' c₀.protected_at_first ≡ Begin) (media : drive'.media ≡ drive.media) (follows : DriveFollows device Begin (e ∷ Before) drive')
+      (ready : (m : M) → medium_in drive' ≡ Some m → medium_in drive ≡ Some m) where
+    pub beside-more : StandsBeside device prepared Begin (e ∷ Before) drive' c
+    unfolding state_of
+    beside-more = record {
+      setup = ap (setup_of device drive') more.protected_at_first ∙ same_setup;
+      media = λ i d there. era-still Begin Before e (suc i) d quiet (sound.facts.media i d (ap (λ ms. slice_get (map device ms) i) (sym media) ∙ there));
+      drive_follows = follows;
+      ready = λ m there. ready-after Begin Before e (prepared m) is_ending.adds_none (sound.ready m (ready m there));
+      fitted = record {
+        blocks = more.blocks ∙ sound.fitted.blocks;
+        accepts = more.accepted_same ∙ (sound.fitted.accepts ∙ (sym (accepted-same Before e is_ending.adds_none) ∙ ap accepted (sym more.entries)));
+        fetches_are = more.fetched ∙ (sound.fitted.fetches_are ∙ (sym (fetches-same Before e (no-fetch e quiet)) ∙ ap fetches (sym more.entries)));
+        group = ap (λ v. length v.items) more.group ∙ sound.fitted.group;
+        zeros = ap (λ v. v.items) more.zeros ∙ sound.fitted.zeros;
+      };
+    }
+
+    -- none of the tokens that it ends has ended in the parts
+    pub more-closing : (late : ℕ) → AreToldWhole Begin → RoomSoFar Begin (e ∷ Before) (mark_of Begin Before) late c → IsClosing Begin (e ∷ Before) (mark_of Begin Before) (pending Begin Before) late c
+    unfolding state_of
+    more-closing late whole room =
+        begun Begin Before e is_ending c₀ c late (disk-closed device prepared drive c₀ sound) more.entries more.tokens more.queue
+        (subst (λ g. GatesSoFar Begin (e ∷ Before) (mark_of Begin Before) g c.holders.items (vec_capacity c.holders)) (sym more.gates)
+        (subst (λ h. GatesSoFar Begin (e ∷ Before) (mark_of Begin Before) c₀.gates h.items (vec_capacity h)) (sym more.holders)
+        (gates-begun Begin Before e is_ending c₀.gates c₀.holders.items (vec_capacity c₀.holders) sound.geometry whole sound.facts.legal sound.facts.gates sound.holders)))
+        room
+
+    pub more-to-end : (meant : Meant) (status : Status) (late : ℕ) → AreToldWhole Begin → RoomSoFar Begin (e ∷ Before) (mark_of Begin Before) late c
+        → ((t : ℕ) (q : Request) → IsOutstanding Begin Before t → request Before t ≡ Some q → ending Begin Before e t ≡ status_if (meant_in meant q.view q.asked.kind) status) → IsToEnd meant status Begin Before e late c
+    unfolding state_of
+    more-to-end meant status late whole room means = record {
+      closing = more-closing late whole room;
+      means = means;
+      adds_none = is_ending.adds_none;
+      accepts = more.accepted_same ∙ sound.fitted.accepts;
+      lent = λ k g there. (sound.facts.gates.each k g (ap (λ s. gate_of s.held k) (sym more.gates) ∙ there)).1.lent;
+    }
+
+    -- the disk after the last end
+    pub record HasEnded (c' : Core) (count : ℕ) : Type 0 where
+      pub again : IsDisk device prepared drive' c'
+      pub says : EndsBy (state_of device drive c₀) e count (state_of device drive' c')
+
+    pub all-ended : (late : ℕ) (c' : Core) (count : ℕ) → late ≤ count → HaveEnded Begin Before e late c c' count → HasEnded c' count
+    unfolding state_of IsLegal
+    all-ended late c' count enough ended =
+        let closed = closed-all Begin (e ∷ Before) (pending Begin Before) (late - count) c' ended.closing (units-left Begin Before e is_ending) (let places = ended.closing.room.places in omega arith) in
+        let beside = beside-rest device prepared Begin (e ∷ Before) drive' c c' ended.rest beside-more in
+        record {
+          again = links-disk device prepared drive' c' Begin (e ∷ Before) closed beside;
+          says = record {
+            counted = ended.counted;
+            setup = beside.setup;
+            entries = closed.entries;
+            legal = subst (λ z. IsLegal z c'.history.entries) (sym beside.setup) (subst (IsLegal Begin) (sym closed.entries) closed.legal);
+            kept = ended.kept ∙ ap kept_of more.tokens;
+            devices = ap (map device) media;
+            gates = subst (λ g. Revokes g c'.gates) more.gates ended.revokes;
+          };
+        }

@@ -1,25 +1,76 @@
-pub mod Accepted
-pub mod Advanced
-pub mod Collected
-pub mod Costs
-pub mod Endings
-pub mod Facts
-pub mod Followed
+mod Aborting
+mod Accepted
+mod Admitted
+mod Asking
+mod Begun
+mod Buffered
+mod Chained
+mod Closed
+mod Collected
+mod Commanded
+mod Committed
+mod Composed
+mod Covers
+mod Driven
+mod Ejected
+mod Endings
+mod Failed
+mod Fetched
+mod Filled
+mod Finished
+mod Fitting
+mod Following
 pub mod Fresh
-pub mod Gates
-pub mod Given
-pub mod May
-pub mod GoingOn
-pub mod Got
-pub mod Kept
-pub mod NextTurn
-pub mod Patches
-pub mod Places
-pub mod Refusing
-pub mod Setups
-pub mod Stepped
-pub mod Submits
-pub mod Tracked
-pub mod Transfers
-pub mod Turned
-pub mod Wrote
+mod Gotten
+mod Granted
+mod Grouped
+mod HistoryAccepted
+mod Guarded
+mod Found
+mod Gated
+mod Getting
+mod Halted
+mod HistoryCopies
+mod HistoryHeld
+mod HistoryOwed
+mod HistoryStored
+mod HistoryUnits
+mod Holders
+mod Inserted
+mod Keeping
+mod Kept
+mod Late
+mod Lending
+mod Letting
+mod Links
+mod Lowered
+mod Nexts
+mod Made
+mod Opened
+mod Prepared
+mod Queued
+mod Moving
+mod Parted
+mod Ranged
+mod Refit
+mod Refusals
+mod Released
+mod Rested
+mod Revoked
+mod Setups
+mod Spans
+mod Staying
+mod Stepped
+mod Still
+mod Untouched
+mod Walked
+mod Walks
+mod Submitted
+mod Synced
+mod Unqueued
+mod Upcoming
+pub mod TurnLemmas
+pub mod AtOnceLemmas
+pub mod IdleLemmas
+mod Wrote
+mod GoingOn

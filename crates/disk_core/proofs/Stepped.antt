@@ -1,138 +1,233 @@
--- A disk stays sound over an entry of its first open token.
-use Rattle.std.proofs.Common.{◌≡◌, ◌≢◌, ℕ, suc, ◌+◌, ◌<◌, ◌≤◌, inl, inr, false, List, ◌∷◌, slice_get, set, length, None, Some, refl, sym, ◌∙◌, ap, arith}
-use Rattle.std.proofs.lemmas.Bool.{cases_eq}
-use Rattle.medium.specs.Device.{Device, StayPrepared}
+-- The disk after the command of the first unit, done or failed.
+use Rattle.std.proofs.Common.{◌≡◌, ◌≢◌, ℕ, zero, suc, ◌+◌, ◌-◌, ◌*◌, ◌^◌, ◌<◌, ◌≤◌, inl, inr, Bool, true, false, ◌&&◌, List, [], ◌∷◌, length, slice_get, Option, None, Some, refl, sym, ◌∙◌, ap, subst, arith, Result, Ok, Err}
+use Rattle.std.specs.Prelude.{nat_eq, vec_capacity}
+use Rattle.std.proofs.lemmas.Bool.{cases_eq, and_left, and_right}
+use Rattle.medium.specs.Device.{Device, IsShaped, IsCommand, IsSame}
+use Rattle.medium.specs.declared.block_failed.BlockFailed.{BlockFailed}
+use Rattle.drive.specs.Drives.{DriveState, medium_in, with_medium, devices_of}
+use Rattle.block_gate.specs.Gates.{Gates}
 use Rattle.history.specs.declared.entry.Command.{Command}
+use Rattle.history.specs.declared.entry.Command.TheVariants.{Fetch, Store, Put, Get, Wipe, Sync}
 use Rattle.history.specs.declared.entry.Entry.{Entry}
 use Rattle.history.specs.declared.entry.Entry.TheVariants.{Done, Fault}
-use Rattle.history.specs.Setup.{Setup, size_of}
-use Rattle.history.specs.Eras.{is_eject, is_insert, is_protected}
-use Rattle.history.specs.Tokens.{Request, is_accept, accepted}
-use Rattle.history.specs.Rules.{IsLegal, MayFollow}
-use Rattle.history.specs.Room.{owed_entries}
-use Rattle.history_laws.specs.Told.{concerns}
-use Rattle.history_laws.proofs.CountLemmas.{accepted-same, ejects-same, inserts-same}
-use Rattle.history_laws.proofs.TokenLemmas.{done-concerns, fault-concerns}
-use Rattle.disk_core.specs.declared.record.Record.{Record}
-use Rattle.disk_core.specs.declared.record.Core.{Core}
-use Rattle.disk_core.specs.State.{Meets}
-use Rattle.disk_core.specs.Sound.{IsSound, IsGate, IsPlain, AreReady, Tracks}
-use Rattle.disk_core.proofs.Tracked.{tracks-other}
-use Rattle.disk_core.proofs.Places.{get-set-same, get-set-other, length-set-here}
+use Rattle.history.specs.Setup.{Setup, IsSetup, size_of}
+use Rattle.history.specs.Eras.{media_id_of}
+use Rattle.history.specs.Tokens.{Request, accepted}
+use Rattle.history.specs.Commands.{is_fetch, is_store, is_at}
+use Rattle.history.specs.Marks.{mark_of, is_fetch_entry, fetches, HoldsBy}
+use Rattle.history.specs.Rules.{MayCommand, MayFollow, StopsAt, IsLegal}
+use Rattle.history.specs.Tasks.{Task, Todo}
+use Rattle.history.specs.Next.{Outcome, Made, Failed, entry_of}
+use Rattle.history_laws.specs.Gates.{is_store_at, is_store_of}
+use Rattle.history_laws.specs.Left.{task_bytes}
+use Rattle.history_laws.specs.Ranges.{AreToldWhole}
+use Rattle.history_laws.proofs.CountLemmas.{accepted-same, fetches-same}
+use Rattle.history_laws.proofs.TokenLemmas.{mark-other, done-concerns}
+use Rattle.token_table.specs.declared.record.Record.{Record}
+use Rattle.token_table.specs.Records.{record_at}
+use Rattle.subtask_queue.specs.declared.sub.Sub.{Sub}
+use Rattle.disk_core.specs.declared.answers.Step.TheVariants.{Did}
+use Rattle.disk_core.specs.declared.parts.Core.{Core}
+use Rattle.disk_core.specs.State.{State, setup_of}
+use Rattle.disk_core.specs.Commands.{OnMedium}
+use Rattle.disk_core.specs.Facts.{MeetsEra, KeptFollow, GatesFollow}
+use Rattle.disk_core.specs.Parts.{kept_of, state_of}
+use Rattle.disk_core.specs.Inside.{AreFitted, RecordsFollow, HoldersFollow}
+use Rattle.disk_core.specs.Calls.{StepSays, Makes, Fills, IsCommanded, Revokes, command_of, is_fetched}
+use Rattle.disk_core.specs.Moves.{IsDisk, IsFirst, Reaches, Fails, Finishes, entered}
+use Rattle.disk_core.proofs.Commanded.{outcome_of, entry_for}
+use Rattle.disk_core.proofs.Driven.{IsMakingEntry, Meets, device-in, setup-driven, media-driven, follows-driven, ready-driven, commanded-driven}
+use Rattle.disk_core.proofs.Failed.{failed-sound, failed-revokes}
+use Rattle.disk_core.proofs.HistoryHeld.{held-open}
+use Rattle.disk_core.proofs.HistoryUnits.{FinishesTask}
+use Rattle.disk_core.proofs.Links.{AreClosed, StandsBeside, links-disk}
+use Rattle.disk_core.proofs.Made.{MayFinish, HasClosed, StaysFitted, finishes-closed}
+use Rattle.disk_core.proofs.Untouched.{gates-stay, holders-stay}
+use Rattle.disk_core.proofs.Upcoming.{next-is, legal-in, whole-in, unit-token, unit-block}
+use Rattle.subtask_queue.specs.Subs.{token_of, block_of}
 
--- an entry of one token that changes neither medium nor number of tokens
-pub record IsOwn (S : Setup) (H : List Entry) (e : Entry) (t : ℕ) : Type 0 where
-  pub other : (u : ℕ) → t ≢ u → concerns H e u ≡ false
-  pub no_accept : is_accept e ≡ false
-  pub no_eject : is_eject e ≡ false
-  pub no_insert : is_insert e ≡ false
-  pub no_protect : is_protected S (e ∷ H) ≡ is_protected S H
+pub done-entry : (t : ℕ) (command : Command) → IsMakingEntry (Done t command)
+done-entry t command = record { adds_none = refl; stays_in = refl; puts_none = refl; keeps_protection = refl }
 
-pub done-own : (S : Setup) (H : List Entry) (t : ℕ) (c : Command) → IsOwn S H (Done t c) t
-unfolding is_protected
-done-own S H t c = record { other = λ u ne. done-concerns H t u c ne; no_accept = refl; no_eject = refl; no_insert = refl; no_protect = refl }
+pub fault-entry : (t : ℕ) (command : Command) (done : ℕ) → IsMakingEntry (Fault t command done)
+fault-entry t command done = record { adds_none = refl; stays_in = refl; puts_none = refl; keeps_protection = refl }
 
-pub fault-own : (S : Setup) (H : List Entry) (t : ℕ) (c : Command) (done : ℕ) → IsOwn S H (Fault t c done) t
-unfolding is_protected
-fault-own S H t c done = record { other = λ u ne. fault-concerns H t u c done ne; no_accept = refl; no_eject = refl; no_insert = refl; no_protect = refl }
+-- what the medium has to do for an entry
+pub record Follows (S : Setup) (H : List Entry) (e : Entry) (result : Result (Unit {0}) BlockFailed) (old new : Device) : Type 0 where
+  pub command : IsCommand old result new
+  pub era : MeetsEra S H (media_id_of H) old → MeetsEra S (e ∷ H) (media_id_of H) new
 
-pub plain-own : (S : Setup) (H : List Entry) (e : Entry) (t : ℕ) → IsOwn S H e t → IsPlain S H → IsPlain S (e ∷ H)
-plain-own S H e t own plain = record {
-  ejects = ejects-same H e own.no_eject ∙ plain.ejects;
-  inserts = inserts-same H e own.no_insert ∙ plain.inserts;
-  unprotected = own.no_protect ∙ plain.unprotected;
-}
+revokes-same : (s s' : Gates) → s' ≡ s → Revokes s s'
+revokes-same s s' same = subst (Revokes s) (sym same) (record { size = refl; kept = λ k g there. there; works = λ k. refl; count = refl; free = refl })
 
--- what the first open record is after the entry
-pub record Becomes (r r' : Record) : Type 0 where
-  pub units : r'.units.items ≡ r.units.items
-  pub kind : r'.kind ≡ r.kind
-  pub unended : r'.status ≡ None → r.status ≡ None
+failed-unfetched : (command : Command) (done : ℕ) → is_fetched command (Failed done) ≡ false
+failed-unfetched (Fetch b) done = refl
+failed-unfetched (Store b) done = refl
+failed-unfetched (Put b n) done = refl
+failed-unfetched (Get b n) done = refl
+failed-unfetched (Wipe b n) done = refl
+failed-unfetched Sync done = refl
 
--- what an entry of token t leaves, where so many entries more are owed no longer
-pub record LeavesDisk (S : Setup) (d d' : Device) (c c' : Core) (e : Entry) (t : ℕ) (r r' : Record) (q : Request) : Type 0 where
-  pub was : slice_get c.records.items t ≡ Some r
-  pub entries : c'.history.entries ≡ e ∷ c.history.entries
-  pub spare : c'.history.spare + 1 ≡ c.history.spare
-  pub records : c'.records.items ≡ set c.records.items t r'
-  pub first : c'.first ≡ c.first
-  pub block : length c'.block.items ≡ size_of S
-  pub own : IsOwn S c.history.entries e t
-  pub may : MayFollow S c.history.entries e
-  pub meets : Meets S (e ∷ c.history.entries) d'
-  pub tracks : Tracks S (e ∷ c.history.entries) t r' q
-  pub gate : IsGate S (e ∷ c.history.entries) c'.records.items c.first c'.block.items c'.held
-  pub more : ℕ
-  pub pays : c'.owed + (more + 1) ≡ c.owed
-  pub owed : owed_entries S (e ∷ c.history.entries) + (more + 1) ≤ owed_entries S c.history.entries
-  pub becomes : Becomes r r'
+made-unfetched : (command : Command) → is_fetch command ≡ false → is_fetched command Made ≡ false
+made-unfetched (Fetch b) other = cc
+made-unfetched (Store b) other = refl
+made-unfetched (Put b n) other = refl
+made-unfetched (Get b n) other = refl
+made-unfetched (Wipe b n) other = refl
+made-unfetched Sync other = refl
 
-legal-more : (S : Setup) (H : List Entry) (e : Entry) → IsLegal S H → MayFollow S H e → IsLegal S (e ∷ H)
-unfolding IsLegal
-legal-more S H e legal may = (legal, may)
+unstored : (b : ℕ) (command : Command) → is_store command ≡ false → (is_store_at b command ≡ false) × (is_at is_store b command ≡ false)
+unstored b (Fetch d) other = (refl, refl)
+unstored b (Store d) other = cc
+unstored b (Put d n) other = (refl, refl)
+unstored b (Get d n) other = (refl, refl)
+unstored b (Wipe d n) other = (refl, refl)
+unstored b Sync other = (refl, refl)
 
-tracked-after : (S : Setup) (H : List Entry) (e : Entry) (records : List Record) (t : ℕ) (r r' : Record) (q : Request) → IsOwn S H e t → slice_get records t ≡ Some r → Tracks S (e ∷ H) t r' q
-    → ((u : ℕ) (x : Record) → slice_get records u ≡ Some x → (p : Request) × Tracks S H u x p)
-    → (u : ℕ) (x : Record) → slice_get (set records t r') u ≡ Some x → (p : Request) × Tracks S (e ∷ H) u x p
-tracked-after S H e records t r r' q own was tracks each u x is =
-    elim (cases_eq t u) [
-      | inl same ↦
-          let here : slice_get (set records t r') t ≡ Some x = rw (sym same) at is in
-          let one : r' ≡ x = some-is r' x (sym (get-set-same records t r r' was) ∙ here) in
-          (q, rw (sym same, sym one) tracks)
-      | inr other ↦
-          let before : (p : Request) × Tracks S H u x p = each u x (sym (get-set-other records t u r' other) ∙ is) in
-          (before.0, tracks-other S H e u x before.0 (own.other u other) before.1)
-    ]
-  where
-    some-is : (a b : Record) → Some a ≡ Some b → a ≡ b
-    some-is a b e = cc
+module _ {M : Type 0} (device : M → Device) (prepared : M → ℕ → Type 0) (drive : DriveState M) (c : Core) (sound : IsDisk device prepared drive c) where
+  abbrev S : Setup
+  S = setup_of device drive c.protected_at_first
 
-ready-after : (S : Setup) (prepared prepared' : ℕ → Type 0) (records : List Record) (t : ℕ) (r r' : Record) → StayPrepared prepared prepared' → slice_get records t ≡ Some r → Becomes r r' → AreReady S records prepared → AreReady S (set records t r') prepared'
-ready-after S prepared prepared' records t r r' stay was becomes ready u k b x v is unended writes unit from until =
-    stay b (elim (cases_eq t u) [
-      | inl same ↦
-          let here : slice_get (set records t r') t ≡ Some x = rw (sym same) at is in
-          let one : r' ≡ x = some-is r' x (sym (get-set-same records t r r' was) ∙ here) in
-          ready t k b r v was (becomes.unended (ap (λ (y : Record). y.status) one ∙ unended)) (sym becomes.kind ∙ (ap (λ (y : Record). y.kind) one ∙ writes))
-          (ap (λ us. slice_get us k) (sym becomes.units) ∙ (ap (λ (y : Record). slice_get y.units.items k) one ∙ unit)) from until
-      | inr other ↦ ready u k b x v (sym (get-set-other records t u r' other) ∙ is) unended writes unit from until
-    ])
-  where
-    some-is : (a b : Record) → Some a ≡ Some b → a ≡ b
-    some-is a b e = cc
+  abbrev H : List Entry
+  H = c.history.entries
 
-prior-after : (records : List Record) (first t : ℕ) (r r' : Record) → slice_get records t ≡ Some r → Becomes r r' → ((u : ℕ) (x : Record) → u < first → slice_get records u ≡ Some x → x.status ≢ None)
-    → (u : ℕ) (x : Record) → u < first → slice_get (set records t r') u ≡ Some x → x.status ≢ None
-prior-after records first t r r' was becomes prior u x lt is unended =
-    elim (cases_eq t u) [
-      | inl same ↦
-          let here : slice_get (set records t r') t ≡ Some x = rw (sym same) at is in
-          let one : r' ≡ x = some-is r' x (sym (get-set-same records t r r' was) ∙ here) in
-          prior t r (rw (sym same) at lt) was (becomes.unended (ap (λ (y : Record). y.status) one ∙ unended))
-      | inr other ↦ prior u x lt (sym (get-set-other records t u r' other) ∙ is) unended
-    ]
-  where
-    some-is : (a b : Record) → Some a ≡ Some b → a ≡ b
-    some-is a b e = cc
+  module _ (drive' : DriveState M) (e : Entry) (result : Result (Unit {0}) BlockFailed) (on : OnMedium device prepared drive drive' (Follows S H e result)) where
+    meets-before : MeetsEra S H (media_id_of H) (device on.before)
+    unfolding state_of
+    meets-before = (let i = device-in device prepared S H drive on.before on.after on.was_in sound.drive_follows in subst (λ k. MeetsEra S H k (device on.before)) (omega arith) (sound.facts.media _ (device on.before) i))
 
--- the disk is sound after the entry
-pub sound-after : (S : Setup) (d d' : Device) (prepared prepared' : ℕ → Type 0) (c c' : Core) (e : Entry) (t : ℕ) (r r' : Record) (q : Request) → IsSound S d prepared c → StayPrepared prepared prepared' → LeavesDisk S d d' c c' e t r r' q → IsSound S d' prepared' c'
-sound-after S d d' prepared prepared' c c' e t r r' q sound stay leaves =
-    let H = c.history.entries in
-    let long : length (e ∷ H) ≡ suc (length H) = refl in
-    record {
-      legal = rw leaves.entries (legal-more S H e sound.legal leaves.may);
-      plain = rw leaves.entries (plain-own S H e t leaves.own sound.plain);
-      meets = rw leaves.entries leaves.meets;
-      count = rw (leaves.entries, leaves.records) (length-set-here c.records.items t r' ∙ (sound.count ∙ sym (accepted-same H e leaves.own.no_accept)));
-      tracked = rw (leaves.entries, leaves.records) (tracked-after S H e c.records.items t r r' q leaves.own leaves.was leaves.tracks sound.tracked);
-      prior = λ u x lt is. prior-after c.records.items c.first t r r' leaves.was leaves.becomes sound.prior u x (rw leaves.first at lt) (rw leaves.records at is);
-      bound = rw (leaves.first, leaves.records) (rw (length-set-here c.records.items t r') sound.bound);
-      block = leaves.block;
-      gate = rw (leaves.entries, leaves.first) leaves.gate;
-      ready = rw leaves.records (ready-after S prepared prepared' c.records.items t r r' stay leaves.was leaves.becomes sound.ready);
-      few = rw leaves.entries (omega (arith, sound.few, leaves.spare));
-      room = rw leaves.entries (omega (arith, sound.room, leaves.pays, leaves.owed));
-      places = omega (arith, sound.places, leaves.spare, leaves.pays);
-    }
+    -- what stands beside the ends of tokens follows the entry
+    pub beside-command : (c' : Core) → IsMakingEntry e → c'.protected_at_first ≡ c.protected_at_first → AreFitted S c' → StandsBeside device prepared S (e ∷ H) drive' c'
+    unfolding state_of
+    beside-command c' making at_first fitted = subst (λ d. StandsBeside device prepared S (e ∷ H) d c') (sym on.drive) (record {
+      setup = ap (setup_of device (with_medium drive on.after)) at_first ∙ setup-driven device prepared S H drive on.before on.after on.was_in sound.drive_follows c.protected_at_first on.does.command.same;
+      media = media-driven device prepared S H drive on.before on.after on.was_in sound.drive_follows sound.facts.media e (on.does.era meets-before);
+      drive_follows = follows-driven device prepared S H drive on.before on.after on.was_in sound.drive_follows e making on.does.command.same;
+      ready = ready-driven device prepared S H drive on.before on.after on.was_in sound.drive_follows e making on.stay (sound.ready on.before on.was_in);
+      fitted = fitted;
+    })
+
+    pub commanded-on : (c' : Core) → IsCommanded (state_of device drive c) (outcome_of result) (state_of device drive' c')
+    unfolding state_of
+    commanded-on c' =
+        commanded-driven device prepared S H drive on.before on.after on.was_in sound.drive_follows (state_of device drive c) (state_of device drive' c') result refl refl (ap (devices_of device) on.drive) on.does.command
+
+  -- another group's buffer
+  pub group-sound : (mid : Core) → length mid.group.items ≡ length c.group.items → IsDisk device prepared drive (record c { group = mid.group })
+  unfolding state_of
+  group-sound mid long = record {
+    setup = refl;
+    geometry = sound.geometry;
+    facts = record { legal = sound.facts.legal; media = sound.facts.media; tokens = sound.facts.tokens; gates = sound.facts.gates };
+    drive_follows = sound.drive_follows;
+    records = sound.records;
+    queue = sound.queue;
+    holders = sound.holders;
+    room = record { owed = sound.room.owed; places = sound.room.places; few = sound.room.few };
+    ready = sound.ready;
+    fitted = record { blocks = sound.fitted.blocks; accepts = sound.fitted.accepts; fetches_are = sound.fitted.fetches_are; group = long ∙ sound.fitted.group; zeros = sound.fitted.zeros };
+  }
+
+  -- a failed command; by now so many fetches are counted
+  pub did-failed : (shaped : (m : M) → IsShaped (device m)) (unit : Sub) (todo : Todo) (first : IsFirst device drive c unit todo) (command : Command) (fault : BlockFailed) (drive' : DriveState M) (mid c' : Core) (n : ℕ)
+      → command_of (state_of device drive c) todo ≡ command → StopsAt S command fault.done → length mid.group.items ≡ length c.group.items → n ≡ fetches (Fault todo.token command fault.done ∷ H)
+      → OnMedium device prepared drive drive' (Follows S H (Fault todo.token command fault.done) (Err fault)) → Fails (record c { fetched = n; group = mid.group }) c' todo.token command fault.done
+      → Reaches device prepared drive c drive' c' (λ s s'. StepSays s Did s')
+  unfolding state_of StepSays entered MayFollow
+  did-failed shaped unit todo first command fault drive' mid c' n named stops long counted on fails =
+      let t = todo.token in
+      let e = Fault t command fault.done in
+      let next = next-is device prepared drive c sound unit todo first in
+      let may : MayCommand S H t command = subst (MayCommand S H t) named next.1.may in
+      let f = sound.fitted in
+      let beside = beside-command drive' e (Err fault) on (entered (record c { fetched = n; group = mid.group }) e 0) (fault-entry t command fault.done) refl
+      (record { blocks = f.blocks; accepts = f.accepts ∙ sym (accepted-same H e refl); fetches_are = counted; group = long ∙ f.group; zeros = f.zeros }) in
+      let failed = failed-sound device prepared drive drive' (record c { group = mid.group }) c' t command fault.done n (whole-in device prepared drive c sound shaped) (group-sound mid long) (may, stops) beside fails in
+      let makes = failed.makes (commanded-on drive' e (Err fault) on c') in
+      record {
+        sound = failed.sound;
+        says = (
+          todo,
+          Failed fault.done,
+          record {
+            makes = record { first = first.first; makes = subst (λ v. Makes (state_of device drive c) t v (Failed fault.done) (state_of device drive' c')) (sym named) makes };
+            unfetched = ap (λ v. is_fetched v (Failed fault.done)) named ∙ failed-unfetched command fault.done;
+            gates = failed-revokes device prepared drive (record c { group = mid.group }) c' t command fault.done n (group-sound mid long) fails;
+          },
+        );
+      }
+
+  -- no holder of a group ends by a done command that stores none
+  holders-on : (t : ℕ) (command : Command) → IsLegal S H → IsLegal S (Done t command ∷ H) → is_store command ≡ false → (u b k : ℕ) → HoldsBy S H u b k → (is_store_of u b (Done t command) ≡ false) × (mark_of S (Done t command ∷ H) u ≡ None)
+  holders-on t command legal now other u b k holds =
+      let un = unstored b command other in (
+        and_right (nat_eq t u) (is_store_at b command) un.0,
+        elim (cases_eq t u) [
+          | inr apart ↦ mark-other S H (Done t command) u (done-concerns H t u command apart) ∙ holds.holds.outstanding.unmarked
+          | inl same ↦ subst (λ v. HoldsBy S H v b k → mark_of S (Done t command ∷ H) v ≡ None) same (λ own. held-open S H t command b sound.geometry legal now un.1 own.holds) holds
+        ],
+      )
+
+  -- a done command that finished its unit, over the same gates; a get has filled its buffer by then
+  pub did-done : (shaped : (m : M) → IsShaped (device m)) (unit : Sub) (todo : Todo) (first : IsFirst device drive c unit todo) (command : Command) (r : Request) (drive' : DriveState M) (mid : Core) (c' : Core)
+      → command_of (state_of device drive c) todo ≡ command → is_fetch command ≡ false → is_store command ≡ false → length mid.group.items ≡ length c.group.items
+      → FinishesTask S H todo.token command r todo.task → RecordsFollow S H mid.tokens → (own : Record) × (record_at mid.tokens todo.token ≡ Some own) → KeptFollow S (Done todo.token command ∷ H) (kept_of mid.tokens)
+      → Fills S H todo.token command Made (kept_of c.tokens) (kept_of mid.tokens)
+      → OnMedium device prepared drive drive' (Follows S H (Done todo.token command) (Ok _)) → Finishes (record c { tokens = mid.tokens; group = mid.group }) c' unit command (task_bytes todo.task)
+      → Reaches device prepared drive c drive' c' (λ s s'. StepSays s Did s')
+  unfolding state_of StepSays IsLegal MayFollow
+  did-done shaped unit todo first command r drive' mid c' named unfetched other long finishes records recorded kept fills on done =
+      let t = todo.token in
+      let e = Done t command in
+      let next = next-is device prepared drive c sound unit todo first in
+      let may : MayCommand S H t command = subst (MayCommand S H t) named next.1.may in
+      let legal = legal-in device prepared drive c sound in
+      let now : IsLegal S (e ∷ H) = (legal, may) in
+      let told = whole-in device prepared drive c sound shaped in
+      let on_go = holders-on t command legal now other in
+      let before = record c { tokens = mid.tokens; group = mid.group } in
+      let can : MayFinish S t command r todo.task before = record {
+        geometry = sound.geometry;
+        before = legal;
+        may = may;
+        finishes = finishes;
+        recorded = recorded;
+        records = records;
+        queue = sound.queue;
+        room = record { owed = sound.room.owed; places = sound.room.places; few = sound.room.few };
+        tokens = kept;
+        gates = gates-stay S H e sound.geometry told legal may refl unfetched c.gates sound.holders.apart on_go sound.facts.gates;
+        holders = holders-stay S H e sound.geometry told legal may refl unfetched c.gates c.holders.items (vec_capacity c.holders) on_go sound.holders;
+      } in
+      let closed = finishes-closed S t command r todo.task before can unit c' (unit-token device prepared drive c sound unit todo first) (unit-block device prepared drive c sound unit todo first) done in
+      let f = sound.fitted in
+      let fitted : AreFitted S c' = record {
+        blocks = closed.rest.blocks ∙ f.blocks;
+        accepts = closed.rest.accepted ∙ f.accepts ∙ sym (ap accepted closed.closed.entries ∙ accepted-same H e refl);
+        fetches_are = closed.rest.fetched ∙ f.fetches_are ∙ sym (ap fetches closed.closed.entries ∙ fetches-same H e unfetched);
+        group = ap (λ v. length v.items) closed.rest.group ∙ long ∙ f.group;
+        zeros = ap (λ v. v.items) closed.rest.zeros ∙ f.zeros;
+      } in
+      let beside = beside-command drive' e (Ok _) on c' (done-entry t command) closed.rest.protected_at_first fitted in
+      let sound' = links-disk device prepared drive' c' S (e ∷ H) closed.closed beside in
+      record {
+        sound = sound';
+        says = (
+          todo,
+          Made,
+          record {
+            makes = record {
+              first = first.first;
+              makes = subst (λ v. Makes (state_of device drive c) t v Made (state_of device drive' c')) (sym named) (record {
+                setup = beside.setup;
+                entries = closed.closed.entries;
+                legal = sound'.facts.legal;
+                fills = subst (Fills S H t command Made (kept_of c.tokens)) (sym closed.tokens) fills;
+                device = commanded-on drive' e (Ok _) on c';
+              });
+            };
+            unfetched = ap (λ v. is_fetched v Made) named ∙ made-unfetched command unfetched;
+            gates = revokes-same c.gates c'.gates closed.gates;
+          },
+        );
+      }

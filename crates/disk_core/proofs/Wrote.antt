@@ -1,205 +1,214 @@
--- The next unit of a write is fetched, stored or put, or its command fails.
-use Rattle.std.proofs.Common.{◌≡◌, ℕ, ◌+◌, ◌-◌, ◌*◌, ◌^◌, ◌<◌, true, false, List, ◌∷◌, take, drop, length, None, Some, Ok, Err, refl, sym, ◌∙◌, ap, arith, length-take}
-use Rattle.std.proofs.Math.Nat.{lt_of_mul-lt-mul_right}
-use Rattle.disk_split.specs.declared.span.Span.{Span}
+-- The group of a part is written, done or failed, and the store entered.
+use Rattle.std.proofs.Common.{◌≡◌, ℕ, ◌+◌, ◌-◌, ◌*◌, ◌/◌, ◌<◌, ◌≤◌, true, List, ◌∷◌, length, Some, refl, sym, ◌∙◌, ap, subst, arith, IsSome, Result, Ok, Err, IfErr}
+use Rattle.std.specs.Prelude.{is_some, count_by, IfSome}
+use Rattle.std.proofs.Math.Nat.{lt_of_mul-lt-mul_right, mul_comm, add-mul, one-mul}
+use Rattle.std.specs.Option.{option_map}
+use Rattle.disk_split.proofs.Rounding.{group-some, group-most}
+use Rattle.disk_core.proofs.Prepared.{medium-place}
+use Rattle.disk_core.proofs.Setups.{all-at}
+use Rattle.token_table.specs.declared.record.Mark.{Mark}
+use Rattle.std.proofs.lemmas.Nat.{mul-le, le-div, div_below}
+use Rattle.medium.specs.Device.{Device, IsShaped, IsTransfer, IsWrite, AreToldAt, patch_told, written}
 use Rattle.medium.specs.declared.block_failed.BlockFailed.{BlockFailed}
-use Rattle.medium.specs.Device.{Device, IsShaped, IsRead, IsWrite, StayPrepared, AreToldAt, patch_told}
-use Rattle.history.specs.declared.entry.Kind.TheVariants.{Write}
-use Rattle.history.specs.declared.entry.Command.{Command}
-use Rattle.history.specs.declared.entry.Command.TheVariants.{Fetch, Store, Put}
+use Rattle.drive.specs.Drives.{DriveState, medium_in}
+use Rattle.disk_split.specs.declared.span.Span.{Span}
+use Rattle.disk_split.specs.Units.{group_size}
+use Rattle.block_gate.specs.Gates.{Gate, Gates, gate_of}
+use Rattle.history.specs.declared.entry.Command.TheVariants.{Store}
 use Rattle.history.specs.declared.entry.Entry.{Entry}
-use Rattle.history.specs.declared.entry.Entry.TheVariants.{Done, Fault}
-use Rattle.history.specs.Setup.{Setup}
+use Rattle.history.specs.Setup.{Setup, size_of, per_of, blocks_of}
 use Rattle.history.specs.Eras.{media_id_of}
-use Rattle.history.specs.Tokens.{Request, request}
-use Rattle.history.specs.Commands.{is_change}
+use Rattle.history.specs.Tokens.{Request, changes_bytes, from_of, until_of}
 use Rattle.history.specs.Contents.{contents, bytes_between}
-use Rattle.history.specs.Marks.{Holds}
-use Rattle.history.specs.Next.{Made}
-use Rattle.history_laws.proofs.ContentLemmas.{contents-same, piece-unchanged, piece-unchanged-fault}
-use Rattle.history_laws.proofs.PieceLemmas.{done-contents, fault-contents, fault-contents-none}
-use Rattle.history_laws.proofs.SpareLemmas.{entries-done}
-use Rattle.disk_core.specs.declared.answers.Step.TheVariants as step
-use Rattle.disk_core.specs.declared.record.Record.{Record}
-use Rattle.disk_core.specs.declared.record.Core.{Core}
-use Rattle.disk_core.specs.Moving.{WritesTo}
-use Rattle.disk_core.specs.Bookkeeping.{finished_record, failed_record, end_paid}
-use Rattle.disk_core.specs.Sound.{IsSound, IsPlain, Tracks, IsGate}
-use Rattle.disk_core.specs.Stepping.{NextUnit, UnitLies, SameButBuffer, Stepped, buffers_of}
-use Rattle.disk_core.proofs.Endings.{Ends, kept-same, faulted, wrote, may-done, made-failed}
-use Rattle.disk_core.proofs.Facts.{next-of, unit-facts}
-use Rattle.disk_core.proofs.Followed.{meets-command, done-command, told-patched}
-use Rattle.disk_core.proofs.Gates.{NoneHeld, none-held, gate-fetch, none-after, none-after-store}
-use Rattle.disk_core.proofs.May.{IsNext, may-fetch, may-store, may-put, moves-put, moves-store}
-use Rattle.disk_core.proofs.Places.{set-itself}
-use Rattle.disk_core.proofs.Setups.{size-of}
-use Rattle.disk_core.proofs.Stepped.{LeavesDisk, done-own, sound-after}
-use Rattle.disk_core.proofs.Tracked.{MovesUnit, tracks-fetch}
-use Rattle.disk_core.proofs.Turned.{moves-by, turn-fetch, turn-store, turn-put}
+use Rattle.history.specs.Marks.{IsOutstanding}
+use Rattle.history.specs.Rules.{HasPart, MayCommand, IsLegal}
+use Rattle.history.specs.Tasks.{Moves}
+use Rattle.history_laws.specs.Units.{IsUnitCommand}
+use Rattle.history_laws.specs.Left.{task_bytes}
+use Rattle.history_laws.specs.Ranges.{AreToldWhole}
+use Rattle.history_laws.proofs.RangeLemmas.{contents-long}
+use Rattle.history_laws.proofs.UnitLemmas.{part-unit-at}
+use Rattle.token_table.specs.declared.record.Record.{Record}
+use Rattle.token_table.specs.Records.{request_at, mark_at}
+use Rattle.subtask_queue.specs.Subs.{is_of}
+use Rattle.disk_core.specs.declared.parts.Core.{Core}
+use Rattle.disk_core.specs.declared.storing.Part.{Part}
+use Rattle.disk_core.specs.State.{setup_of}
+use Rattle.disk_core.specs.Parts.{state_of}
+use Rattle.disk_core.specs.Calls.{expected_of}
+use Rattle.disk_core.specs.Moves.{HasPlace}
+use Rattle.disk_core.specs.Storage.{IsStoring}
+use Rattle.disk_core.proofs.Admitted.{blocks-of}
+use Rattle.disk_core.proofs.Commanded.{entry_for, write-era}
+use Rattle.disk_core.proofs.Composed.{part-record, holder-is, part-in-record}
+use Rattle.disk_core.proofs.HistoryHeld.{part_of_range, part-listed, part-unmoved}
+use Rattle.disk_core.proofs.HistoryStored.{stored-done, stored-failed}
+use Rattle.disk_core.proofs.HistoryUnits.{FinishesTask, unit-finishes}
+use Rattle.disk_core.proofs.Opened.{IsOpenRecord, IsHolderOf}
+use Rattle.disk_core.proofs.Parted.{part-there, group-there, medium-there}
+use Rattle.disk_core.proofs.Released.{same-but}
+use Rattle.disk_core.proofs.Stepped.{Follows}
+use Rattle.disk_core.proofs.Upcoming.{may-fail, may-lower, whole-in}
 
--- the bytes of the unit
-abbrev pub unit_bytes : Record → Span → List ℕ
-unit_bytes r u = take (u.high - u.low) (drop (u.low - r.from) r.buffer.items)
+module _ {M : Type 0} (device : M → Device) (prepared : M → ℕ → Type 0) (drive : DriveState M) (shaped : (m : M) → IsShaped (device m)) (c : Core) (before : Gates) (part : Part) (g : Gate) (q : Request) (is : IsStoring device prepared drive c before part g q) where
+  abbrev S : Setup
+  S = setup_of device drive c.protected_at_first
 
-unit-bytes-are : (S : Setup) (H : List Entry) (t : ℕ) (r : Record) (q : Request) (u : Span) → Tracks S H t r q → r.status ≡ None → r.kind ≡ Write → unit_bytes r u ≡ bytes_between S q u.low u.high
-unit-bytes-are S H t r q u tracks open_ writes = rw (tracks.from, tracks.bytes (tracks.uncollected open_) writes, tracks.of_kind, writes) refl
+  abbrev H : List Entry
+  H = c.history.entries
 
-in-one : (S : Setup) (H : List Entry) → IsPlain S H → media_id_of H ≡ 1
-in-one S H plain = ap (λ n. n + 1) plain.inserts
+  abbrev base : Core
+  base = record c { gates = before }
 
--- what a done command of the unit leaves on the medium
-done-told : (S : Setup) (H : List Entry) (t : ℕ) (c : Command) (q : Request) (u : Span) → IsPlain S H → request H t ≡ Some q → MovesUnit S q c u → is_change c ≡ true
-    → contents S 1 (Done t c ∷ H) ≡ patch_told (contents S 1 H) u.low (bytes_between S q u.low u.high)
-done-told S H t c q u plain named moving change = done-contents S 1 H t c q u (in-one S H plain) named moving.of change ∙ told-patched (contents S 1 H) u.low (bytes_between S q u.low u.high)
+  abbrev u : Span
+  u = part_of_range S q g.block
 
--- a run is written where nothing is held
-put-free : (S : Setup) (H : List Entry) (c : Core) (r : Record) (u : Span) → IsGate S H c.records.items c.first c.block.items c.held → NextUnit c u Write r → u.whole ≡ true → NoneHeld S H
-put-free S H c r u gate next whole t b holds =
-    clash (sym whole ∙ (gate.unit b r u (gate.only t b holds).1 next.is next.unit).1)
-  where
-    clash : true ≡ false → ⊥
-    clash e = cc
+  pub lawful : IsLegal S H
+  unfolding state_of
+  lawful = is.sound.facts.legal
 
-same-record : (r : Record) → SameButBuffer r r
-same-record r = record { kind = refl; from = refl; units = refl; finished = refl; status = refl; collected = refl }
+  pub opened : (r : Record) × IsOpenRecord S H base part.token r q
+  opened = part-record device prepared drive base is.sound shaped part g q is.held
 
-pub put-done : (S : Setup) (d d' : Device) (prepared prepared' : ℕ → Type 0) (c c' : Core) (r : Record) (u : Span) → IsShaped d → IsSound S d prepared c → StayPrepared prepared prepared'
-    → NextUnit c u Write r → u.whole ≡ true → IsWrite d u.block (unit_bytes r u) (Ok tt) d' → Ends c c' (Done c.first (Put u.block u.count)) (finished_record r) (end_paid r)
-    → Stepped S d d' prepared' c c' step.Did
-put-done S d d' prepared prepared' c c' r u shaped sound stay next whole write ends = by (next-of S d prepared c r u Write shaped sound next)
-  where
-    by : (q : Request) × IsNext S c.history.entries c.first r q u → Stepped S d d' prepared' c c' step.Did
-    by (q, is) =
-        let H = c.history.entries in
-        let lies : UnitLies d r (length c.block.items) u = unit-facts S d prepared c r q u shaped sound is in
-        let bytes : unit_bytes r u ≡ bytes_between S q u.low u.high = unit-bytes-are S H c.first r q u is.tracks is.unended next.of_kind in
-        let low : u.block * d.size ≡ u.low = sym (lies.whole_low whole) in
-        let free : NoneHeld S H = put-free S H c r u sound.gate next whole in
-        wrote S d d' prepared prepared' c c' r q u (Put u.block u.count) sound stay is next.is next.of_kind write.command refl (moves-put S H c.first r q u is next.of_kind whole)
-        (may-put S H c.first r q u is free next.of_kind whole) (none-after S H c.first (Put u.block u.count) sound.legal free refl)
-        (write.now ∙ (rw (low, bytes, sound.meets.now) (sym (done-told S H c.first (Put u.block u.count) q u sound.plain is.tracks.named (moves-put S H c.first r q u is next.of_kind whole) refl))))
-        write.kept
-        (λ old new same. same) refl (turn-put S d prepared c r q u sound is next.of_kind whole) ends
+  holder : IsHolderOf device prepared drive base is.sound part.ticket g part.token q opened.0
+  holder = holder-is device prepared drive base is.sound shaped part g q is.held opened.0 opened.1
 
-pub put-not : (S : Setup) (d d' : Device) (prepared prepared' : ℕ → Type 0) (c c' : Core) (r : Record) (u : Span) (failure : BlockFailed) → IsShaped d → IsSound S d prepared c → StayPrepared prepared prepared'
-    → NextUnit c u Write r → u.whole ≡ true → IsWrite d u.block (unit_bytes r u) (Err failure) d' → Ends c c' (Fault c.first (Put u.block u.count) failure.done) (failed_record r) 1
-    → Stepped S d d' prepared' c c' step.Did
-put-not S d d' prepared prepared' c c' r u failure shaped sound stay next whole write ends = by (next-of S d prepared c r u Write shaped sound next)
-  where
-    by : (q : Request) × IsNext S c.history.entries c.first r q u → Stepped S d d' prepared' c c' step.Did
-    by (q, is) =
-        let H = c.history.entries in
-        let lies : UnitLies d r (length c.block.items) u = unit-facts S d prepared c r q u shaped sound is in
-        let bytes : unit_bytes r u ≡ bytes_between S q u.low u.high = unit-bytes-are S H c.first r q u is.tracks is.unended next.of_kind in
-        let low : u.block * d.size ≡ u.low = sym (lies.whole_low whole) in
-        let size : d.size ≡ S.geometry.size = size-of S d sound.meets.setup in
-        let free : NoneHeld S H = put-free S H c r u sound.gate next whole in
-        let long : u.high - u.low ≡ u.count * d.size = omega (arith, lies.whole_low whole, lies.whole_high whole) in
-        let less_bytes : failure.done * d.size < u.count * d.size = omega (arith, write.done, length-take (u.high - u.low) (drop (u.low - r.from) r.buffer.items)) in
-        let less : failure.done < u.count = lt_of_mul-lt-mul_right d.size less_bytes in
-        faulted S d d' prepared prepared' c c' r r q u (Put u.block u.count) failure.done failure sound stay is next.is (same-record r) refl write.command
-        (may-put S H c.first r q u is free next.of_kind whole) less
-        (write.now ∙ (rw (low, bytes, sound.meets.now, size) (sym (fault-contents S 1 H c.first (Put u.block u.count) failure.done q u is.setup (in-one S H sound.plain) is.tracks.named (moves-put S H c.first r q u is next.of_kind whole).of refl whole (omega (arith, less)) ∙ told-patched (contents S 1 H) u.low _))))
-        write.kept (turn-put S d prepared c r q u sound is next.of_kind whole) ends
+  pub here : HasPart S q g.block × (changes_bytes q.asked.kind ≡ true)
+  here = part-there device prepared drive base is.sound shaped part.ticket g part.token q opened.0 holder
 
-some-is : (a b : ℕ) → Some a ≡ Some b → a ≡ b
-some-is a b e = cc
+  pub outstanding : IsOutstanding S H part.token
+  outstanding = is.held.holds.holds.outstanding
 
-pub store-done : (S : Setup) (d d' : Device) (prepared prepared' : ℕ → Type 0) (c c' : Core) (r : Record) (u : Span) → IsShaped d → IsSound S d prepared c → StayPrepared prepared prepared'
-    → NextUnit c u Write r → u.whole ≡ false → c.held ≡ Some u.block → WritesTo d u.low (unit_bytes r u) (Ok tt) d' → Ends c c' (Done c.first (Store u.block)) (finished_record r) (end_paid r)
-    → Stepped S d d' prepared' c c' step.Did
-store-done S d d' prepared prepared' c c' r u shaped sound stay next part held write ends = by (next-of S d prepared c r u Write shaped sound next)
-  where
-    by : (q : Request) × IsNext S c.history.entries c.first r q u → Stepped S d d' prepared' c c' step.Did
-    by (q, is) =
-        let H = c.history.entries in
-        let bytes : unit_bytes r u ≡ bytes_between S q u.low u.high = unit-bytes-are S H c.first r q u is.tracks is.unended next.of_kind in
-        let holds : Holds S H c.first u.block = sound.gate.holds u.block held in
-        wrote S d d' prepared prepared' c c' r q u (Store u.block) sound stay is next.is next.of_kind write.command refl (moves-store S H c.first r q u is next.of_kind part)
-        (may-store S H c.first u.block holds)
-        (none-after-store S H c.first u.block is.setup sound.legal (may-store S H c.first u.block holds) (λ t b held_too. ((sound.gate.only t b held_too).0, sym (some-is u.block b (sym held ∙ (sound.gate.only t b held_too).1)))))
-        (write.written ∙ (rw (bytes, sound.meets.now) (sym (done-told S H c.first (Store u.block) q u sound.plain is.tracks.named (moves-store S H c.first r q u is next.of_kind part) refl))))
-        write.kept
-        (λ old new same. same) refl (turn-store S d prepared c r q u sound is next.of_kind part holds.fetched) ends
+  pub may : MayCommand S H part.token (Store g.block)
+  unfolding MayCommand
+  may = is.held.holds.holds
 
-pub store-not : (S : Setup) (d d' : Device) (prepared prepared' : ℕ → Type 0) (c c' : Core) (r : Record) (u : Span) (failure : BlockFailed) → IsShaped d → IsSound S d prepared c → StayPrepared prepared prepared'
-    → NextUnit c u Write r → u.whole ≡ false → c.held ≡ Some u.block → WritesTo d u.low (unit_bytes r u) (Err failure) d' → Ends c c' (Fault c.first (Store u.block) 0) (failed_record r) 1
-    → Stepped S d d' prepared' c c' step.Did
-store-not S d d' prepared prepared' c c' r u failure shaped sound stay next part held write ends = by (next-of S d prepared c r u Write shaped sound next)
-  where
-    by : (q : Request) × IsNext S c.history.entries c.first r q u → Stepped S d d' prepared' c c' step.Did
-    by (q, is) =
-        let H = c.history.entries in
-        let holds : Holds S H c.first u.block = sound.gate.holds u.block held in
-        faulted S d d' prepared prepared' c c' r r q u (Store u.block) 0 failure sound stay is next.is (same-record r) refl write.command
-        (may-store S H c.first u.block holds) (omega (arith, is.setup.geometry.per_some))
-        (write.left ∙ (sound.meets.now ∙ sym (fault-contents-none S 1 H c.first (Store u.block) q u is.tracks.named (moves-store S H c.first r q u is next.of_kind part).of refl)))
-        write.kept (turn-store S d prepared c r q u sound is next.of_kind part holds.fetched) ends
+  pub store-present : IsSome (medium_in drive)
+  store-present = subst IsSome (sym (medium-there device prepared drive base is.sound shaped part.ticket g part.token q opened.0 holder).1) refl
 
-pub fetch-not : (S : Setup) (d d' : Device) (prepared prepared' : ℕ → Type 0) (c c' : Core) (r : Record) (u : Span) (block block' : List ℕ) (failure : BlockFailed) → IsShaped d → IsSound S d prepared c → StayPrepared prepared prepared'
-    → NextUnit c u Write r → u.whole ≡ false → c.held ≡ None → IsRead d u.block (Err failure) d' block block' → Ends c c' (Fault c.first (Fetch u.block) 0) (failed_record r) 1
-    → Stepped S d d' prepared' c c' step.Did
-fetch-not S d d' prepared prepared' c c' r u block block' failure shaped sound stay next part free read ends = by (next-of S d prepared c r u Write shaped sound next)
-  where
-    by : (q : Request) × IsNext S c.history.entries c.first r q u → Stepped S d d' prepared' c c' step.Did
-    by (q, is) =
-        let H = c.history.entries in
-        let none : NoneHeld S H = none-held S H c.records.items c.first c.block.items c.held sound.gate free in
-        faulted S d d' prepared prepared' c c' r r q u (Fetch u.block) 0 failure sound stay is next.is (same-record r) refl read.command
-        (may-fetch S H c.first r q u is none next.of_kind part) refl
-        (read.now ∙ (sound.meets.now ∙ sym (contents-same S 1 H (Fault c.first (Fetch u.block) 0) (piece-unchanged-fault S H c.first (Fetch u.block) 0 refl))))
-        (kept-same d.cached d.kept d.now d'.now d'.kept shaped.uncached read.now read.kept)
-        (turn-fetch S d prepared c r q u sound is next.of_kind part none) ends
+  group-long : length c.group.items ≡ group_size S.geometry
+  group-long = is.sound.fitted.group
 
--- what a done fetch leaves of the disk, beside its medium
-pub record Fetches (c c' : Core) (u : Span) (block' : List ℕ) : Type 0 where
-  pub entries : c'.history.entries ≡ Done c.first (Fetch u.block) ∷ c.history.entries
-  pub spare : c'.history.spare + 1 ≡ c.history.spare
-  pub owed : c'.owed + 1 ≡ c.owed
-  pub records : c'.records ≡ c.records
-  pub first : c'.first ≡ c.first
-  pub block : c'.block.items ≡ block'
-  pub long : length block' ≡ length c.block.items
-  pub held : c'.held ≡ Some u.block
+  pub size-is : (m : M) → medium_in drive ≡ Some m → (device m).size ≡ size_of S
+  unfolding setup_of
+  size-is m there = all-at (λ n. (device n).size ≡ drive.size) drive.media (drive.media_id - 1) m is.sound.drive_follows.fit.size (medium-place drive m there).1
 
-pub fetch-done : (S : Setup) (d d' : Device) (prepared prepared' : ℕ → Type 0) (c c' : Core) (r : Record) (u : Span) (block block' : List ℕ) → IsShaped d → IsSound S d prepared c → StayPrepared prepared prepared'
-    → NextUnit c u Write r → u.whole ≡ false → c.held ≡ None → IsRead d u.block (Ok tt) d' block block' → Fetches c c' u block'
-    → Stepped S d d' prepared' c c' step.Fetched
-fetch-done S d d' prepared prepared' c c' r u block block' shaped sound stay next part free read ends = by (next-of S d prepared c r u Write shaped sound next)
-  where
-    by : (q : Request) × IsNext S c.history.entries c.first r q u → Stepped S d d' prepared' c c' step.Fetched
-    by (q, is) =
-        let H = c.history.entries in
-        let none : NoneHeld S H = none-held S H c.records.items c.first c.block.items c.held sound.gate free in
-        let few : length H + 1 < 2 ^ 63 = omega (arith, sound.few, ends.spare) in
-        let after : Tracks S (Done c.first (Fetch u.block) ∷ H) c.first r q = tracks-fetch S H c.first u.block r q u is.tracks is.unended is.has in
-        let same : contents S 1 (Done c.first (Fetch u.block) ∷ H) ≡ contents S 1 H = contents-same S 1 H (Done c.first (Fetch u.block)) (piece-unchanged S H c.first (Fetch u.block) refl) in
-        let told : AreToldAt (contents S 1 (Done c.first (Fetch u.block) ∷ H)) (u.block * S.geometry.size) block' = rw (same, sym sound.meets.now, sym (size-of S d sound.meets.setup)) read.given in
-        let leaves : LeavesDisk S d d' c c' (Done c.first (Fetch u.block)) c.first r r q = record {
-          was = next.is;
-          entries = ends.entries;
-          spare = ends.spare;
-          records = rw ends.records (sym (set-itself c.records.items c.first r next.is));
-          first = ends.first;
-          block = rw ends.block (ends.long ∙ sound.block);
-          own = done-own S H c.first (Fetch u.block);
-          may = may-done S H c.first (Fetch u.block) (may-fetch S H c.first r q u is none next.of_kind part);
-          meets = meets-command S H d d' (Done c.first (Fetch u.block)) 0 (Ok tt) sound.meets read.command (done-command c.first (Fetch u.block) refl) refl few
-              (read.now ∙ (sound.meets.now ∙ sym same)) (kept-same d.cached d.kept d.now d'.now d'.kept shaped.uncached read.now read.kept);
-          tracks = after;
-          gate = rw (ends.records, ends.block) (gate-fetch S H c.records.items c.first r u block' c'.held is.setup sound.legal (may-fetch S H c.first r q u is none next.of_kind part) none ends.held told next.is next.unit next.of_kind part);
-          more = 0;
-          pays = ends.owed;
-          owed = omega (arith, entries-done S H c.first (Fetch u.block) is.setup is.legal (may-fetch S H c.first r q u is none next.of_kind part));
-          becomes = record { units = refl; kind = refl; unended = λ _. is.unended };
-        } in
-        record {
-          sound = sound-after S d d' prepared prepared' c c' (Done c.first (Fetch u.block)) c.first r r q sound stay leaves;
-          steps = record {
-            turn = record { token = c.first; command = Fetch u.block };
-            outcome = Made;
-            moves = moves-by S d d' prepared c c' (Done c.first (Fetch u.block)) r r q (record { token = c.first; command = Fetch u.block }) Made sound leaves
-                (turn-fetch S d prepared c r q u sound is next.of_kind part none) refl (ap (λ records. buffers_of records.items) ends.records) read.command.later (λ done failed. absurd (made-failed done failed));
-            answer = refl;
-          };
-        }
+  pub store-transfer : (m : M) → medium_in drive ≡ Some m → IsTransfer (device m) part.block (length c.group.items)
+  store-transfer m there =
+      let inside = group-there device prepared drive base is.sound shaped part.ticket g part.token q opened.0 holder m there in
+      let at = is.held.block in
+      let few = is.sound.geometry.geometry.per_most in
+      let some = is.sound.geometry.geometry.per_some in
+      record {
+        count = per_of S;
+        whole = group-long ∙ mul_comm (size_of S) (per_of S) ∙ ap (λ n. per_of S * n) (sym (size-is m there));
+        some = omega arith;
+        most = omega arith;
+        fits = omega arith;
+      }
+
+  -- each block of the group was made ready
+  pub store-ready : (m : M) → medium_in drive ≡ Some m → (b : ℕ) → part.block ≤ b → b * (device m).size < part.block * (device m).size + length c.group.items → prepared m b
+  store-ready m there b low high =
+      let range = here.0 in
+      let n = range.number in
+      let some = range.part.some in
+      let g_size = group_size S.geometry in
+      let big = is.sound.geometry.geometry.size_some in
+      let per = is.sound.geometry.geometry.per_some in
+      let group_some : 0 < g_size = group-some S.geometry is.sound.geometry.geometry in
+      let next : (n + 1) * g_size ≡ n * g_size + g_size = add-mul n 1 g_size ∙ ap (λ x. n * g_size + x) (one-mul g_size) in
+      let first : from_of S q / g_size < n + 1 = div_below (from_of S q) g_size (n + 1) group_some (omega arith) in
+      let last : n + 1 ≤ (until_of S q + g_size - 1) / g_size = le-div (n + 1) (until_of S q + g_size - 1) g_size group_some (omega arith) in
+      let low_blocks : from_of S q / g_size * per_of S ≤ n * per_of S = mul-le (from_of S q / g_size) (per_of S) n (per_of S) (omega arith) (omega arith) in
+      let high_blocks : (n + 1) * per_of S ≤ (until_of S q + g_size - 1) / g_size * per_of S = mul-le (n + 1) (per_of S) ((until_of S q + g_size - 1) / g_size) (per_of S) last (omega arith) in
+      let more : (n + 1) * per_of S ≡ n * per_of S + per_of S = add-mul n 1 (per_of S) ∙ ap (λ x. n * per_of S + x) (one-mul (per_of S)) in
+      let size = size-is m there in
+      let long : length c.group.items ≡ per_of S * (device m).size = group-long ∙ mul_comm (size_of S) (per_of S) ∙ ap (λ x. per_of S * x) (sym size) in
+      let joined : part.block * (device m).size + per_of S * (device m).size ≡ (part.block + per_of S) * (device m).size = sym (add-mul part.block (per_of S) (device m).size) in
+      let below : b < part.block + per_of S = lt_of_mul-lt-mul_right (device m).size (omega arith) in
+      let begins = range.begins in
+      let at = is.held.block in
+      is.sound.ready m there part.token b q outstanding is.held.named here.1 (omega arith) (omega arith)
+
+  pub store-held : is_some (gate_of c.gates.held part.ticket) ≡ true
+  store-held = (let same = same-but part.ticket before c.gates g is.sound.holders.apart is.held.gate is.lent in ap is_some same.there.1)
+
+  pub store-may : (mark_at c.tokens part.token ≡ Mark.Outstanding) × HasPlace c × (count_by (is_of part.token) c.queue + 2 ≤ c.owed)
+  store-may = may-fail device prepared drive base is.sound part.token outstanding
+
+  of-unit : IsUnitCommand S q (Store g.block) u
+  of-unit = record { unit = part-unit-at S.geometry (from_of S q) (until_of S q) g.block here.0; block = refl; count = refl; kind = rw here.1 refl }
+
+  pub finishes : FinishesTask S H part.token (Store g.block) q (Moves u)
+  finishes =
+      let listed = part-listed S q g.block is.sound.geometry here.0 here.1 in
+      unit-finishes S H part.token (Store g.block) q u listed.0 is.sound.geometry is.held.named listed.1 (part-unmoved S q g.block is.sound.geometry here.0 here.1 H part.token lawful is.held.named is.held.holds.holds.unstored) of-unit refl
+
+  pub bytes-are : part.range.high - part.range.low ≡ task_bytes (Moves u)
+  bytes-are = (λ i. is.held.high i - is.held.low i)
+
+  pub store-left : IfSome (request_at c.tokens part.token) (λ r. part.range.high - part.range.low ≤ r.left)
+  store-left = subst (λ n. IfSome (request_at c.tokens part.token) (λ r. n ≤ r.left)) (sym bytes-are) (may-lower device prepared drive base is.sound part.token (Store g.block) q (Moves u) outstanding finishes)
+
+  pub in-group : (part.block * c.blocks.size ≤ part.range.low) × (part.range.low ≤ part.range.high) × (part.range.low - part.block * c.blocks.size + (part.range.high - part.range.low) ≤ 32768)
+  unfolding request_at
+  in-group =
+      let fits = part-in-record device prepared drive base is.sound shaped part g q is.held opened.0.request (sym (ap (option_map (λ x. x.request)) opened.1.there)) in
+      let most = group-most S.geometry is.sound.geometry.geometry in
+      let room = fits.room in
+      (fits.place, fits.order, omega arith)
+
+  pub told-whole-in : AreToldWhole S
+  told-whole-in = whole-in device prepared drive base is.sound shaped
+
+  -- the copy is the group, which lies on the medium
+  copied : AreToldAt (contents S (media_id_of H) H) (g.block * size_of S) g.copy
+  unfolding state_of
+  copied = (is.sound.facts.gates.each part.ticket g is.held.gate).1.copied
+
+  copy-size : length g.copy ≡ per_of S * size_of S
+  unfolding state_of
+  copy-size = is.sound.holders.apart.long part.ticket g is.held.gate ∙ is.sound.facts.gates.sized ∙ mul_comm (size_of S) (per_of S)
+
+  on-medium : (bytes : List ℕ) → contents S (media_id_of H) H ≡ Some bytes → (g.block + per_of S) * size_of S ≤ length bytes
+  on-medium bytes told =
+      let (m, there) = medium-there device prepared drive base is.sound shaped part.ticket g part.token q opened.0 holder in
+      let inside = group-there device prepared drive base is.sound shaped part.ticket g part.token q opened.0 holder m there in
+      let blocks = blocks-of device drive c.protected_at_first H is.sound.drive_follows q.view q.asked 0 m (medium-place drive m there).1 in
+      let long = contents-long S (media_id_of H) H bytes is.sound.geometry told-whole-in lawful told in
+      let less = mul-le (g.block + per_of S) (size_of S) (blocks_of S (media_id_of H)) (size_of S) (omega arith) (omega arith) in
+      omega arith
+
+  put-long : length (bytes_between S q u.low u.high) ≡ u.high - u.low
+  unfolding request_at
+  put-long =
+      let fits = part-in-record device prepared drive base is.sound shaped part g q is.held opened.0.request (sym (ap (option_map (λ x. x.request)) opened.1.there)) in
+      ap length (sym (fits.bytes ∙ (λ i. bytes_between S q (is.held.low i) (is.held.high i)))) ∙ fits.count ∙ (λ i. is.held.high i - is.held.low i)
+
+  pub stops-before : (done : ℕ) (d : Device) → d.size ≡ size_of S → done * d.size < length c.group.items → done < per_of S
+  stops-before done d size less =
+      let long : length c.group.items ≡ per_of S * d.size = group-long ∙ mul_comm (size_of S) (per_of S) ∙ ap (λ n. per_of S * n) (sym size) in
+      lt_of_mul-lt-mul_right d.size (omega arith)
+
+  -- the medium holds what the history says, done or failed
+  store-contents : (result : Result (Unit {0}) BlockFailed) → IfErr result (λ fault. fault.done ≤ per_of S)
+      → patch_told (contents S (media_id_of H) H) (part.block * size_of S) (written result (size_of S) c.group.items) ≡ contents S (media_id_of H) (entry_for part.token (Store g.block) result ∷ H)
+  store-contents result few =
+      subst (λ n. patch_told (contents S (media_id_of H) H) (n * size_of S) (written result (size_of S) c.group.items) ≡ contents S (media_id_of H) (entry_for part.token (Store g.block) result ∷ H)) (sym is.held.block)
+      (subst (λ bytes. patch_told (contents S (media_id_of H) H) (g.block * size_of S) (written result (size_of S) bytes) ≡ contents S (media_id_of H) (entry_for part.token (Store g.block) result ∷ H)) (sym is.group) (by result few))
+    where
+      by : (result : Result (Unit {0}) BlockFailed) → IfErr result (λ fault. fault.done ≤ per_of S)
+          → patch_told (contents S (media_id_of H) H) (g.block * size_of S) (written result (size_of S) (expected_of S q g)) ≡ contents S (media_id_of H) (entry_for part.token (Store g.block) result ∷ H)
+      by (Ok done) few = stored-done S H part.token q u is.held.named of-unit g.copy copy-size on-medium copied put-long
+      by (Err fault) few = stored-failed S H part.token q u is.held.named of-unit g.copy copy-size on-medium copied put-long fault.done few
+
+  pub store-follows : (d d' : Device) (result : Result (Unit {0}) BlockFailed) → d.size ≡ size_of S → IsWrite d part.block c.group.items result d' → Follows S H (entry_for part.token (Store g.block) result) result d d'
+  store-follows d d' result size write = record {
+    command = write.command;
+    era = λ meets. write-era S H part.token d d' (let few = is.sound.room.few in omega arith) meets (Store g.block) part.block c.group.items result refl write (store-contents result (few-blocks result write.done));
+  }
+    where
+      few-blocks : (result : Result (Unit {0}) BlockFailed) → IfErr result (λ fault. fault.done * d.size < length c.group.items) → IfErr result (λ fault. fault.done ≤ per_of S)
+      few-blocks (Ok done) less = tt
+      few-blocks (Err fault) less = (let few : fault.done < per_of S = stops-before fault.done d size less in omega arith)

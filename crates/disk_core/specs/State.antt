@@ -1,39 +1,38 @@
 -- A disk as its callers see it (own profile).
-use Rattle.std.specs.Prelude.{◌≡◌, ℕ, ◌-◌, ◌<◌, ◌≤◌, false, List, [], ◌∷◌, slice_get, Some}
+use Rattle.std.specs.Prelude.{ℕ, Bool, List, map, slice_index_or, Option, None}
+use Rattle.atomic_table.specs.Seated.{TableId}
 use Rattle.medium.specs.Device.{Device}
+use Rattle.drive.specs.Drives.{DriveState}
 use Rattle.history.specs.declared.entry.Entry.{Entry}
-use Rattle.history.specs.Setup.{Setup}
-use Rattle.history.specs.Tokens.{Request, from_of, until_of}
-use Rattle.history.specs.Contents.{contents, kept_contents, bytes_read}
-use Rattle.history.specs.Room.{commands, faults}
+use Rattle.history.specs.Setup.{Setup, Opening}
+use Rattle.block_gate.specs.Gates.{Gates}
 
--- the setup; the entries, the newest first; the buffer of each token, empty once it was handed back; and the
--- count of the medium's faults
+-- a token that was not handed back: its buffer as it is now, and the word of its event
+pub record Kept : Type 0 where
+  pub buffer : List ℕ
+  pub word : TableId
+
+-- the setup, which is that of the beginning and stays; the entries, the newest first; what is kept of each token, nothing
+-- once it was handed back; the gates; and the media by id from 1
 pub record State : Type 0 where
   pub setup : Setup
   pub entries : List Entry
-  pub buffers : List (List ℕ)
-  pub faults : ℕ
+  pub kept : List (Option Kept)
+  pub gates : Gates
+  pub devices : List Device
 
--- a disk with this one medium, not protected, whose groups are its blocks
-unfoldable pub setup_of : Device → Setup
-setup_of d = record {
-  geometry = record { size = d.size; per = 1 };
-  cached = d.cached;
-  protected = false;
-  media = record { blocks = d.blocks; first = d.first } ∷ [];
+-- what is kept of a token
+unfoldable pub kept_at : List (Option Kept) → ℕ → Option Kept
+kept_at kept t = slice_index_or kept t None
+
+abbrev pub opening_from : Device → Opening
+opening_from d = record { blocks = d.blocks; first = d.first }
+
+-- the setup of a disk over these media, which was protected so at the beginning
+unfoldable pub setup_of : {M : Type 0} → (M → Device) → DriveState M → Bool → Setup
+setup_of device drive at_first = record {
+  geometry = record { size = drive.size; per = drive.per };
+  cached = drive.cached;
+  protected = at_first;
+  media = map (λ m. opening_from (device m)) drive.media;
 }
-
--- a read's buffer has each byte that the read got
-abbrev pub HasBytesRead : Setup → List Entry → ℕ → Request → List ℕ → Type 0
-HasBytesRead S H t q buffer =
-    (x v : ℕ) → from_of S q ≤ x → x < until_of S q → bytes_read S H t x ≡ Some v → slice_get buffer (x - from_of S q) ≡ Some v
-
--- the medium follows the history
-pub record Meets (S : Setup) (H : List Entry) (d : Device) : Type 0 where
-  pub setup : setup_of d ≡ S
-  pub now : d.now ≡ contents S 1 H
-  pub kept : d.kept ≡ kept_contents S 1 H
-  pub calls : d.calls ≡ commands H
-  pub failed : d.failed ≡ faults H
-  pub faults : faults H ≤ d.faults

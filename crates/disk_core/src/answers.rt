@@ -1,12 +1,23 @@
+use block_gate::Work;
+use drive::Drive;
 use efi_status::Status;
+use event_cell::Event;
 
-/// What a caller asks of a disk (UEFI 2.10, 13.7).
+/// What a caller asks of a disk (UEFI 2.10, 13.7 and 13.9; erase: own profile).
 #[derive(Drop)]
 pub enum Ask {
     /// Reads into the buffer from byte `at` of the view on.
     Read { at: u64, buffer: Vec<u8> },
     /// Writes the buffer from byte `at` of the view on.
     Write { at: u64, buffer: Vec<u8> },
+    /// Reads whole blocks into the buffer from block `lba` of the view on.
+    ReadBlocks { lba: u64, buffer: Vec<u8> },
+    /// Writes the buffer as whole blocks from block `lba` of the view on.
+    WriteBlocks { lba: u64, buffer: Vec<u8> },
+    /// Makes what was written stay.
+    Flush,
+    /// Makes whole blocks zero from block `lba` of the view on: `length` bytes.
+    EraseBlocks { lba: u64, length: u64 },
 }
 
 /// Why a request was not accepted.
@@ -26,41 +37,57 @@ pub struct Refused {
 }
 
 /// An accepted request.
-#[derive(Clone, Copy, Debug, PartialEq, Eq)]
+#[derive(Drop)]
 pub struct Token {
     /// How many requests were accepted before.
     pub number: u64,
+    /// Its event, which is signalled once, as the request ends.
+    pub event: Event,
 }
 
 /// What a step did.
-#[derive(Clone, Copy, Debug, PartialEq, Eq)]
 pub enum Step {
     /// It made a command, and that was no fetch or a fetch that failed.
     Did,
-    /// It fetched a block, which the next step stores.
-    Fetched,
+    /// It fetched a group, which the work has to change and `store` has to write.
+    Lent(Work),
+    /// Requests are outstanding, and none of their units may run now.
+    Idle,
     /// No request is outstanding.
     Drained,
 }
 
-/// An ended request with its buffer.
-#[derive(Drop)]
-pub struct Done {
-    pub status: Status,
-    pub buffer: Vec<u8>,
+/// What a store did.
+pub enum Stored {
+    /// It wrote the group, or failed to.
+    Did,
+    /// The work's ticket holds no gate any more. Its buffers were taken back.
+    Stale,
+    /// The work is not one of this disk's.
+    Foreign(Work),
+    /// The work is not its copy with the request's bytes put in: the least place that differs, the byte expected there,
+    /// and the byte found.
+    Strange(Work, usize, u8, u8),
 }
 
-/// Why there is nothing to collect.
+/// What a store from the kept copy did.
 #[derive(Clone, Copy, Debug, PartialEq, Eq)]
-pub enum NotThere {
-    /// The request has not ended.
-    Outstanding,
-    /// No request has this number, or it was collected.
-    Unknown,
+pub enum HeldStored {
+    /// It wrote the group, or failed to.
+    Did,
+    /// The ticket holds no gate.
+    Stale,
 }
 
-/// A medium that could not be made a disk for want of memory.
+/// Why no medium was ejected.
+#[derive(Clone, Copy, Debug, PartialEq, Eq)]
+pub enum EjectRefused {
+    /// None is in.
+    NoMedia,
+}
+
+/// A drive that could not be made a disk for want of memory.
 #[derive(Drop)]
-pub struct MediumBack<M> {
-    pub medium: M,
+pub struct NotMade<M> {
+    pub drive: Drive<M>,
 }

@@ -3,56 +3,55 @@ use Rattle.std.proofs.Common.{◌≡◌, ℕ, ◌/◌, ◌⊎◌, inl, inr, fals
 use Rattle.medium.specs.Counts.{adds, Rose}
 use Rattle.medium.specs.Device.{Device, IsFresh}
 use Rattle.history.specs.declared.entry.Entry.{Entry}
-use Rattle.history.specs.Setup.{Setup, size_of, blocks_of}
+use Rattle.history.specs.Setup.{Setup, size_of, opening_blocks, blocks_of}
 use Rattle.history.specs.Contents.{contents, kept_contents, pieces_of, patch_all}
 use Rattle.history.specs.Rules.{IsLegal}
-use Rattle.disk_core.specs.State.{setup_of, Meets}
-use Rattle.disk_core.proofs.Fresh.{fresh-meets, legal-none}
+use Rattle.disk_core.specs.Facts.{MeetsEra}
+use Rattle.disk_core.proofs.Fresh.{fresh-era}
 use Rattle.image_store.specs.Place.{Place, Here, Missing, Taken, Untold, Image, ChangesOnly, IsTaking, GivesBlocks, put_place, whole_block_bytes}
 use Rattle.script_text.specs.declared.grammar.plans.DiskPlan.{DiskPlan}
 use Rattle.script_text.specs.declared.grammar.plans.ClientPlan.{ClientPlan}
 use Rattle.script_text.specs.Report.{givens_of, AreEnds}
 use Rattle.stack_run.specs.declared.refusal.NotRun.{NotRun}
 use Rattle.stack_run.specs.declared.serving.Run.{Run}
-use Rattle.stack_run.specs.Serving.{RanOver, RanSome, RanOn, RanPlain, RanDisk, RanInPart, NotPutBack, Opens, Leaves, IsLost, Served, one_medium, blocks_alone, run_report}
+use Rattle.stack_run.specs.Serving.{RanOver, RanSome, RanOn, RanPlain, RanDisk, RanInPart, NotPutBack, Opens, Leaves, IsLost, Served, one_medium, blocks_alone, disk_over, run_report}
+use Rattle.stack_run.proofs.Alone.{faults-alone}
 
-setup-is : (d : Device) (size : ℕ) → d.size ≡ size → d.cached ≡ false → setup_of d ≡ one_medium size d.blocks d.first
-unfolding setup_of
-setup-is d size sized uncached = rw (sized, uncached) refl
+setup-is : (d : Device) (size : ℕ) → d.size ≡ size → disk_over d ≡ one_medium size d.blocks d.first
+setup-is d size sized = ap (λ n. one_medium n d.blocks d.first) sized
 
-pub size-is : (d : Device) → size_of (setup_of d) ≡ d.size
-unfolding setup_of
+pub size-is : (d : Device) → size_of (disk_over d) ≡ d.size
 size-is d = refl
 
-blocks-are : (d : Device) → blocks_of (setup_of d) 1 ≡ d.blocks
-unfolding setup_of
-blocks-are d = refl
+legal-none : (S : Setup) → IsLegal S []
+unfolding IsLegal
+legal-none S = tt
 
 -- where nothing has happened
-pub none-ran : (d : Device) → IsFresh d → RanSome (setup_of d) d
-none-ran d fresh = record { history = []; legal = legal-none (setup_of d); meets = fresh-meets d fresh }
+pub none-ran : (d : Device) → IsFresh d → d.cached ≡ false → RanSome (disk_over d) d
+none-ran d fresh uncached = record { history = []; legal = legal-none (disk_over d); meets = fresh-era (disk_over d) 1 d fresh refl refl uncached }
 
-kept-uncached : (d : Device) (H : List Entry) → d.cached ≡ false → kept_contents (setup_of d) 1 H ≡ option_map (patch_all (pieces_of (setup_of d) 1 H)) d.first
-unfolding kept_contents contents setup_of
-kept-uncached d H uncached = rw uncached refl
+kept-uncached : (d : Device) (H : List Entry) → kept_contents (disk_over d) 1 H ≡ option_map (patch_all (pieces_of (disk_over d) 1 H)) d.first
+unfolding kept_contents contents
+kept-uncached d H = refl
 
 -- the disk has the image's whole blocks
-opens : (p0 p1 : Place) (size : ℕ) (d : Device) → IsTaking p0 p1 size false d → Opens size p0 (setup_of d)
+opens : (p0 p1 : Place) (size : ℕ) (d : Device) → IsTaking p0 p1 size false d → Opens size p0 (disk_over d)
 unfolding GivesBlocks
 opens (Here bytes) p1 size d taking =
     let (long, taken, first, blocks) = taking.blocks in
-    (long, setup-is d size taking.size taking.cached ∙ (ap (λ n. one_medium size n d.first) blocks ∙ ap (one_medium size (length bytes / size)) first))
+    (long, setup-is d size taking.size ∙ (ap (λ n. one_medium size n d.first) blocks ∙ ap (one_medium size (length bytes / size)) first))
 opens Missing p1 size d taking = taking.blocks
 opens (Taken tail) p1 size d taking = taking.blocks
-opens Untold p1 size d taking = (d.blocks, d.first, setup-is d size taking.size taking.cached)
+opens Untold p1 size d taking = (d.blocks, d.first, setup-is d size taking.size)
 
 -- a name's image after its medium was put back
-leaves : (p0 p1 p2 : Place) (size : ℕ) (d d' : Device) (H : List Entry) → IsTaking p0 p1 size false d → Meets (setup_of d) H d' → p2 ≡ put_place {E = NotRun} p1 d'.kept (Ok tt) → Leaves (setup_of d) H p0 p2
+leaves : (p0 p1 p2 : Place) (size : ℕ) (d d' : Device) (H : List Entry) → IsTaking p0 p1 size false d → MeetsEra (disk_over d) H 1 d' → p2 ≡ put_place {E = NotRun} p1 d'.kept (Ok tt) → Leaves (disk_over d) H p0 p2
 unfolding GivesBlocks
 leaves (Here bytes) p1 p2 size d d' H taking meets put =
     let (long, taken, first, blocks) = taking.blocks in
-    let kept : kept_contents (setup_of d) 1 H ≡ Some (patch_all (pieces_of (setup_of d) 1 H) (whole_block_bytes size bytes)) = kept-uncached d H taking.cached ∙ (rw first refl) in
-    (patch_all (pieces_of (setup_of d) 1 H) (whole_block_bytes size bytes), kept, put ∙ (rw (taken, meets.kept, kept, size-is d, taking.size) refl))
+    let kept : kept_contents (disk_over d) 1 H ≡ Some (patch_all (pieces_of (disk_over d) 1 H) (whole_block_bytes size bytes)) = kept-uncached d H ∙ (rw first refl) in
+    (patch_all (pieces_of (disk_over d) 1 H) (whole_block_bytes size bytes), kept, put ∙ (rw (taken, meets.kept, kept, size-is d, taking.size) refl))
 leaves Missing p1 p2 size d d' H taking meets put = taking.blocks
 leaves (Taken tail) p1 p2 size d d' H taking meets put = taking.blocks
 leaves Untold p1 p2 size d d' H taking meets put = put ∙ (rw taking.blocks refl)
@@ -68,16 +67,16 @@ lost Untold p1 p2 size d kept fault taking put = put ∙ (rw taking.blocks refl)
 
 -- a history over a medium is one over the image that it was taken from
 ran-on : (old mid new : Image) (size : ℕ) (d d' : Device) (H : List Entry)
-    → IsTaking old.place mid.place size false d → mid.worn ≡ old.worn → IsLegal (setup_of d) H → Meets (setup_of d) H d' → new.worn ≡ adds mid.worn d'.failed → RanOn size old new (setup_of d) H
+    → IsTaking old.place mid.place size false d → mid.worn ≡ old.worn → IsLegal (disk_over d) H → MeetsEra (disk_over d) H 1 d' → new.worn ≡ adds mid.worn d'.failed → RanOn size old new (disk_over d) H
 ran-on old mid new size d d' H taking worn legal meets worn2 = record {
   opens = opens old.place mid.place size d taking;
   legal = legal;
-  worn = worn2 ∙ (rw (worn, meets.failed) refl);
+  worn = worn2 ∙ (rw (worn, meets.failed, faults-alone (disk_over d) H legal refl) refl);
 }
 
 ran-plain : (plan : DiskPlan) (client : ClientPlan) (old mid new : Image) (d d' : Device) (run : Run)
-    → IsTaking old.place mid.place plan.size false d → mid.worn ≡ old.worn → RanOver (setup_of d) client.orders d' run → new.worn ≡ adds mid.worn d'.failed
-    → RanPlain plan client old new (setup_of d) run.history.entries (givens_of run.ends.items)
+    → IsTaking old.place mid.place plan.size false d → mid.worn ≡ old.worn → RanOver (disk_over d) client.orders d' run → new.worn ≡ adds mid.worn d'.failed
+    → RanPlain plan client old new (disk_over d) run.history.entries (givens_of run.ends.items)
 ran-plain plan client old mid new d d' run taking worn ran worn2 = record {
   on = ran-on old mid new plan.size d d' run.history.entries taking worn ran.legal ran.meets worn2;
   plain = ran.plain;
@@ -85,22 +84,21 @@ ran-plain plan client old mid new d d' run taking worn ran worn2 = record {
   reads = ran.given;
 }
 
-geometry-is : (plan : DiskPlan) (d : Device) → d.size ≡ plan.size → (setup_of d).geometry ≡ blocks_alone plan
-unfolding setup_of
+geometry-is : (plan : DiskPlan) (d : Device) → d.size ≡ plan.size → (disk_over d).geometry ≡ blocks_alone plan
 geometry-is plan d is = rw is refl
 
-same-blocks : (d d' : Device) (H : List Entry) → Meets (setup_of d) H d' → d'.blocks ≡ blocks_of (setup_of d) 1
-same-blocks d d' H meets = sym (blocks-are d') ∙ ap (λ S. blocks_of S 1) meets.setup
+same-blocks : (d d' : Device) (H : List Entry) → MeetsEra (disk_over d) H 1 d' → d'.blocks ≡ blocks_of (disk_over d) 1
+same-blocks d d' H meets = sym (ap opening_blocks meets.opening)
 
-same-size : (d d' : Device) (H : List Entry) → Meets (setup_of d) H d' → d'.size ≡ d.size
-same-size d d' H meets = sym (size-is d') ∙ (ap (λ S. S.geometry.size) meets.setup ∙ size-is d)
+same-size : (d d' : Device) (H : List Entry) → MeetsEra (disk_over d) H 1 d' → d'.size ≡ d.size
+same-size d d' H meets = meets.size
 
 -- the lines ran, and the image was put back
 pub ran-disk : (plan : DiskPlan) (client : ClientPlan) (old mid new : Image) (d d' : Device) (run : Run)
-    → IsTaking old.place mid.place plan.size false d → mid.worn ≡ old.worn → RanOver (setup_of d) client.orders d' run
+    → IsTaking old.place mid.place plan.size false d → mid.worn ≡ old.worn → RanOver (disk_over d) client.orders d' run
     → new.place ≡ put_place {E = NotRun} mid.place d'.kept (Ok tt) → new.worn ≡ adds mid.worn d'.failed → RanDisk plan client old new run
 ran-disk plan client old mid new d d' run taking worn ran put worn2 = record {
-  setup = setup_of d;
+  setup = disk_over d;
   ran = ran-plain plan client old mid new d d' run taking worn ran worn2;
   image = leaves old.place mid.place new.place plan.size d d' run.history.entries taking ran.meets put;
   blocks = ran.blocks ∙ same-blocks d d' run.history.entries ran.meets;
@@ -111,10 +109,10 @@ ran-disk plan client old mid new d d' run taking worn ran put worn2 = record {
 
 -- the lines ran, and the image could not be put back
 pub not-put-back : (plan : DiskPlan) (client : ClientPlan) (old mid new : Image) (d d' : Device) (run : Run) (fault : NotRun)
-    → IsTaking old.place mid.place plan.size false d → mid.worn ≡ old.worn → RanOver (setup_of d) client.orders d' run
+    → IsTaking old.place mid.place plan.size false d → mid.worn ≡ old.worn → RanOver (disk_over d) client.orders d' run
     → new.place ≡ put_place mid.place d'.kept (Err fault) → new.worn ≡ adds mid.worn d'.failed → Rose old.faults new.faults → NotPutBack plan client old new
 not-put-back plan client old mid new d d' run fault taking worn ran put worn2 cause = record {
-  setup = setup_of d;
+  setup = disk_over d;
   history = run.history.entries;
   given = givens_of run.ends.items;
   ran = ran-plain plan client old mid new d d' run taking worn ran worn2;
@@ -136,16 +134,16 @@ served-by plan client at at' Writes run ran others writes = record {
 }
 
 leaves-or-lost : (p0 p1 p2 : Place) (size : ℕ) (d d' : Device) (H : List Entry) (put : Result (Unit {0}) NotRun)
-    → IsTaking p0 p1 size false d → Meets (setup_of d) H d' → p2 ≡ put_place p1 d'.kept put → Leaves (setup_of d) H p0 p2 ⊎ IsLost p0 p2
+    → IsTaking p0 p1 size false d → MeetsEra (disk_over d) H 1 d' → p2 ≡ put_place p1 d'.kept put → Leaves (disk_over d) H p0 p2 ⊎ IsLost p0 p2
 leaves-or-lost p0 p1 p2 size d d' H (Ok tt) taking meets is = inl (leaves p0 p1 p2 size d d' H taking meets is)
 leaves-or-lost p0 p1 p2 size d d' H (Err fault) taking meets is = inr (lost p0 p1 p2 size d d'.kept fault taking is)
 
 -- some lines ran, and the image was put back or could not be
 pub ran-in-part : (old mid new : Image) (size : ℕ) (d d' : Device) (put : Result (Unit {0}) NotRun)
-    → IsTaking old.place mid.place size false d → mid.worn ≡ old.worn → RanSome (setup_of d) d'
+    → IsTaking old.place mid.place size false d → mid.worn ≡ old.worn → RanSome (disk_over d) d'
     → new.place ≡ put_place mid.place d'.kept put → new.worn ≡ adds mid.worn d'.failed → RanInPart size old new
 ran-in-part old mid new size d d' put taking worn ran is worn2 = record {
-  setup = setup_of d;
+  setup = disk_over d;
   history = ran.history;
   on = ran-on old mid new size d d' ran.history taking worn ran.legal ran.meets worn2;
   left = leaves-or-lost old.place mid.place new.place size d d' ran.history put taking ran.meets is;

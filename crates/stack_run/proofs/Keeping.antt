@@ -18,7 +18,8 @@ use Rattle.history.specs.Marks.{mark_of}
 use Rattle.history.specs.Contents.{bytes_read}
 use Rattle.history.specs.Rules.{refusal_of}
 use Rattle.history.specs.Next.{first_open}
-use Rattle.disk_core.specs.State.{State, HasBytesRead}
+use Rattle.disk_core.specs.State.{State, Kept}
+use Rattle.disk_core.specs.Facts.{HasBytesRead, buffer_length}
 use Rattle.disk_core.specs.Calls.{Collects}
 use Rattle.history_laws.specs.Told.{concerns}
 use Rattle.history_laws.proofs.CountLemmas.{accepted-more, accepted-same}
@@ -109,20 +110,20 @@ given-bytes S H t q Erase status buffer are = tt
 
 -- the token that is handed back now
 end-new : (S : Setup) (H : List Entry) (t : ℕ) (q : Request) (status : Status) (buffer : List ℕ) (line : TokenLine) → request H t ≡ Some q → q.tag ≡ 1 → mark_of S H t ≡ Some status
-    → (q.asked.kind ≡ Read → HasBytesRead S H t q buffer) → length buffer ≡ q.asked.length → line.status ≡ status → line.given ≡ given_of q.asked.kind status buffer → IsEnd S H t line
+    → (q.asked.kind ≡ Read → HasBytesRead S H t q buffer) → length buffer ≡ buffer_length q.asked.kind q.asked.length → line.status ≡ status → line.given ≡ given_of q.asked.kind status buffer → IsEnd S H t line
 unfolding gives_bytes
 end-new S H t q status buffer line named tagged marked read long is gives = record {
   marked = rw is marked;
   given = record {
     where_read = rw (gives, named, marked, tagged) (given-some q.asked.kind status buffer);
-    bytes = rw (named, gives) (given-bytes S H t q q.asked.kind status buffer (λ reads. read-bytes S H t q buffer (read reads) long));
+    bytes = rw (named, gives) (given-bytes S H t q q.asked.kind status buffer (λ reads. read-bytes S H t q buffer (read reads) (long ∙ ap (λ kind. buffer_length kind q.asked.length) reads)));
   };
 }
 
 -- one more token is collected
 pub keeps-collect : (S : Setup) (H : List Entry) (kinds : List Kind) (ends : List TokenLine) (q : Request) (status : Status) (buffer : List ℕ) (line : TokenLine)
     → Keeps S H kinds ends → length ends < length kinds → request H (length ends) ≡ Some q → mark_of S H (length ends) ≡ Some status
-    → (q.asked.kind ≡ Read → HasBytesRead S H (length ends) q buffer) → length buffer ≡ q.asked.length → line.status ≡ status → line.given ≡ given_of q.asked.kind status buffer
+    → (q.asked.kind ≡ Read → HasBytesRead S H (length ends) q buffer) → length buffer ≡ buffer_length q.asked.kind q.asked.length → line.status ≡ status → line.given ≡ given_of q.asked.kind status buffer
     → Keeps S (Collect 1 (length ends) ∷ H) kinds (ends ++ line ∷ [])
 unfolding was_collected bytes_read
 keeps-collect S H kinds ends q status buffer line keeps some named marked read long is gives = record {
@@ -189,20 +190,21 @@ first-all S H H' kinds ends first most =
     }
 
 -- the next token as the disk hands it back
-pub next-collected : (old new : State) (kinds : List Kind) (ends : List TokenLine) (n : ℕ) (kind : Kind) (status : Status) (buffer : List ℕ) (line : TokenLine) (q : Request)
-    → n ≡ length ends → length ends < length kinds → Keeps old.setup old.entries kinds ends → Collects old 1 n status buffer new q → kind ≡ get_or kinds n kind
+pub next-collected : (old new : State) (kinds : List Kind) (ends : List TokenLine) (n : ℕ) (kind : Kind) (status : Status) (buffer : List ℕ) (line : TokenLine) (q : Request) (was : Kept)
+    → n ≡ length ends → length ends < length kinds → Keeps old.setup old.entries kinds ends → Collects old 1 n status buffer new q was → kind ≡ get_or kinds n kind
     → line.status ≡ status → line.given ≡ given_of kind status buffer
     → CollectsNext old.setup old.entries new.entries kinds kinds ends (ends ++ line ∷ [])
-next-collected old new kinds ends n kind status buffer line q at some keeps collects is ends_so gives =
+next-collected old new kinds ends n kind status buffer line q was at some keeps collects is ends_so gives =
     let there : slice_get kinds n ≡ Some kind = slice_get_read kinds (length kinds) n kind refl (omega arith) is in
     let asked : slice_get kinds n ≡ Some q.asked.kind = (keeps.asked n q collects.named).1 in
     let same : kind ≡ q.asked.kind = cc in
+    let added : new.entries ≡ Collect 1 n ∷ old.entries = ap (λ s. s.entries) collects.new_is in
     record {
-      entries = collects.adds.entries ∙ ap (λ t. Collect 1 t ∷ old.entries) at;
+      entries = added ∙ ap (λ t. Collect 1 t ∷ old.entries) at;
       token = (q, rw at at collects.named);
       same_kinds = refl;
       count = length-append ends (line ∷ []);
-      keeps = rw (collects.adds.entries, at)
+      keeps = rw (added, at)
           (keeps-collect old.setup old.entries kinds ends q status buffer line keeps some (rw at at collects.named) (rw at at collects.marked)
           (rw at at collects.read) collects.long ends_so (rw same at gives));
     }

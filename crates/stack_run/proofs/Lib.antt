@@ -1,3 +1,4 @@
+pub mod Alone
 pub mod Collecting
 pub mod Ending
 pub mod Enough
@@ -11,3 +12,4 @@ pub mod Read
 pub mod Reported
 pub mod Running
 pub mod Stepping
+mod Ran

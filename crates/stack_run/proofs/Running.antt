@@ -10,13 +10,11 @@ use Rattle.history.specs.declared.entry.Entry.{Entry}
 use Rattle.history.specs.declared.order.Order.{Order}
 use Rattle.history.specs.declared.order.Order.TheVariants as order
 use Rattle.history.specs.declared.order.Payload.{Payload}
-use Rattle.history.specs.Setup.{Setup, IsSetup}
+use Rattle.history.specs.Setup.{Setup, IsSetup, size_of, blocks_of}
+use Rattle.history.specs.Eras.{inserts, media_id_of}
 use Rattle.history.specs.Tokens.{accepted, request, was_collected}
 use Rattle.history.specs.Marks.{mark_of}
 use Rattle.history.specs.Next.{first_open}
-use Rattle.medium.specs.Device.{Device}
-use Rattle.disk_core.specs.State.{setup_of}
-use Rattle.disk_core.proofs.Setups.{blocks-of, size-of}
 use Rattle.script_text.specs.declared.report.parts.TokenLine.{TokenLine}
 use Rattle.script_text.specs.Fit.{IsOrder, AreOrders}
 use Rattle.script_text.specs.Report.{givens_of, AreEnds, IsGiven, AreGiven}
@@ -27,9 +25,15 @@ use Rattle.stack_run.proofs.Leading.{leads-on, leads-request, leads-wait}
 use Rattle.stack_run.proofs.Ending.{plain-ends}
 use Rattle.stack_run.proofs.Keeping.{keeps-stays}
 
--- the whole of the medium
-pub whole-is : (S : Setup) (d : Device) (blocks size : ℕ) → setup_of d ≡ S → blocks ≡ d.blocks → size ≡ d.size → record { start = 0; length = blocks * size; media_id = 1; index = 0 } ≡ whole_view S 1
-whole-is S d blocks size is b s = rw (b, s, blocks-of S d is, size-of S d is)
+-- the medium of a disk on which nothing has happened is the first
+pub first-id : (H : List Entry) (media_id : ℕ) → H ≡ [] → media_id ≡ media_id_of H → media_id ≡ 1
+unfolding inserts
+first-id H media_id fresh is = is ∙ ap media_id_of fresh
+
+-- the whole of it
+pub whole-is : (S : Setup) (blocks size media_id : ℕ) → blocks ≡ blocks_of S 1 → size ≡ size_of S → media_id ≡ 1
+    → record { start = 0; length = blocks * size; media_id = media_id; index = 0 } ≡ whole_view S 1
+whole-is S blocks size media_id b s id = rw (b, s, id) refl
 
 -- a request and its step
 pub takes-request : (S : Setup) (H G H' : List Entry) (asked : Asked) (payload : Payload) (k : ℕ) (kinds : List Kind) (ends : List TokenLine) (some : Bool)

@@ -1,22 +1,33 @@
 -- What a step of the disk is in the schedule, and what it leaves.
-use Rattle.std.proofs.Common.{◌≡◌, ℕ, Bool, true, false, List, ◌∷◌, None, Some, refl, ◌∙◌, ap, arith}
+use Rattle.std.proofs.Common.{◌≡◌, ℕ, ◌+◌, ◌≤◌, Bool, true, false, List, ◌∷◌, None, Some, refl, sym, ◌∙◌, ap, subst, arith}
 use Rattle.efi_status.specs.declared.Status.{Status}
 use Rattle.history.specs.declared.entry.Entry.{Entry}
 use Rattle.history.specs.declared.order.Order.{Order}
-use Rattle.history.specs.Setup.{Setup}
+use Rattle.history.specs.Setup.{Setup, IsSetup}
 use Rattle.history.specs.Tokens.{Request}
 use Rattle.history.specs.Marks.{mark_of}
+use Rattle.history.specs.Rules.{MayFollow, IsLegal}
 use Rattle.history.specs.Tasks.{Task}
-use Rattle.history.specs.Next.{first_open, Turn, next_turn, Outcome, entry_of}
-use Rattle.disk_core.specs.declared.answers.Step.{Step}
+use Rattle.history.specs.Next.{first_open, Turn, next_turn, Outcome, Made, Failed, entry_of}
+use Rattle.history.specs.Room.{owed_entries}
+use Rattle.block_gate.specs.Works.{Lent}
 use Rattle.disk_core.specs.declared.answers.Step.TheVariants as step
-use Rattle.disk_core.specs.Calls.{MakesStep, StepsTo}
+use Rattle.disk_core.specs.declared.answers.Stored.{Stored}
+use Rattle.disk_core.specs.declared.answers.Stored.TheVariants as stored
+use Rattle.disk_core.specs.State.{State}
+use Rattle.disk_core.specs.Facts.{AreFacts}
+use Rattle.disk_core.specs.Calls.{is_fetched, StepSays, StoreSays}
+use Rattle.disk_core.specs.Turns.{IsIdle, KeepsGates, TakesTurn, StepTurns, merged, StoresAtOnce}
+use Rattle.disk_core.proofs.TurnLemmas.{steps-turn}
+use Rattle.disk_core.proofs.AtOnceLemmas.{stores-merged}
+use Rattle.disk_core.proofs.IdleLemmas.{idle-stays}
+use Rattle.history_laws.proofs.SpareLemmas.{entries-done, entries-fault}
 use Rattle.history_laws.proofs.EndLemmas.{mark-stays}
 use Rattle.history_laws.proofs.TokenLemmas.{bytes_read-other}
 use Rattle.history_laws.proofs.PlainLemmas.{IsTurnOf, turn-of, turn-open, turn-concerns, turn-accepted, turn-request, turn-collected}
 use Rattle.stack_run.specs.Leading.{Leads, IsTurned, Stay}
-use Rattle.stack_run.specs.Keeping.{Stays, Steps, Waits}
-use Rattle.stack_run.proofs.Leading.{leads-same, leads-on, leads-step, step-did, step-fetched, step-fetched-drained, step-drained, drained-turn}
+use Rattle.stack_run.specs.Keeping.{Stays, Steps, StepsOnce, Waits}
+use Rattle.stack_run.proofs.Leading.{leads-same, leads-on, leads-step, step-did, step-fetched, step-drained, drained-turn}
 
 pub stays-same : (S : Setup) (H : List Entry) → Stays S H H
 stays-same S H = record {
@@ -54,60 +65,100 @@ stays-turn S H turn outcome next = by (turn-of S H turn next)
             let f : mark_of S H t ≡ None = rw (← e) of.open_.unmarked in
             cc
 
-is-turned : (S : Setup) (H H' : List Entry) (b b' : List (List ℕ)) (f f' : ℕ) (fetched : Bool) → MakesStep S H H' b b' f f' fetched → IsTurned S H H' fetched
-is-turned S H H' b b' f f' fetched moving = record {
-  turn = moving.turn;
-  outcome = moving.outcome;
-  next = moving.moves.next;
-  entries = moving.moves.entries;
-  answer = moving.answer;
+is-turned : (old new : State) (turn : Turn) (outcome : Outcome) (fetched : Bool) → TakesTurn old turn outcome new → is_fetched turn.command outcome ≡ fetched → IsTurned old.setup old.entries new.entries fetched
+is-turned old new turn outcome fetched takes answer = record {
+  turn = turn;
+  outcome = outcome;
+  next = takes.next;
+  entries = takes.makes.entries;
+  answer = answer;
 }
 
-stays-moving : (S : Setup) (H H' : List Entry) (b b' : List (List ℕ)) (f f' : ℕ) (fetched : Bool) → MakesStep S H H' b b' f f' fetched → Stays S H H'
-stays-moving S H H' b b' f f' fetched moving = rw (moving.moves.entries) (stays-turn S H moving.turn moving.outcome moving.moves.next)
+stays-taken : (old new : State) (turn : Turn) (outcome : Outcome) → TakesTurn old turn outcome new → Stays old.setup old.entries new.entries
+stays-taken old new turn outcome takes = rw (takes.makes.entries) (stays-turn old.setup old.entries turn outcome takes.next)
 
--- a command that was no done fetch
-pub did : (S : Setup) (H H' : List Entry) (b b' : List (List ℕ)) (f f' : ℕ) → MakesStep S H H' b b' f f' false → Steps S H H' true
-did S H H' b b' f f' moving = record {
-  step = step-did S H H' (is-turned S H H' b b' f f' false moving);
-  stays = stays-moving S H H' b b' f f' false moving;
-  going = λ going. (moving.moves.owed, turn-open S H moving.turn moving.moves.next);
-  over = λ over. cc;
-}
+-- a command that was made lowers what is owed
+turn-lowers : (S : Setup) (H : List Entry) (turn : Turn) (outcome : Outcome) → IsSetup S → IsLegal S (entry_of turn outcome ∷ H) → owed_entries S (entry_of turn outcome ∷ H) + 1 ≤ owed_entries S H
+unfolding IsLegal MayFollow
+turn-lowers S H turn Made is (legal, may) = entries-done S H turn.token turn.command is legal may
+turn-lowers S H turn (Failed done) is (legal, may) = omega (arith, entries-fault S H turn.token turn.command done is legal may.0)
 
--- a done fetch, and the step after it
-pub fetched : (S : Setup) (H G H' : List Entry) (b b' b'' : List (List ℕ)) (f f' f'' : ℕ) (answer : Step) → MakesStep S H G b b' f f' true → StepsTo S G H' b' b'' f' f'' answer → Steps S H H' true
-fetched S H G H' b b' b'' f f' f'' answer moving next = by answer next
-  where
-    open_ : (t : ℕ) × (first_open S H ≡ Some t)
-    open_ = turn-open S H moving.turn moving.moves.next
+taken-lowers : (old new : State) (turn : Turn) (outcome : Outcome) → IsSetup old.setup → TakesTurn old turn outcome new → owed_entries old.setup new.entries + 1 ≤ owed_entries old.setup old.entries
+taken-lowers old new turn outcome is takes =
+    let legal : IsLegal old.setup (entry_of turn outcome ∷ old.entries) =
+    subst (λ S. IsLegal S (entry_of turn outcome ∷ old.entries)) takes.makes.setup (subst (λ H. IsLegal new.setup H) takes.makes.entries takes.makes.legal) in
+    rw (takes.makes.entries) (turn-lowers old.setup old.entries turn outcome is legal)
 
-    two : (fetched : Bool) → MakesStep S G H' b' b'' f' f'' fetched → Steps S H H' true
-    two fetched then = record {
-      step = step-fetched S H G H' fetched (is-turned S H G b b' f f' true moving) (is-turned S G H' b' b'' f' f'' fetched then);
-      stays = stays-on S H G H' (stays-moving S H G b b' f f' true moving) (stays-moving S G H' b' b'' f' f'' fetched then);
-      going = λ going. (omega (arith, moving.moves.owed, then.moves.owed), open_);
-      over = λ over. cc;
-    }
+-- the disk before a step
+module _ (old : State) (is : IsSetup old.setup) (facts : AreFacts old) (idle : IsIdle old.gates) where
+  -- a command that was no done fetch
+  pub did : (new : State) → StepSays old step.Did new → StepsOnce old true new
+  did new says = by (steps-turn old new step.Did is facts idle.held idle.free says)
+    where
+      by : StepTurns old step.Did new → StepsOnce old true new
+      by (turn, outcome, takes, unfetched, revokes) = record {
+        keeps = record { setup = takes.makes.setup; gates = idle-stays old.gates new.gates idle revokes };
+        steps = record {
+          step = step-did old.setup old.entries new.entries (is-turned old new turn outcome false takes unfetched);
+          stays = stays-taken old new turn outcome takes;
+          going = λ going. (taken-lowers old new turn outcome is takes, turn-open old.setup old.entries turn takes.next);
+          over = λ over. cc;
+        };
+      }
 
-    by : (a : Step) → StepsTo S G H' b' b'' f' f'' a → Steps S H H' true
-    by step.Did then = two false then
-    by step.Fetched then = two true then
-    by step.Drained then = rw (then.1) (record {
-      step = step-fetched-drained S H G (is-turned S H G b b' f f' true moving) (drained-turn S G then.0);
-      stays = stays-moving S H G b b' f f' true moving;
-      going = λ going. (moving.moves.owed, open_);
-      over = λ over. cc;
-    })
+  -- a store of a merged work has no other answer
+  pub answered : (mid new : State) (w w' : Lent) (answer : Stored) → StepSays old (step.Lent w) mid → w' ≡ merged w → StoreSays mid w' answer new → StoresAtOnce old mid answer new
+  answered mid new w w' answer says merges stores = stores-merged old mid new w answer is facts idle says (subst (λ v. StoreSays mid v answer new) merges stores)
+
+  -- a done fetch, and its store
+  pub stored-at-once : (mid new : State) (w w' : Lent) → StepSays old (step.Lent w) mid → w' ≡ merged w → StoreSays mid w' stored.Did new → StepsOnce old true new
+  stored-at-once mid new w w' says merges stores = by (steps-turn old mid (step.Lent w) is facts idle.held idle.free says) (answered mid new w w' stored.Did says merges stores)
+    where
+      by : StepTurns old (step.Lent w) mid → StoresAtOnce old mid stored.Did new → StepsOnce old true new
+      by (turn, takes, fetched) (turn', outcome, stores) =
+          let same : mid.setup ≡ old.setup = takes.makes.setup in
+          let turned : IsTurned old.setup mid.entries new.entries false =
+          subst (λ S. IsTurned S mid.entries new.entries false) same (is-turned mid new turn' outcome false stores.takes stores.unfetched) in
+          let stays : Stays old.setup mid.entries new.entries = subst (λ S. Stays S mid.entries new.entries) same (stays-taken mid new turn' outcome stores.takes) in
+          let lowers : owed_entries old.setup new.entries + 1 ≤ owed_entries old.setup mid.entries =
+          subst (λ S. owed_entries S new.entries + 1 ≤ owed_entries S mid.entries) same (taken-lowers mid new turn' outcome (subst IsSetup (sym same) is) stores.takes) in
+          record {
+            keeps = record { setup = stores.takes.makes.setup ∙ same; gates = stores.gates };
+            steps = record {
+              step = step-fetched old.setup old.entries mid.entries new.entries false (is-turned old mid turn Made true takes fetched) turned;
+              stays = stays-on old.setup old.entries mid.entries new.entries (stays-taken old mid turn Made takes) stays;
+              going = λ going. (omega (arith, taken-lowers old mid turn Made is takes, lowers), turn-open old.setup old.entries turn takes.next);
+              over = λ over. cc;
+            };
+          }
+
+  -- an idle step does not come
+  pub never-idle : (new : State) → StepSays old step.Idle new → ⊥
+  never-idle new says = steps-turn old new step.Idle is facts idle.held idle.free says
 
 -- no token is outstanding
-pub drained : (S : Setup) (H H' : List Entry) → first_open S H ≡ None → H' ≡ H → Steps S H H' false
-drained S H H' none same = rw same (record {
-  step = step-drained S H (drained-turn S H none);
-  stays = stays-same S H;
-  going = λ going. cc;
-  over = λ over. (none, refl);
-})
+pub drained : (old new : State) → StepSays old step.Drained new → StepsOnce old false new
+unfolding StepSays
+drained old new (same, none) = record { keeps = record { setup = ap (λ s. s.setup) same; gates = ap (λ s. s.gates) same }; steps = rw (ap (λ (s : State). s.entries) same) still }
+  where
+    still : Steps old.setup old.entries old.entries false
+    still = record {
+      step = step-drained old.setup old.entries (drained-turn old.setup old.entries none);
+      stays = stays-same old.setup old.entries;
+      going = λ going. cc;
+      over = λ over. (none, refl);
+    }
+
+-- the gates of two calls, one after the other
+pub keeps-same : (s : State) → KeepsGates s s
+keeps-same s = record { setup = refl; gates = refl }
+
+pub keeps-on : (old mid new : State) → KeepsGates old mid → KeepsGates mid new → KeepsGates old new
+keeps-on old mid new first then = record { setup = then.setup ∙ first.setup; gates = then.gates ∙ first.gates }
+
+-- they are idle after a call as before it
+pub idle-on : (old new : State) → KeepsGates old new → IsIdle old.gates → IsIdle new.gates
+idle-on old new keeps idle = subst IsIdle (sym keeps.gates) idle
 
 pub waits-none : (S : Setup) (H : List Entry) → Waits S H H
 waits-none S H = record { stays = stays-same S H; leads = λ lines stay. leads-same S H lines }

@@ -15,6 +15,8 @@ use Rattle.history.specs.Marks.{mark_of}
 use Rattle.history.specs.Contents.{bytes_read}
 use Rattle.history.specs.Room.{owed_entries}
 use Rattle.history.specs.Next.{first_open}
+use Rattle.disk_core.specs.State.{State}
+use Rattle.disk_core.specs.Turns.{KeepsGates}
 use Rattle.script_text.specs.declared.report.parts.TokenLine.{TokenLine}
 use Rattle.script_text.specs.Report.{IsGiven}
 use Rattle.stack_run.specs.Plain.{after_answer, collects, after_own_collects, after_all_collects}
@@ -34,6 +36,11 @@ pub record Steps (S : Setup) (H H' : List Entry) (some : Bool) : Type 0 where
   pub stays : Stays S H H'
   pub going : some ≡ true → (owed_entries S H' + 1 ≤ owed_entries S H) × ((t : ℕ) × (first_open S H ≡ Some t))
   pub over : some ≡ false → (first_open S H ≡ None) × (H' ≡ H)
+
+-- so on the disk, which holds no block before it nor after it
+pub record StepsOnce (old : State) (some : Bool) (new : State) : Type 0 where
+  pub keeps : KeepsGates old new
+  pub steps : Steps old.setup old.entries new.entries some
 
 -- steps while lines wait
 pub record Waits (S : Setup) (H H' : List Entry) : Type 0 where

@@ -9,7 +9,7 @@ use Rattle.history.specs.Setup.{Setup, size_of, blocks_of}
 use Rattle.history.specs.Contents.{kept_contents}
 use Rattle.history.specs.Rules.{IsLegal}
 use Rattle.history.specs.Room.{faults}
-use Rattle.disk_core.specs.State.{Meets}
+use Rattle.disk_core.specs.Facts.{MeetsEra}
 use Rattle.image_store.specs.Place.{Place, Here, Missing, Taken, Untold, Image, IsShort, MayBeShort, ChangesOnly, whole_block_bytes, tail_of}
 use Rattle.script_text.specs.declared.grammar.plans.DiskPlan.{DiskPlan}
 use Rattle.script_text.specs.declared.grammar.plans.ClientPlan.{ClientPlan}
@@ -24,7 +24,7 @@ pub record RanOver (S : Setup) (orders : List Order) (medium : Device) (run : Ru
   pub legal : IsLegal S run.history.entries
   pub plain : run.history.entries ≡ plain_history S orders (outcomes_of run.history.entries)
   pub faultless : faults run.history.entries ≡ 0 → run.history.entries ≡ plain_history S orders []
-  pub meets : Meets S run.history.entries medium
+  pub meets : MeetsEra S run.history.entries 1 medium
   pub ends : AreEnds S run.history.entries run.ends.items
   pub given : AreGiven S run.history.entries (givens_of run.ends.items)
 
@@ -32,11 +32,15 @@ pub record RanOver (S : Setup) (orders : List Order) (medium : Device) (run : Ru
 pub record RanSome (S : Setup) (medium : Device) : Type 0 where
   pub history : List Entry
   pub legal : IsLegal S history
-  pub meets : Meets S history medium
+  pub meets : MeetsEra S history 1 medium
 
 -- a disk with one medium, with no cache, and not protected
 abbrev pub one_medium : ℕ → ℕ → Option (List ℕ) → Setup
 one_medium size blocks first = record { geometry = record { size = size; per = 1 }; cached = false; protected = false; media = record { blocks = blocks; first = first } ∷ [] }
+
+-- the disk over a medium that keeps no cache
+abbrev pub disk_over : Device → Setup
+disk_over d = one_medium d.size d.blocks d.first
 
 -- the blocks of a disk of a script, each a group of its own
 abbrev pub blocks_alone : DiskPlan → Geometry

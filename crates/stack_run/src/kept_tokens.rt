@@ -1,14 +1,15 @@
 ghost use Rattle.std.specs.Prelude.{◌≡◌, ◌<◌, length, None, OnOk};
 ghost use Rattle.history.specs.Next.{first_open};
+ghost use Rattle.disk_core.specs.Turns.{KeepsGates};
 ghost use Rattle.stack_run.specs.Keeping.{Keeps, given_of, CollectsNext, CollectsAll};
 
-use byte_lists::Bytes;
-use disk_core::{Disk, Done, NotThere};
+use disk_core::Disk;
 use efi_status::Status;
 use history::Kind;
 use medium::Medium;
 use script_text::TokenLine;
 use std::alloc::AllocError;
+use token_table::{Done, NotThere};
 
 /// The tag of the one client.
 pub const CLIENT: u32 = 1;
@@ -25,11 +26,11 @@ pub struct Kept {
 // How a token of this kind ended that was handed back.
 fn line_of(kind: Kind, done: Done) -> TokenLine
     ensures status { result.status ≡ done.status }
-    ensures given { result.given ≡ given_of kind done.status done.buffer.items }
+    ensures given { result.given ≡ given_of kind done.status done.buffer }
 {
     let Done { status, buffer } = done;
     let given = match (kind, status) {
-        (Kind::Read, Status::Success) => Some(Bytes::from_vec(buffer)),
+        (Kind::Read, Status::Success) => Some(buffer),
         _ => None,
     };
     TokenLine { status, given }
@@ -40,7 +41,7 @@ fn collect_next<M: Medium>(disk: &mut Disk<M>, kept: &mut Kept) -> Result<(), Al
     requires drained { first_open disk.old.setup disk.old.entries ≡ None }
     requires keeps { Keeps disk.old.setup disk.old.entries kept.old.kinds.items kept.old.ends.items }
     requires some { length kept.old.ends.items < length kept.old.kinds.items }
-    ensures setup { disk.new.setup ≡ disk.old.setup }
+    ensures stays { KeepsGates disk.old disk.new }
     ensures next { OnOk result (CollectsNext disk.old.setup disk.old.entries disk.new.entries kept.old.kinds.items kept.new.kinds.items kept.old.ends.items kept.new.ends.items) }
 {
     let number = kept.ends.len();
@@ -58,7 +59,7 @@ fn collect_next<M: Medium>(disk: &mut Disk<M>, kept: &mut Kept) -> Result<(), Al
 pub fn collect_rest<M: Medium>(disk: &mut Disk<M>, kept: &mut Kept) -> Result<(), AllocError>
     requires drained { first_open disk.old.setup disk.old.entries ≡ None }
     requires keeps { Keeps disk.old.setup disk.old.entries kept.old.kinds.items kept.old.ends.items }
-    ensures setup { disk.new.setup ≡ disk.old.setup }
+    ensures stays { KeepsGates disk.old disk.new }
     ensures all { OnOk result (CollectsAll disk.old.setup disk.old.entries disk.new.entries kept.new.kinds.items kept.new.ends.items) }
 {
     while kept.ends.len() < kept.kinds.len() {

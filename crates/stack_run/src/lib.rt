@@ -2,6 +2,7 @@
 #![tactic(auto)]
 
 mod kept_tokens;
+mod one_medium;
 mod plain_run;
 mod program;
 mod reading;

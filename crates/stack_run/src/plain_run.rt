@@ -3,14 +3,16 @@ ghost use Rattle.history.specs.Setup.{IsSetup};
 ghost use Rattle.history.specs.Tokens.{accepted, was_collected};
 ghost use Rattle.history.specs.Room.{faults};
 ghost use Rattle.history.specs.Next.{first_open};
-ghost use Rattle.disk_core.specs.Calls.{asked_of, bytes_of, buffer_of};
+ghost use Rattle.disk_core.specs.Calls.{asked_of, bytes_of};
+ghost use Rattle.disk_core.specs.Facts.{AreFacts};
+ghost use Rattle.disk_core.specs.Turns.{IsIdle, KeepsGates};
 ghost use Rattle.script_text.specs.Fit.{IsRequest, IsOrder, AreOrders};
 ghost use Rattle.script_text.specs.Report.{givens_of, AreEnds, AreGiven};
 ghost use Rattle.stack_run.specs.Plain.{payload_bytes, whole_view, outcomes_of, plain_history};
-ghost use Rattle.stack_run.specs.Keeping.{Steps, Waits, Keeps, Answers, TakesLine};
+ghost use Rattle.stack_run.specs.Keeping.{StepsOnce, Waits, Keeps, Answers, TakesLine};
 
 use crate::kept_tokens::{CLIENT, Kept, collect_rest};
-use disk_core::{Ask, Disk, Step, Why};
+use disk_core::{Ask, Disk, Step, Stored, Why};
 use history::{Asked, Order, Payload, View};
 use medium::Medium;
 use script_text::TokenLine;
@@ -18,38 +20,59 @@ use std::alloc::{AllocError, Global};
 
 // One step of the schedule: a command, and a fetched block is stored at once. False exactly where no request is outstanding.
 fn step_once<M: Medium>(disk: &mut Disk<M>) -> bool
-    ensures setup { disk.new.setup ≡ disk.old.setup }
-    ensures steps { Steps disk.old.setup disk.old.entries disk.new.entries result }
+    requires { IsIdle disk.old.gates }
+    ensures { StepsOnce disk.old result disk.new }
 {
+    // Its facts say that a step is the next turn.
+    disk.history();
     match disk.step() {
         Step::Did => true,
-        Step::Fetched => {
-            disk.step();
-            true
-        }
         Step::Drained => false,
+        Step::Idle => unreachable!(),
+        Step::Lent(mut work) => {
+            work.merge();
+            match disk.store(work) {
+                Stored::Did => true,
+                Stored::Stale => unreachable!(),
+                Stored::Foreign(work) => {
+                    work.discard();
+                    unreachable!()
+                }
+                Stored::Strange(work, _, _, _) => {
+                    work.discard();
+                    unreachable!()
+                }
+            }
+        }
     }
 }
 
 // Steps until no request is outstanding.
 fn drain<M: Medium>(disk: &mut Disk<M>)
-    ensures setup { disk.new.setup ≡ disk.old.setup }
+    requires { IsIdle disk.old.gates }
+    ensures stays { KeepsGates disk.old disk.new }
     ensures drained { first_open disk.old.setup disk.new.entries ≡ None }
     ensures waits { Waits disk.old.setup disk.old.entries disk.new.entries }
 {
     while step_once(disk) {}
 }
 
-// The whole of the disk's medium.
+// The whole of the medium that is in.
 fn whole_medium<M: Medium>(disk: &Disk<M>) -> View
+    requires { disk.now.entries ≡ [] }
     ensures view { result ≡ whole_view disk.now.setup 1 }
     ensures setup { IsSetup disk.now.setup }
+    ensures facts { AreFacts disk.now }
 {
-    let medium = disk.medium();
+    let drive = disk.drive();
+    let media_id = drive.media_id();
+    let Some(blocks) = drive.blocks_of(media_id) else {
+        unreachable!()
+    };
     View {
         start: 0,
-        length: medium.blocks() * u64::from(medium.size()),
-        media_id: 1,
+        length: blocks * u64::from(drive.size()),
+        media_id,
         index: 0,
     }
 }
@@ -59,7 +82,7 @@ fn ask_of(alloc: Global, asked: &Asked, payload: &Payload) -> Result<Ask, AllocE
     requires { IsRequest asked.now payload.now 1 }
     ensures asked { IfOk result (λ ask. asked_of ask ≡ asked.now) }
     ensures bytes { IfOk result (λ ask. bytes_of ask ≡ payload_bytes payload.now) }
-    ensures most { IfOk result (λ ask. length (buffer_of ask) ≤ 2 ^ 24) }
+    ensures most { IfOk result (λ ask. (asked_of ask).length ≤ 2 ^ 24) }
 {
     match payload {
         Payload::Given(bytes) => Ok(Ask::Write {
@@ -86,7 +109,7 @@ fn submit_line<M: Medium>(
     requires view { view.now ≡ whole_view disk.old.setup 1 }
     requires fits { IsRequest asked.now payload.now media_id }
     requires keeps { Keeps disk.old.setup disk.old.entries kept.old.kinds.items kept.old.ends.items }
-    ensures setup { disk.new.setup ≡ disk.old.setup }
+    ensures stays { KeepsGates disk.old disk.new }
     ensures answers { OnOk result (Answers disk.old.setup disk.old.entries disk.new.entries asked.now payload.now media_id kept.new.kinds.items kept.new.ends.items) }
 {
     let ask = ask_of(alloc, asked, payload)?;
@@ -112,8 +135,9 @@ fn take_line<M: Medium>(
 ) -> Result<(), AllocError>
     requires view { view.now ≡ whole_view disk.old.setup 1 }
     requires fits { IsOrder line.now }
+    requires idle { IsIdle disk.old.gates }
     requires keeps { Keeps disk.old.setup disk.old.entries kept.old.kinds.items kept.old.ends.items }
-    ensures setup { disk.new.setup ≡ disk.old.setup }
+    ensures stays { KeepsGates disk.old disk.new }
     ensures takes { OnOk result (TakesLine disk.old.setup disk.old.entries disk.new.entries line.now kept.new.kinds.items kept.new.ends.items) }
 {
     match line {
@@ -134,14 +158,15 @@ fn take_line<M: Medium>(
     }
 }
 
-/// Runs a client's lines over a disk on which nothing has happened, by the plain schedule, and tells how each token
-/// ended and what it gave back. The error is want of memory; the disk is then as its history says.
+/// Runs a client's lines over a disk on which nothing has happened and that has a buffer set, by the plain schedule, and
+/// tells how each token ended and what it gave back. The error is want of memory; the disk is then as its history says.
 pub fn run_lines<M: Medium>(
     alloc: Global,
     disk: &mut Disk<M>,
     orders: &[Order],
 ) -> Result<Vec<TokenLine>, AllocError>
     requires fresh { disk.old.entries ≡ [] }
+    requires set { 0 < disk.old.gates.free }
     requires orders { AreOrders orders.now }
     ensures setup { disk.new.setup ≡ disk.old.setup }
     ensures plain { OnOk result (disk.new.entries ≡ plain_history disk.old.setup orders.now (outcomes_of disk.new.entries)) }

@@ -4,21 +4,21 @@ ghost use Rattle.medium.specs.Device.{IsFresh};
 ghost use Rattle.image_store.specs.Edge.{Appends, AppendsFront, HasCauseOf, PutsText};
 ghost use Rattle.image_store.specs.Place.{IsFree, IsTaken, IsTaking, ChangesOnly, MayBeShort, put_place};
 ghost use Rattle.history.specs.Setup.{Setup};
-ghost use Rattle.disk_core.specs.State.{setup_of};
 ghost use Rattle.script_text.specs.Fit.{IsDisk, AreOrders};
 ghost use Rattle.script_text.specs.Report.{AreEnds};
-ghost use Rattle.stack_run.specs.Serving.{RanOver, RanSome, RanDisk, Served, ImageFails, MayLeave, LacksBlock, blocks_alone, run_report};
+ghost use Rattle.stack_run.specs.Serving.{RanOver, RanSome, RanDisk, Served, ImageFails, MayLeave, LacksBlock, blocks_alone, disk_over, run_report};
 
+use crate::one_medium::{one_drive, only};
 use crate::plain_run::run_lines;
 use crate::refusal::{NotRun, Unserved};
-use disk_core::{Disk, MediumBack};
+use disk_core::{Disk, NotMade};
 use history::{History, Order};
 use image_store::{Images, PutFault, Sink, TakeFault};
 use medium::Medium;
 use script_text::{
     ClientPlan, DiskPlan, Items, KeptMedium, Name, ReportFault, TokenLine, report_body, report_head,
 };
-use std::alloc::{AllocError, Global};
+use std::alloc::{AllocError, AllocFailed, Global};
 
 // What a disk did: the blocks of its medium, its history, and how its tokens ended.
 #[derive(Drop)]
@@ -31,12 +31,15 @@ pub struct Run {
 // Runs the lines over a disk, and gives its medium back. None is want of memory.
 fn run_disk<M: Medium>(alloc: Global, mut disk: Disk<M>, orders: &[Order]) -> (M, Option<Run>)
     requires fresh { disk.entries ≡ [] }
+    requires set { 0 < disk.gates.free }
+    requires alone { length disk.setup.media ≡ 1 }
     requires orders { AreOrders orders.now }
     ensures over { IfSome result.1 (λ run. RanOver disk.setup orders.now (M.device result.0) run) }
     ensures some { RanSome disk.setup (M.device result.0) }
 {
     let ran = run_lines(alloc, &mut disk, orders);
-    let (medium, history) = disk.into_medium();
+    let (media, history) = disk.into_media();
+    let medium = only(media);
     let blocks = medium.blocks();
     match ran {
         Ok(ends) => (
@@ -54,16 +57,18 @@ fn run_disk<M: Medium>(alloc: Global, mut disk: Disk<M>, orders: &[Order]) -> (M
 // Runs the lines over a medium, and gives it back. None is want of memory.
 fn run_medium<M: Medium>(alloc: Global, medium: M, orders: &[Order]) -> (M, Option<Run>)
     requires fresh { IsFresh (M.device medium) }
+    requires uncached { (M.device medium).cached ≡ false }
     requires orders { AreOrders orders.now }
-    ensures over { IfSome result.1 (λ run. RanOver (setup_of (M.device medium)) orders.now (M.device result.0) run) }
-    ensures some { RanSome (setup_of (M.device medium)) (M.device result.0) }
+    ensures over { IfSome result.1 (λ run. RanOver (disk_over (M.device medium)) orders.now (M.device result.0) run) }
+    ensures some { RanSome (disk_over (M.device medium)) (M.device result.0) }
 {
-    match Disk::make(alloc, medium) {
+    let drive = match one_drive(alloc, medium) {
+        Ok(drive) => drive,
+        Err(AllocFailed { value }) => return (value, None),
+    };
+    match Disk::make(alloc, drive, 1) {
         Ok(disk) => run_disk(alloc, disk, orders),
-        Err(back) => {
-            let MediumBack { medium } = back;
-            (medium, None)
-        }
+        Err(NotMade { drive }) => (only(drive.into_media()), None),
     }
 }
 

@@ -1,12 +1,14 @@
-use Rattle.std.proofs.Common.{refl, ◌∙◌}
-use Rattle.stack_run.proofs.Stepping.{waits-none, waits-step}
+use Rattle.stack_run.proofs.Stepping.{keeps-same, keeps-on, idle-on, waits-none, waits-step}
 use Rattle.stack_run.proofs.plain_run.drain.Goals as goal
 
 pub loop-init : goal.loop-init
-loop-init g c = record { setup = refl; waits = waits-none _ _ }
+loop-init g c = record { stays = keeps-same _; waits = waits-none _ _ }
+
+pub step_once-requires : goal.step_once-requires
+step_once-requires g c = idle-on _ _ c.loop.invariant.stays c.requires
 
 pub loop-preserved : goal.loop-preserved
 loop-preserved g c = record {
-  setup = c.step_once.ensures.setup ∙ c.loop.invariant.setup;
-  waits = waits-step _ _ _ _ c.loop.invariant.waits (rw c.loop.invariant.setup at c.loop-test.ensures.steps);
+  stays = keeps-on _ _ _ c.loop.invariant.stays c.loop-test.ensures.keeps;
+  waits = waits-step _ _ _ _ c.loop.invariant.waits (rw c.loop.invariant.stays.setup at c.loop-test.ensures.steps);
 }

@@ -1,11 +1,12 @@
 use Rattle.std.proofs.Common.{◌≡◌}
 use Rattle.history.specs.Room.{owed_entries}
+use Rattle.disk_core.specs.Turns.{KeepsGates}
 use Rattle.stack_run.specs.Keeping.{Waits}
 use Rattle.stack_run.proofs.plain_run.drain.Given as goal
 
 abbrev pub invariant-loop : goal.invariant-loop
 invariant-loop g l = record {
-  setup : l.disk.setup ≡ l.initial.disk.setup;
+  stays : KeepsGates l.initial.disk l.disk;
   waits : Waits l.initial.disk.setup l.initial.disk.entries l.disk.entries;
 }
 

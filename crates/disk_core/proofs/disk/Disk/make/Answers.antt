@@ -1,5 +1,8 @@
 use Rattle.disk_core.proofs.Fresh.{fresh-sound}
+use Rattle.disk_core.proofs.Following.{era-still}
+use Rattle.disk_core.proofs.Still.{gates-still}
+use Rattle.disk_core.proofs.Kept.{kept-record}
 use Rattle.disk_core.proofs.disk.Disk.make.Goals as goal
 
 pub invariant_of-result : goal.invariant_of-result
-invariant_of-result g c = fresh-sound _ _ c.in-Ok.core c.requires (rw c.size.ensures at c.in-Ok.ensures)
+invariant_of-result g c = fresh-sound _ _ _ _ c.args.sets c.requires.fit c.requires.fresh c.in-Ok.ensures

@@ -1,0 +1,209 @@
+-- Where the gates are idle, a lent work that is merged is written at once.
+use Rattle.std.proofs.Common.{◌≡◌, ℕ, ◌+◌, ◌-◌, ◌*◌, ◌<◌, ◌≤◌, ◌⊎◌, inl, inr, Bool, true, false, nat_lt, nat_eq, eqb, not, ◌||◌, ◌&&◌, cond, if◌then◌else◌, min, max, List, [], ◌∷◌, ◌++◌, length, take, drop, find, slice_get, Option, None, Some, option_map, refl, sym, ◌∙◌, ap, subst, arith}
+use Rattle.std.proofs.lemmas.Bool.{eq-eqb, or_left, and_from, lt-ltb, false≢true}
+use Rattle.std.proofs.lemmas.List.{length-take}
+use Rattle.byte_lists.specs.Patching.{patch}
+use Rattle.byte_lists.proofs.Patched.{length-patch}
+use Rattle.byte_lists.proofs.Patches.{patch-nothing}
+use Rattle.history.specs.declared.entry.Kind.{Kind}
+use Rattle.history.specs.declared.entry.Kind.TheVariants.{Read, Write, Flush, Erase}
+use Rattle.history.specs.declared.entry.Command.{Command}
+use Rattle.history.specs.declared.entry.Command.TheVariants.{Fetch, Store, Put, Get, Wipe, Sync}
+use Rattle.history.specs.declared.entry.Entry.{Entry}
+use Rattle.history.specs.declared.entry.Entry.TheVariants.{Done}
+use Rattle.disk_split.specs.declared.span.Span.{Span}
+use Rattle.history.specs.Setup.{Setup, IsSetup, size_of, per_of}
+use Rattle.history.specs.Tokens.{Request, request, request_bytes, from_of}
+use Rattle.history.specs.Commands.{is_fetch, is_at}
+use Rattle.history.specs.Contents.{bytes_between}
+use Rattle.history.specs.Marks.{was_fetched, is_held, fetches, HoldsBy}
+use Rattle.history.specs.Rules.{MayCommand, MayFollow, IsLegal}
+use Rattle.history.specs.Tasks.{Task, Moves, Syncs, Todo, pending, is_runnable, first_runnable, task_command}
+use Rattle.history.specs.Next.{Turn, next_turn, Outcome, Made, Failed}
+use Rattle.history_laws.specs.Turns.{turn_of_todo}
+use Rattle.history_laws.proofs.MayLemmas.{runnable-may}
+use Rattle.history_laws.proofs.PendingLemmas.{pending-fetch}
+use Rattle.history_laws.proofs.RunnableLemmas.{free-runnable, next-runnable}
+use Rattle.history_laws.proofs.TicketLemmas.{holds-by-before}
+use Rattle.history_laws.proofs.TokenLemmas.{has_done-done, request-same}
+use Rattle.block_gate.specs.Works.{Lent}
+use Rattle.block_gate.specs.Gates.{Gate, Gates, gate_of, is_out, is_ours, releasing, taking}
+use Rattle.disk_core.specs.declared.answers.Step.TheVariants as step
+use Rattle.disk_core.specs.declared.answers.Stored.{Stored}
+use Rattle.disk_core.specs.declared.answers.Stored.TheVariants as stored
+use Rattle.disk_core.specs.State.{State}
+use Rattle.disk_core.specs.Facts.{AreFacts}
+use Rattle.disk_core.specs.Calls.{low_in, high_in, Revokes, LendsFirst, StepSays, IsHeldBy, expected_of, GatesStored, StoreSays}
+use Rattle.disk_core.specs.Turns.{IsIdle, merged, StoresAtOnce}
+use Rattle.disk_core.proofs.TurnLemmas.{none-held}
+use Rattle.disk_core.proofs.IdleLemmas.{idle-stays, gate_for, lent-gate, lent-out, lent-size, back-again}
+
+-- tests that are alike find the same
+find-alike : {X : Type 0} (test other : X → Bool) (xs : List X) → ((x : X) → test x ≡ other x) → find test xs ≡ find other xs
+find-alike test other [] same = refl
+find-alike test other (x ∷ xs) same = rw (same x, find-alike test other xs same) refl
+
+-- a part that was to be fetched is to be stored, once it was fetched
+fetched-command : (H : List Entry) (t : ℕ) (kind : Kind) (task : Task) (b : ℕ) → task_command H t kind task ≡ Fetch b → task_command (Done t (Fetch b) ∷ H) t kind task ≡ Store b
+fetched-command H t kind Syncs b is = cc
+fetched-command H t kind (Moves u) b is = by kind u.whole is
+  where
+    now : (c : ℕ) → c ≡ b → was_fetched (Done t (Fetch b) ∷ H) t c ≡ true
+    now c same = has_done-done (is_at is_fetch c) H t (Fetch b) ∙ or_left (nat_eq b c) (was_fetched H t c) (eq-eqb b c (sym same))
+
+    part : (c : ℕ) (f : Bool) → was_fetched H t c ≡ f → (if f then Store c else Fetch c) ≡ Fetch b → (if was_fetched (Done t (Fetch b) ∷ H) t c then Store c else Fetch c) ≡ Store b
+    part c true was e = cc
+    part c false was e = let same : c ≡ b = cc in rw (now c same) (ap Store same)
+
+    by : (kind : Kind) (whole : Bool) → task_command H t kind (Moves (record u { whole = whole })) ≡ Fetch b → task_command (Done t (Fetch b) ∷ H) t kind (Moves (record u { whole = whole })) ≡ Store b
+    by Read whole e = cc
+    by Flush whole e = cc
+    by Write true e = cc
+    by Erase true e = cc
+    by Write false e = part u.block (was_fetched H t u.block) refl e
+    by Erase false e = part u.block (was_fetched H t u.block) refl e
+
+-- after the fetch of the first runnable unit its store is the next turn
+pub store-turn : (S : Setup) (H : List Entry) (todo : Todo) (b : ℕ) → IsSetup S → IsLegal S H → IsLegal S (Done todo.token (Fetch b) ∷ H) → ((c : ℕ) → is_held S H c ≡ false)
+    → first_runnable (is_held S H) true S H ≡ Some todo → task_command H todo.token todo.kind todo.task ≡ Fetch b
+    → next_turn S (Done todo.token (Fetch b) ∷ H) ≡ Some (record { token = todo.token; command = Store b })
+unfolding first_runnable
+store-turn S H todo b is legal legal' none first fetch =
+    let may : MayCommand S H todo.token (Fetch b) = subst (λ c. MayCommand S H todo.token c) fetch (runnable-may S H true todo is legal first) in
+    let alike : find (is_runnable (λ c. false) true) (pending S H) ≡ Some todo =
+    find-alike (is_runnable (λ c. false) true) (is_runnable (is_held S H) true) (pending S H) (λ d. free-runnable (λ c. false) d (λ c. refl) ∙ sym (free-runnable (is_held S H) d none)) ∙ first in
+    let here : first_runnable (λ c. false) true S (Done todo.token (Fetch b) ∷ H) ≡ Some todo = ap (find (is_runnable (λ c. false) true)) (pending-fetch S H todo.token b is legal may) ∙ alike in
+    next-runnable S (Done todo.token (Fetch b) ∷ H) (λ c. false) is legal' (λ c. refl) ∙ (ap (option_map (turn_of_todo (Done todo.token (Fetch b) ∷ H))) here
+    ∙ ap (λ (c : Command). Some (record { token = todo.token; command = c })) (fetched-command H todo.token todo.kind todo.task b fetch))
+
+some-same : {X : Type 0} (x y : X) → Some x ≡ Some y → x ≡ y
+some-same x y e = cc
+
+-- the holder of a ticket after a fetch is the token that fetched, where none held before
+new-holder : (S : Setup) (H : List Entry) (t b u c k : ℕ) → IsSetup S → IsLegal S (Done t (Fetch b) ∷ H) → (HoldsBy S H u c k → ⊥) → HoldsBy S (Done t (Fetch b) ∷ H) u c k → (t ≡ u) × (b ≡ c)
+new-holder S H t b u c k is legal none holds = by (holds-by-before S H (Done t (Fetch b)) u c k is legal holds)
+  where
+    by : HoldsBy S H u c k ⊎ ((Done t (Fetch b) ≡ Done u (Fetch c)) × (k ≡ fetches H)) → (t ≡ u) × (b ≡ c)
+    by (inl before) = absurd (none before)
+    by (inr (now, next)) =
+        let fetch : Fetch b ≡ Fetch c = cc in
+        (cc, cc)
+
+-- where the gates hold nothing, no token does
+no-holder : (s : State) (t b k : ℕ) → AreFacts s → s.gates.held ≡ [] → HoldsBy s.setup s.entries t b k → ⊥
+unfolding gate_of
+no-holder s t b k facts none holds =
+    let (g, there, block) = facts.gates.all t b k holds in
+    clash g (subst (λ held. gate_of held k ≡ Some g) none there)
+  where
+    clash : (g : Gate) → gate_of [] k ≡ Some g → ⊥
+    clash g is = cc
+
+-- the bytes of a piece are no more than its range
+length-between : (S : Setup) (q : Request) (low high : ℕ) → length (bytes_between S q low high) ≤ high - low
+length-between S q low high = rw (length-take (high - low) (drop (low - from_of S q) (request_bytes q))) (omega arith)
+
+-- a piece that begins in the block and ends there, or is none, leaves its length
+length-merged : (bytes patch_ : List ℕ) (from start low high : ℕ) → start + from ≡ low → length patch_ ≤ high - low → high ≤ start + length bytes → length (patch bytes from patch_) ≡ length bytes
+length-merged bytes [] from start low high begins few ends = ap length (patch-nothing bytes from)
+length-merged bytes (x ∷ more) from start low high begins few ends = length-patch bytes from (x ∷ more) (omega (arith, begins, few, ends))
+
+-- the disk before a fetch, that after it with its work lent, and what was asked
+module _ (old mid : State) (w : Lent) (todo : Todo) (q : Request) (is : IsSetup old.setup) (facts : AreFacts old) (idle : IsIdle old.gates) (lends : LendsFirst old todo q w mid) where
+  fetch : Turn
+  fetch = record { token = todo.token; command = Fetch w.block }
+
+  entries-are : mid.entries ≡ Done todo.token (Fetch w.block) ∷ old.entries
+  entries-are = lends.makes.makes.entries ∙ ap (λ (c : Command). Done todo.token c ∷ old.entries) lends.fetch
+
+  legal-then : IsLegal old.setup (Done todo.token (Fetch w.block) ∷ old.entries)
+  legal-then = subst (λ S. IsLegal S (Done todo.token (Fetch w.block) ∷ old.entries)) lends.makes.makes.setup (subst (λ H. IsLegal mid.setup H) entries-are lends.makes.makes.legal)
+
+  first-free : first_runnable (is_held old.setup old.entries) true old.setup old.entries ≡ Some todo
+  first-free = subst (λ b. first_runnable (is_held old.setup old.entries) b old.setup old.entries ≡ Some todo) (lt-ltb 0 old.gates.free idle.free) lends.makes.first
+
+  next-store : next_turn mid.setup mid.entries ≡ Some (record { token = todo.token; command = Store w.block })
+  next-store =
+      ap (λ S. next_turn S mid.entries) lends.makes.makes.setup ∙ (ap (next_turn old.setup) entries-are
+      ∙ store-turn old.setup old.entries todo w.block is facts.legal legal-then (λ c. none-held old c facts idle.held) first-free lends.fetch)
+
+  -- the work is one of this disk's
+  ours : is_ours mid.gates (merged w) ≡ true
+  unfolding is_ours
+  ours =
+      let size : length (patch w.bytes w.from w.patch) ≡ mid.gates.size =
+      length-merged w.bytes w.patch w.from (w.block * size_of old.setup) (low_in old.setup q w.block) (high_in old.setup q w.block (per_of old.setup)) lends.work.begins
+      (subst (λ p. length p ≤ high_in old.setup q w.block (per_of old.setup) - low_in old.setup q w.block) (sym lends.work.patch) (length-between old.setup q _ _))
+      (ends-in)
+      ∙ (lends.work.long ∙ sym (ap (λ g. g.size) lends.gates ∙ lent-size old.gates w.block w.ticket w.bytes idle)) in
+      and_from (is_out mid.gates w.ticket) (eqb (length (patch w.bytes w.from w.patch)) mid.gates.size) (ap (λ g. is_out g w.ticket) lends.gates ∙ lent-out old.gates w.block w.ticket w.bytes idle) (eq-eqb _ _ size)
+    where
+      ends-in : high_in old.setup q w.block (per_of old.setup) ≤ w.block * size_of old.setup + length w.bytes
+      ends-in = omega (arith, lends.work.long, facts.gates.sized)
+
+  held-here : gate_of mid.gates.held w.ticket ≡ Some (gate_for w.block w.ticket true w.bytes)
+  held-here = ap (λ g. gate_of g.held w.ticket) lends.gates ∙ lent-gate old.gates w.block w.ticket w.bytes idle
+
+  -- who holds it, and with which request
+  pub record IsItsGate (g : Gate) (t : ℕ) (r : Request) : Type 0 where
+    pub gate : g ≡ gate_for w.block w.ticket true w.bytes
+    pub token : todo.token ≡ t
+    pub request_is : q ≡ r
+
+  its-gate : (g : Gate) (t : ℕ) (r : Request) → IsHeldBy mid w.ticket g t r → IsItsGate g t r
+  its-gate g t r held =
+      let gate : g ≡ gate_for w.block w.ticket true w.bytes = some-same _ _ (sym held.gate ∙ held-here) in
+      let holds : HoldsBy old.setup (Done todo.token (Fetch w.block) ∷ old.entries) t g.block w.ticket =
+      subst (λ S. HoldsBy S (Done todo.token (Fetch w.block) ∷ old.entries) t g.block w.ticket) lends.makes.makes.setup (subst (λ H. HoldsBy mid.setup H t g.block w.ticket) entries-are held.holds) in
+      let token : todo.token ≡ t = (new-holder old.setup old.entries todo.token w.block t g.block w.ticket is legal-then (no-holder old t g.block w.ticket facts idle.held) holds).0 in
+      let named : request old.entries todo.token ≡ Some r =
+      sym (request-same old.entries (Done todo.token (Fetch w.block)) todo.token refl) ∙ (sym (ap (λ H. request H todo.token) entries-are) ∙ (ap (request mid.entries) token ∙ held.named)) in
+      record { gate = gate; token = token; request_is = some-same _ _ (sym lends.work.named ∙ named) }
+
+  -- the merged work is what is expected
+  expected : (g : Gate) (t : ℕ) (r : Request) → IsItsGate g t r → expected_of mid.setup r g ≡ (merged w).bytes
+  expected g t r its =
+      ap (λ S. expected_of S r g) lends.makes.makes.setup ∙ (ap (λ v. expected_of old.setup v g) (sym its.request_is) ∙ (ap (expected_of old.setup q) its.gate
+      ∙ (ap (λ n. patch w.bytes n (bytes_between old.setup q (low_in old.setup q w.block) (high_in old.setup q w.block (per_of old.setup)))) from-is
+      ∙ ap (patch w.bytes w.from) (sym lends.work.patch))))
+    where
+      from-is : low_in old.setup q w.block - w.block * size_of old.setup ≡ w.from
+      from-is = omega (arith, lends.work.begins)
+
+  gates-back : (outcome : Outcome) (new : Gates) → GatesStored outcome (taking mid.gates w.ticket) w.ticket new → new ≡ old.gates
+  gates-back outcome new stored = by outcome stored
+    where
+      again : releasing (taking mid.gates w.ticket) w.ticket ≡ old.gates
+      again = ap (λ g. releasing (taking g w.ticket) w.ticket) lends.gates ∙ back-again old.gates w.block w.ticket w.bytes idle
+
+      by : (outcome : Outcome) → GatesStored outcome (taking mid.gates w.ticket) w.ticket new → new ≡ old.gates
+      by Made stored = stored ∙ again
+      by (Failed done) stored = idle-stays old.gates new idle (subst (λ g. Revokes g new) again stored)
+
+  pub stores : (new : State) (result : Stored) → StoreSays mid (merged w) result new → StoresAtOnce old mid result new
+  unfolding StoreSays
+  stores new (stored.Foreign back) (isnt, same, still) = false≢true (sym isnt ∙ ours)
+  stores new stored.Stale (ours_, none, is_) = clash (sym none ∙ held-here)
+    where
+      clash : {g : Gate} → None ≡ Some g → ⊥
+      clash e = cc
+  stores new (stored.Strange back place wanted found) (ours_, same, still, (g, t, r, differs)) =
+      differs.differs (some-same _ _ (sym differs.wanted ∙ (ap (λ l. slice_get l place) (expected g t r (its-gate g t r differs.held)) ∙ differs.has)))
+  stores new stored.Did (ours_, (g, t, r, outcome, writes)) =
+      let its : IsItsGate g t r = its-gate g t r writes.stores.held in (
+        record { token = t; command = Store g.block },
+        outcome,
+        record {
+          takes = record {
+            next = next-store ∙ (ap (λ (u : ℕ). Some (record { token = u; command = Store w.block })) its.token ∙ ap (λ (h : Gate). Some (record { token = t; command = Store h.block })) (sym its.gate));
+            makes = writes.stores.makes;
+          };
+          unfetched = refl;
+          gates = gates-back outcome new.gates writes.stores.gates;
+        },
+      )
+
+-- a lent work that is merged is written at once
+pub stores-merged : (old mid new : State) (w : Lent) (result : Stored) → IsSetup old.setup → AreFacts old → IsIdle old.gates → StepSays old (step.Lent w) mid → StoreSays mid (merged w) result new → StoresAtOnce old mid result new
+unfolding StepSays
+stores-merged old mid new w result is facts idle (todo, q, lends) says = stores old mid w todo q is facts idle lends new result says

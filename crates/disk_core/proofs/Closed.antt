@@ -1,0 +1,352 @@
+-- The parts carry one end after the other, and follow the history again after the last.
+use Rattle.std.proofs.Common.{◌≡◌, ◌≢◌, ℕ, zero, suc, ◌+◌, ◌-◌, ◌<◌, ◌≤◌, ◌⊎◌, inl, inr, Bool, true, false, not, nat_eq, ◌&&◌, List, [], ◌∷◌, map, slice_get, Option, None, Some, refl, sym, ◌∙◌, ap, subst, arith}
+use Rattle.std.specs.Prelude.{filter, count_by, is_none, vec_capacity}
+use Rattle.std.specs.Option.{option_map}
+use Rattle.std.proofs.lemmas.Bool.{cases_Bool, cases_eq, eq-eqb, ne_eqb, and_right}
+use Rattle.std.proofs.lemmas.Option.{slice_get-map}
+use Rattle.efi_status.specs.declared.Status.{Status}
+use Rattle.disk_split.specs.declared.span.Span.{Span}
+use Rattle.history.specs.declared.entry.Entry.{Entry}
+use Rattle.history.specs.Setup.{Setup, size_of}
+use Rattle.history.specs.Tokens.{Request, accepted, request, was_collected}
+use Rattle.history.specs.Marks.{mark_of, HoldsBy}
+use Rattle.history.specs.Tasks.{Task, Moves, Syncs, Todo, pending}
+use Rattle.history.specs.Room.{commands_owed, owed_by, token_owed, tokens_owed, owed_entries}
+use Rattle.history_laws.specs.Pending.{Ordered}
+use Rattle.history_laws.proofs.CountLemmas.{count-more, count-same}
+use Rattle.history_laws.proofs.TokenLemmas.{request-some}
+use Rattle.history_laws.proofs.PendingLemmas.{filter-everything, filter-alike}
+use Rattle.history_laws.proofs.OrderLemmas.{ordered-filter}
+use Rattle.history_laws.proofs.SpareLemmas.{marked-accepted}
+use Rattle.history_laws.proofs.TicketLemmas.{ticket-one}
+use Rattle.token_table.specs.declared.record.Record.{Record}
+use Rattle.token_table.specs.declared.record.Mark.{Mark}
+use Rattle.token_table.specs.Records.{Records, record_at, changed, ended_record, mark_at, mark_of_record, mark_of_end, word_for, IsShown}
+use Rattle.subtask_queue.specs.declared.sub.Sub.{Sub}
+use Rattle.subtask_queue.specs.Subs.{token_of, is_of, sub_of, without_token}
+use Rattle.block_gate.specs.Gates.{Gate, gate_of}
+use Rattle.disk_core.specs.declared.parts.Core.{Core}
+use Rattle.disk_core.specs.declared.parts.Holder.{Holder}
+use Rattle.disk_core.specs.Facts.{KeptFollow, GatesFollow}
+use Rattle.disk_core.specs.Parts.{kept_from, kept_of, holder_of}
+use Rattle.disk_core.specs.Inside.{IsEarlier, HoldersFollow, HasRoom}
+use Rattle.disk_core.specs.Moves.{Ends}
+use Rattle.disk_core.specs.Closing.{HoldsSoFar, TracksSoFar, RecordsSoFar, GatesSoFar, token_owed_so_far, tokens_owed_so_far, RoomSoFar, IsClosing}
+use Rattle.disk_core.proofs.Kept.{kept-record}
+use Rattle.disk_core.proofs.Queued.{queue-without, queue-count}
+use Rattle.disk_core.proofs.Revoked.{filter-mapped, filter-twice, HaveLost, is_ticket_of, revoked-lost, left-gate, gate-left, holder-first, other-ticket, ticket-other, holder-others, others-tickets}
+use Rattle.disk_core.proofs.Links.{AreClosed}
+
+-- ---- records
+
+pub changed-at : (change : Record → Record) (records : Records) (t : ℕ) → record_at (changed change records t) t ≡ option_map change (record_at records t)
+unfolding record_at changed
+changed-at change [] t = refl
+changed-at change (x ∷ records) zero = refl
+changed-at change (x ∷ records) (suc t) = changed-at change records t
+
+pub changed-other : (change : Record → Record) (records : Records) (t u : ℕ) → u ≢ t → record_at (changed change records t) u ≡ record_at records u
+unfolding record_at changed
+changed-other change [] t u other = refl
+changed-other change (x ∷ records) zero zero other = absurd (other refl)
+changed-other change (x ∷ records) zero (suc u) other = refl
+changed-other change (x ∷ records) (suc t) zero other = refl
+changed-other change (x ∷ records) (suc t) (suc u) other = changed-other change records t u (λ same. other (ap suc same))
+
+-- an end keeps the buffer and the event word
+pub kept-ended : (status : Status) (records : Records) (t : ℕ) → kept_of (changed (ended_record status) records t) ≡ kept_of records
+unfolding kept_of changed record_at ended_record
+kept-ended status [] t = refl
+kept-ended status (None ∷ records) zero = refl
+kept-ended status (Some r ∷ records) zero = refl
+kept-ended status (x ∷ records) (suc t) = ap (λ rest. option_map kept_from x ∷ rest) (kept-ended status records t)
+
+mapped-some : (change : Record → Record) (m : Option Record) (r : Record) → option_map change m ≡ Some r → (old : Record) × (m ≡ Some old) × (change old ≡ r)
+mapped-some change None r is = cc
+mapped-some change (Some old) r is = (old, refl, (let e : Some (change old) ≡ Some r = is in cc))
+
+records-step : (S : Setup) (H : List Entry) (marks marks' : ℕ → Option Status) (records : Records) (t : ℕ) (status : Status) → marks' t ≡ Some status → ((u : ℕ) → u ≢ t → marks' u ≡ marks u)
+    → RecordsSoFar S H marks records → RecordsSoFar S H marks' (changed (ended_record status) records t)
+unfolding ended_record IsShown word_for
+records-step S H marks marks' records t status here away follow = record {
+  each = λ u r is. elim (cases_eq u t) [
+    | inl same ↦
+        let old = mapped-some (ended_record status) (record_at records t) r (sym (changed-at (ended_record status) records t) ∙ (ap (record_at (changed (ended_record status) records t)) (sym same) ∙ is)) in
+        let was = follow.each t old.0 old.1 in (
+          was.0,
+          subst (λ v. TracksSoFar S H marks' v r was.0) (sym same) (subst (λ x. TracksSoFar S H marks' t x was.0) old.2 (record {
+            named = was.1.named;
+            viewed = was.1.viewed;
+            asked = was.1.asked;
+            begins = was.1.begins;
+            mark = here;
+            left = λ never. absurd (some-none never);
+          })),
+        )
+    | inr other ↦
+        let was = follow.each u r (sym (changed-other (ended_record status) records t u other) ∙ is) in
+        (was.0, record { named = was.1.named; viewed = was.1.viewed; asked = was.1.asked; begins = was.1.begins; mark = away u other ∙ was.1.mark; left = was.1.left })
+  ];
+  shown = record {
+    each = λ u r is. elim (cases_eq u t) [
+      | inl same ↦
+          let old = mapped-some (ended_record status) (record_at records t) r (sym (changed-at (ended_record status) records t) ∙ (ap (record_at (changed (ended_record status) records t)) (sym same) ∙ is)) in
+          subst (λ (x : Record). x.signaller.told ≡ word_for x.ended) old.2 refl
+      | inr other ↦ follow.shown.each u r (sym (changed-other (ended_record status) records t u other) ∙ is)
+    ];
+  };
+}
+  where
+    some-none : Some status ≡ None → ⊥
+    some-none e = cc
+
+-- ---- what is owed
+
+owed-some : (S : Setup) (H : List Entry) (t : ℕ) (q : Request) (marks marks' : ℕ → Option Status) (status : Status) → request H t ≡ Some q → marks t ≡ None → marks' t ≡ Some status
+    → token_owed_so_far S H marks' t + (commands_owed S H t q + 1) ≤ token_owed_so_far S H marks t
+owed-some S H t q marks marks' status named open_now here = rw (named, open_now, here) (by _)
+  where
+    by : (collected : Bool) → owed_by S H t (Some q) (Some status) collected + (commands_owed S H t q + 1) ≤ commands_owed S H t q + 2
+    by true = omega arith
+    by false = omega arith
+
+owed-same : (S : Setup) (H : List Entry) (marks marks' : ℕ → Option Status) (t n : ℕ) → n ≤ t → ((u : ℕ) → u ≢ t → marks' u ≡ marks u) → tokens_owed_so_far S H marks' n ≡ tokens_owed_so_far S H marks n
+unfolding tokens_owed_so_far
+owed-same S H marks marks' t zero below away = refl
+owed-same S H marks marks' t (suc n) below away =
+    let rest = owed-same S H marks marks' t n (omega arith) away in
+    let one = away n (λ same. absurd (omega arith)) in
+    rw (rest, one) refl
+
+owed-falls : (S : Setup) (H : List Entry) (marks marks' : ℕ → Option Status) (t n paid : ℕ) → t < n → token_owed_so_far S H marks' t + paid ≤ token_owed_so_far S H marks t → ((u : ℕ) → u ≢ t → marks' u ≡ marks u)
+    → tokens_owed_so_far S H marks' n + paid ≤ tokens_owed_so_far S H marks n
+unfolding tokens_owed_so_far
+owed-falls S H marks marks' t zero paid below falls away = absurd (omega arith)
+owed-falls S H marks marks' t (suc n) paid below falls away = elim (cases_eq n t) [
+  | inl same ↦
+      let rest = owed-same S H marks marks' t n (omega arith) away in
+      let one : token_owed_so_far S H marks' n + paid ≤ token_owed_so_far S H marks n = subst (λ m. token_owed_so_far S H marks' m + paid ≤ token_owed_so_far S H marks m) (sym same) falls in
+      omega arith
+  | inr other ↦
+      let rest = owed-falls S H marks marks' t n paid (omega (arith, other)) falls away in
+      let one : token_owed_so_far S H marks' n ≡ token_owed_so_far S H marks n = ap (λ m. owed_by S H n (request H n) m (was_collected H n)) (away n other) in
+      omega arith
+]
+
+owed-within : (S : Setup) (H : List Entry) (marks : ℕ → Option Status) (t n : ℕ) → t < n → token_owed_so_far S H marks t ≤ tokens_owed_so_far S H marks n
+unfolding tokens_owed_so_far
+owed-within S H marks t zero below = absurd (omega arith)
+owed-within S H marks t (suc n) below = elim (cases_eq n t) [
+  | inl same ↦ rw same (omega arith)
+  | inr other ↦ (let rest = owed-within S H marks t n (omega (arith, other)) in omega arith)
+]
+
+-- ---- one end
+
+module _ (S : Setup) (H : List Entry) (marks : ℕ → Option Status) (units : List Todo) (late : ℕ) (c : Core) (t : ℕ) (status : Status) (closing : IsClosing S H marks units late c) (unmarked : marks t ≡ None) (ended : mark_of S H t ≡ Some status) where
+  named : (q : Request) × (request H t ≡ Some q)
+  named = request-some H t (marked-accepted S H t status closing.legal ended)
+
+  owes-open : token_owed_so_far S H marks t ≡ commands_owed S H t named.0 + 2
+  owes-open = rw (named.1, unmarked) refl
+
+  -- the parts have the token open
+  pub open-outstanding : mark_at c.tokens t ≡ Mark.Outstanding
+  unfolding mark_at
+  open-outstanding = by (record_at c.tokens t) refl
+    where
+      gone : record_at c.tokens t ≡ None → ⊥
+      gone none = clash (sym (closing.tokens.gone t (marked-accepted S H t status closing.legal ended) (kept-record c.tokens t ∙ ap (option_map kept_from) none)) ∙ closing.uncollected t unmarked)
+        where
+          clash : true ≡ false → ⊥
+          clash e = cc
+
+      by : (m : Option Record) → record_at c.tokens t ≡ m → mark_of_record (record_at c.tokens t) ≡ Mark.Outstanding
+      by None is = absurd (gone is)
+      by (Some r) is = rw is (ap mark_of_end (sym (closing.records.each t r is).1.mark ∙ unmarked))
+
+  -- and owe its units and the entry that ends it
+  pub open-owed : count_by (is_of t) c.queue + 1 ≤ c.owed
+  open-owed =
+      let few = queue-count (size_of S) t (λ todo. is_none (marks todo.token)) units in
+      let same : count_by (is_of t) c.queue ≡ count_by (is_of t) (map (sub_of (size_of S)) (filter (λ todo. is_none (marks todo.token)) units)) = ap (count_by (is_of t)) closing.queue in
+      let cost = closing.costs t named.0 named.1 in
+      let one = owed-within S H marks t (accepted H) (marked-accepted S H t status closing.legal ended) in
+      let open_ = owes-open in
+      let owes = closing.room.owes in
+      omega arith
+
+  module _ (c' : Core) (marks' : ℕ → Option Status) (ends : Ends c c' t status) (here : marks' t ≡ Some status) (away : (u : ℕ) → u ≢ t → marks' u ≡ marks u) where
+    lost : HaveLost (is_ticket_of t c.holders.items) c.gates c'.gates
+    lost = subst (λ g. HaveLost (is_ticket_of t c.holders.items) c.gates g) (sym ends.gates) (revoked-lost t c.holders.items c.gates)
+
+    was-there : (k : ℕ) (g : Gate) → gate_of c'.gates.held k ≡ Some g → (gate_of c.gates.held k ≡ Some g) × (is_ticket_of t c.holders.items k ≡ false)
+    was-there k g there = left-gate (is_ticket_of t c.holders.items) c.gates.held k g (ap (λ h. gate_of h k) (sym lost.held) ∙ there)
+
+    gates-step : GatesSoFar S H marks' c'.gates c'.holders.items (vec_capacity c'.holders)
+    gates-step = record {
+      sized = lost.size ∙ closing.gates.sized;
+      each = λ k g there. (
+          let old = was-there k g there in
+          let of = closing.gates.each k g old.0 in
+          let other = ticket-other t of.0 c.holders.items k of.1.holder old.1 in (
+            of.0,
+            record {
+              holder = ap (λ l. holder_of l k) ends.holders ∙ holder-others t of.0 c.holders.items k of.1.holder other;
+              holds = record {
+                token = of.1.holds.token;
+                unmarked = away of.0 other ∙ of.1.holds.unmarked;
+                fetched = of.1.holds.fetched;
+                unstored = of.1.holds.unstored;
+                ticket_is = of.1.holds.ticket_is;
+              };
+              lent = of.1.lent;
+              copied = of.1.copied;
+            },
+          )
+          );
+      all = λ u b k holds. (
+          let old = closing.gates.all u b k holds in
+          let of = closing.gates.each k old.0 old.1 in
+          let other : of.0 ≢ t = (λ same. marked-open u b k holds (sym (ticket-one H of.0 u old.0.block b k of.1.holds.ticket_is holds.ticket_is).0 ∙ same)) in
+          (old.0, ap (λ h. gate_of h k) lost.held ∙ gate-left (is_ticket_of t c.holders.items) c.gates.held k old.0 old.1 (other-ticket t of.0 c.holders.items k closing.gates.rising of.1.holder other), old.2)
+          );
+      below = λ k out. closing.gates.below k (lost.within k out);
+      apart = lost.sound closing.gates.apart;
+      paired =
+          ap (map (λ h. h.ticket)) ends.holders ∙ (others-tickets t c.holders.items closing.gates.rising
+          ∙ (ap (filter (λ k. not (is_ticket_of t c.holders.items k))) closing.gates.paired
+          ∙ (filter-mapped (λ k. not (is_ticket_of t c.holders.items k)) (λ (g : Gate). g.ticket) c.gates.held ∙ ap (map (λ g. g.ticket)) (sym lost.held))));
+      rising = subst (λ l. Ordered IsEarlier l) (sym ends.holders) (ordered-filter IsEarlier (λ h. not (nat_eq t h.token)) c.holders.items closing.gates.rising);
+      fits = (let fits = closing.gates.fits in let less = lost.fits in let same = ends.rest.places in omega arith);
+    }
+      where
+        marked-open : (u b k : ℕ) → HoldsBy S H u b k → u ≢ t
+        marked-open u b k holds same = clash (sym (ap (mark_of S H) same ∙ ended) ∙ holds.holds.outstanding.unmarked)
+          where
+            clash : Some status ≡ None → ⊥
+            clash e = cc
+
+    room-step : RoomSoFar S H marks' (late - 1) c'
+    room-step =
+        let few = queue-count (size_of S) t (λ todo. is_none (marks todo.token)) units in
+        let same : count_by (is_of t) c.queue ≡ count_by (is_of t) (map (sub_of (size_of S)) (filter (λ todo. is_none (marks todo.token)) units)) = ap (count_by (is_of t)) closing.queue in
+        let cost = closing.costs t named.0 named.1 in
+        let falls = owed-falls S H marks marks' t (accepted H) (commands_owed S H t named.0 + 1) (marked-accepted S H t status closing.legal ended) (owed-some S H t named.0 marks marks' status named.1 unmarked here) away in
+        let owes = closing.room.owes in
+        let places = closing.room.places in
+        let length_few = closing.room.few in
+        let paid = ends.owed in
+        let spare : c'.history.spare ≡ c.history.spare = ap (λ h. h.spare) ends.rest.history in
+        record { owes = omega arith; places = omega arith; few = omega arith }
+
+    -- one end more has come to the parts
+    pub closing-step : IsClosing S H marks' units (late - 1) c'
+    closing-step = record {
+      entries = ap (λ h. h.entries) ends.rest.history ∙ closing.entries;
+      setup = closing.setup;
+      legal = closing.legal;
+      tokens = subst (KeptFollow S H) (sym (ap kept_of ends.tokens ∙ kept-ended status c.tokens t)) closing.tokens;
+      uncollected = λ u open_now. elim (cases_eq u t) [
+        | inl same ↦ absurd (clash (sym here ∙ (ap marks' (sym same) ∙ open_now)))
+        | inr other ↦ closing.uncollected u (sym (away u other) ∙ open_now)
+      ];
+      records = subst (RecordsSoFar S H marks') (sym ends.tokens) (records-step S H marks marks' c.tokens t status here away closing.records);
+      queue = ends.queue ∙ (ap (without_token t) closing.queue ∙ queue-without (size_of S) t (λ todo. is_none (marks todo.token)) (λ todo. is_none (marks' todo.token)) units
+          (λ todo is. ap (λ u. is_none (marks' u)) is ∙ ap is_none here) (λ todo isnt. ap is_none (away todo.token isnt)));
+      costs = closing.costs;
+      gates = gates-step;
+      room = room-step;
+    }
+      where
+        clash : Some status ≡ None → ⊥
+        clash e = cc
+
+-- ---- after the last end
+
+gate-listed : (held : List Gate) (i k : ℕ) → slice_get (map (λ g. g.ticket) held) i ≡ Some k → (g : Gate) × (gate_of held k ≡ Some g)
+unfolding gate_of
+gate-listed [] i k there = cc
+gate-listed (h ∷ held) zero k there = (h, rw (eq-eqb k h.ticket (let e : Some h.ticket ≡ Some k = there in cc)) refl)
+gate-listed (h ∷ held) (suc i) k there = elim (cases_Bool (nat_eq k h.ticket)) [
+  | inl here ↦ (h, rw here refl)
+  | inr other ↦ (let rest = gate-listed held i k there in (rest.0, rw other rest.1))
+]
+
+-- each holder has its gate
+pub holder-gate : (holders : List Holder) (held : List Gate) (k t : ℕ) → map (λ h. h.ticket) holders ≡ map (λ g. g.ticket) held → holder_of holders k ≡ Some t → (g : Gate) × (gate_of held k ≡ Some g)
+holder-gate holders held k t paired is =
+    let first = holder-first holders k t is in
+    gate-listed held first.0 k (ap (λ l. slice_get l first.0) (sym paired) ∙ (slice_get-map (λ (h : Holder). h.ticket) holders first.0 ∙ (ap (option_map (λ (h : Holder). h.ticket)) first.2 ∙ ap Some first.3)))
+
+owed-all : (S : Setup) (H : List Entry) (n : ℕ) → tokens_owed_so_far S H (mark_of S H) n ≡ tokens_owed S H n
+unfolding tokens_owed_so_far tokens_owed token_owed
+owed-all S H zero = refl
+owed-all S H (suc n) = ap (λ m. m + token_owed_so_far S H (mark_of S H) n) (owed-all S H n)
+
+module _ (S : Setup) (H : List Entry) (units : List Todo) (late : ℕ) (c : Core) (closing : IsClosing S H (mark_of S H) units late c) where
+  held-by : (k t b : ℕ) → HoldsSoFar H (mark_of S H) t b k → HoldsBy S H t b k
+  held-by k t b so_far = record {
+    holds = record {
+      outstanding = record { token = so_far.token; unmarked = so_far.unmarked };
+      fetched = so_far.fetched;
+      unstored = so_far.unstored;
+    };
+    ticket_is = so_far.ticket_is;
+  }
+
+  closed-gates : GatesFollow S H c.gates
+  closed-gates = record {
+    sized = closing.gates.sized;
+    each = λ k g there. (
+        let of = closing.gates.each k g there in
+        (of.0, record { holds = held-by k of.0 g.block of.1.holds; lent = of.1.lent of.1.holds.unmarked; copied = of.1.copied of.1.holds.unmarked })
+        );
+    all = closing.gates.all;
+    below = closing.gates.below;
+  }
+
+  closed-holders : HoldersFollow S H c.gates c.holders.items (vec_capacity c.holders)
+  closed-holders = record {
+    each = λ k t b holds. (
+        let there = closing.gates.all t b k holds in
+        let of = closing.gates.each k there.0 there.1 in
+        of.1.holder ∙ ap Some (ticket-one H of.0 t there.0.block b k of.1.holds.ticket_is holds.ticket_is).0
+        );
+    only = λ k t is. (
+        let there = holder-gate c.holders.items c.gates.held k t closing.gates.paired is in
+        let of = closing.gates.each k there.0 there.1 in
+        let same : of.0 ≡ t = (let e : Some of.0 ≡ Some t = sym of.1.holder ∙ is in cc) in
+        (there.0.block, subst (λ u. HoldsBy S H u there.0.block k) same (held-by k of.0 there.0.block of.1.holds))
+        );
+    apart = closing.gates.apart;
+    paired = closing.gates.paired;
+    rising = closing.gates.rising;
+    fits = closing.gates.fits;
+  }
+
+  closed-room : c.owed ≤ c.history.spare → HasRoom S c
+  unfolding owed_entries
+  closed-room places =
+      let owes = closing.room.owes in
+      let all = owed-all S H (accepted H) in
+      let few = closing.room.few in
+      subst (λ h. HasRoom S (record c { history = record { entries = h; spare = c.history.spare } })) (sym closing.entries)
+      (record { owed = omega arith; places = places; few = omega arith })
+
+  -- the parts follow the history again
+  pub closed-all : filter (λ todo. is_none (mark_of S H todo.token)) units ≡ pending S H → c.owed ≤ c.history.spare → AreClosed S H c
+  closed-all units_are places = record {
+    entries = closing.entries;
+    geometry = closing.setup;
+    legal = closing.legal;
+    tokens = closing.tokens;
+    gates = closed-gates;
+    records = record {
+      each = λ t r is. (let was = closing.records.each t r is in (was.0, record { named = was.1.named; viewed = was.1.viewed; asked = was.1.asked; begins = was.1.begins; mark = was.1.mark; left = was.1.left }));
+      shown = closing.records.shown;
+    };
+    queue = closing.queue ∙ ap (map (sub_of (size_of S))) units_are;
+    holders = closed-holders;
+    room = closed-room places;
+  }

@@ -1,0 +1,223 @@
+-- Records and kept buffers after a done command.
+use Rattle.std.proofs.Common.{◌≡◌, ◌≢◌, ℕ, zero, suc, ◌+◌, ◌-◌, ◌*◌, ◌<◌, ◌≤◌, ◌⊎◌, inl, inr, Bool, true, false, not, ◌&&◌, List, [], ◌∷◌, length, map, slice_get, Option, None, Some, refl, sym, ◌∙◌, ap, subst, arith}
+use Rattle.std.specs.Prelude.{slice_set, slice_index_or}
+use Rattle.std.specs.Option.{option_map}
+use Rattle.std.proofs.lemmas.Bool.{cases_Bool, cases_eq, and_left}
+use Rattle.efi_status.specs.declared.Status.{Status}
+use Rattle.history.specs.declared.entry.Command.{Command}
+use Rattle.history.specs.declared.entry.Entry.{Entry}
+use Rattle.history.specs.declared.entry.Entry.TheVariants.{Done}
+use Rattle.history.specs.Setup.{Setup, IsSetup, size_of}
+use Rattle.history.specs.Tokens.{Request, accepted, request, was_collected}
+use Rattle.history.specs.Commands.{is_get, lies_in, first_block, block_count}
+use Rattle.history.specs.Contents.{bytes_read}
+use Rattle.history.specs.Marks.{mark_of}
+use Rattle.history.specs.Tasks.{Task, tasks_of, is_finished}
+use Rattle.history_laws.specs.Left.{task_bytes, left_of}
+use Rattle.history_laws.specs.Told.{concerns}
+use Rattle.history_laws.proofs.CountLemmas.{accepted-same}
+use Rattle.history_laws.proofs.PendingLemmas.{finished-same}
+use Rattle.history_laws.proofs.TokenLemmas.{request-same, request-stays, mark-other, done_commands-other, done-concerns, collected-same, bytes_read-other, bytes_read-kept}
+use Rattle.token_table.specs.declared.record.Record.{Record}
+use Rattle.token_table.specs.Records.{Records, record_at, changed, lower_record, ended_record, IsShown, AreShown, word_for}
+use Rattle.disk_core.specs.State.{Kept, kept_at}
+use Rattle.disk_core.specs.Facts.{IsBuffer, KeptFollow}
+use Rattle.disk_core.specs.Parts.{kept_from, kept_of}
+use Rattle.disk_core.specs.Inside.{Tracks, RecordsFollow}
+use Rattle.disk_core.specs.Closing.{TracksSoFar, RecordsSoFar}
+use Rattle.disk_core.proofs.HistoryUnits.{FinishesTask, left-falls}
+use Rattle.std.specs.Prelude.{filter, sum_by}
+
+-- records
+pub changed-at : (change : Record → Record) (records : Records) (t : ℕ) → record_at (changed change records t) t ≡ option_map change (record_at records t)
+unfolding record_at changed
+changed-at change [] t = refl
+changed-at change (r ∷ records) zero = refl
+changed-at change (r ∷ records) (suc t) = changed-at change records t
+
+pub changed-other : (change : Record → Record) (records : Records) (t u : ℕ) → t ≢ u → record_at (changed change records t) u ≡ record_at records u
+unfolding record_at changed
+changed-other change [] t u other = refl
+changed-other change (r ∷ records) zero zero other = absurd (other refl)
+changed-other change (r ∷ records) zero (suc u) other = refl
+changed-other change (r ∷ records) (suc t) zero other = refl
+changed-other change (r ∷ records) (suc t) (suc u) other = changed-other change records t u (λ same. other (ap suc same))
+
+kept-same : (change : Record → Record) → ((r : Record) → kept_from (change r) ≡ kept_from r) → (o : Option Record) → option_map kept_from (option_map change o) ≡ option_map kept_from o
+kept-same change same None = refl
+kept-same change same (Some r) = ap Some (same r)
+
+-- a change of a record that leaves its buffer and its event's word is not seen
+pub kept-changed : (change : Record → Record) → ((r : Record) → kept_from (change r) ≡ kept_from r) → (records : Records) (t : ℕ) → kept_of (changed change records t) ≡ kept_of records
+unfolding kept_of changed record_at
+kept-changed change same [] t = refl
+kept-changed change same (o ∷ records) zero = ap (λ x. x ∷ map (option_map kept_from) records) (kept-same change same o)
+kept-changed change same (o ∷ records) (suc t) = ap (λ rest. option_map kept_from o ∷ rest) (kept-changed change same records t)
+
+pub kept-lowered : (by : ℕ) (r : Record) → kept_from (lower_record by r) ≡ kept_from r
+unfolding lower_record
+kept-lowered by r = refl
+
+pub kept-ended : (status : Status) (r : Record) → kept_from (ended_record status r) ≡ kept_from r
+unfolding ended_record
+kept-ended status r = refl
+
+shown-lowered : (by : ℕ) (r : Record) → IsShown r → IsShown (lower_record by r)
+unfolding IsShown lower_record
+shown-lowered by r shown = shown
+
+pub left-other : (S : Setup) (H : List Entry) (e : Entry) (t : ℕ) (q : Request) → concerns H e t ≡ false → left_of S (e ∷ H) t q ≡ left_of S H t q
+unfolding left_of
+left-other S H e t q quiet = λ i. sum_by task_bytes (filter (λ task. not (finished-same S H (e ∷ H) t task (done_commands-other S H e t quiet) i)) (tasks_of S q))
+
+some-same : {X : Type 0} (x y : X) → Some x ≡ Some y → x ≡ y
+some-same x y e = cc
+
+no-some : {X : Type 0} (x : X) → None ≡ Some x → ⊥
+no-some x e = cc
+
+far-other : (S : Setup) (H : List Entry) (e : Entry) (t : ℕ) (r : Record) (q : Request) → concerns H e t ≡ false → Tracks S H t r q → TracksSoFar S (e ∷ H) (mark_of S H) t r q
+far-other S H e t r q quiet is = record {
+  named = request-stays H e t q is.named;
+  viewed = is.viewed;
+  asked = is.asked;
+  begins = is.begins;
+  mark = is.mark;
+  left = λ unended. is.left unended ∙ sym (left-other S H e t q quiet);
+}
+
+far-lowered : (S : Setup) (H : List Entry) (t : ℕ) (c : Command) (q : Request) (task : Task) (r : Record) (p : Request) → IsSetup S → FinishesTask S H t c q task → mark_of S H t ≡ None → Tracks S H t r p
+    → TracksSoFar S (Done t c ∷ H) (mark_of S H) t (lower_record (task_bytes task) r) p
+unfolding lower_record
+far-lowered S H t c q task r p is finishes unmarked tracks =
+    let same : q ≡ p = some-same q p (sym finishes.named ∙ tracks.named) in
+    let fall : left_of S (Done t c ∷ H) t p + task_bytes task ≡ left_of S H t p = subst (λ v. left_of S (Done t c ∷ H) t v + task_bytes task ≡ left_of S H t v) same (left-falls S H t c q task is finishes) in
+    let was = tracks.left (sym tracks.mark ∙ unmarked) in
+    record {
+      named = request-stays H (Done t c) t p tracks.named;
+      viewed = tracks.viewed;
+      asked = tracks.asked;
+      begins = tracks.begins;
+      mark = tracks.mark;
+      left = λ unended. omega arith;
+    }
+
+-- the records where the unit was finished; its token ends only later
+pub records-lowered : (S : Setup) (H : List Entry) (t : ℕ) (c : Command) (q : Request) (task : Task) (records : Records) → IsSetup S → FinishesTask S H t c q task → mark_of S H t ≡ None → RecordsFollow S H records
+    → RecordsSoFar S (Done t c ∷ H) (mark_of S H) (changed (lower_record (task_bytes task)) records t)
+records-lowered S H t c q task records is finishes unmarked follow = record { each = each; shown = record { each = shown } }
+  where
+    change : Record → Record
+    change = lower_record (task_bytes task)
+
+    before : (o : Option Record) (r : Record) → record_at records t ≡ o → option_map change o ≡ Some r → (r' : Record) × (record_at records t ≡ Some r') × (change r' ≡ r)
+    before None r there e = absurd (no-some r e)
+    before (Some r') r there e = (r', there, some-same (change r') r e)
+
+    own : (u : ℕ) (r : Record) → t ≡ u → record_at (changed change records t) u ≡ Some r → (r' : Record) × (record_at records t ≡ Some r') × (change r' ≡ r)
+    own u r same there = before (record_at records t) r refl (sym (changed-at change records t) ∙ (ap (record_at (changed change records t)) same ∙ there))
+
+    each : (u : ℕ) (r : Record) → record_at (changed change records t) u ≡ Some r → (p : Request) × TracksSoFar S (Done t c ∷ H) (mark_of S H) u r p
+    each u r there = elim (cases_eq t u) [
+      | inr other ↦ (let old = follow.each u r (sym (changed-other change records t u other) ∙ there) in (old.0, far-other S H (Done t c) u r old.0 (done-concerns H t u c other) old.1))
+      | inl same ↦
+          (let was = own u r same there in
+          let old = follow.each t was.0 was.1 in
+          (old.0, subst (λ v. TracksSoFar S (Done t c ∷ H) (mark_of S H) v r old.0) same (subst (λ v. TracksSoFar S (Done t c ∷ H) (mark_of S H) t v old.0) was.2 (far-lowered S H t c q task was.0 old.0 is finishes unmarked old.1))))
+    ]
+
+    shown : (u : ℕ) (r : Record) → record_at (changed change records t) u ≡ Some r → IsShown r
+    shown u r there = elim (cases_eq t u) [
+      | inr other ↦ follow.shown.each u r (sym (changed-other change records t u other) ∙ there)
+      | inl same ↦ (let was = own u r same there in subst IsShown was.2 (shown-lowered (task_bytes task) was.0 (follow.shown.each t was.0 was.1)))
+    ]
+
+-- they follow where all marks are those of the history
+pub records-follow : (S : Setup) (H : List Entry) (marks : ℕ → Option Status) (records : Records) → ((u : ℕ) → marks u ≡ mark_of S H u) → RecordsSoFar S H marks records → RecordsFollow S H records
+records-follow S H marks records same far = record {
+  each = λ u r there. (let old = far.each u r there in (
+    old.0,
+    record {
+      named = old.1.named;
+      viewed = old.1.viewed;
+      asked = old.1.asked;
+      begins = old.1.begins;
+      mark = sym (same u) ∙ old.1.mark;
+      left = old.1.left;
+    },
+  ));
+  shown = far.shown;
+}
+
+shown-ended : (status : Status) (r : Record) → IsShown (ended_record status r)
+unfolding IsShown ended_record word_for
+shown-ended status r = refl
+
+far-ended : (S : Setup) (H : List Entry) (marks : ℕ → Option Status) (t : ℕ) (status : Status) (r : Record) (p : Request) → mark_of S H t ≡ Some status → TracksSoFar S H marks t r p → Tracks S H t (ended_record status r) p
+unfolding ended_record
+far-ended S H marks t status r p ended is = record {
+  named = is.named;
+  viewed = is.viewed;
+  asked = is.asked;
+  begins = is.begins;
+  mark = ended;
+  left = λ unended. absurd (no-none status unended);
+}
+  where
+    no-none : (s : Status) → Some s ≡ None → ⊥
+    no-none s e = cc
+
+-- and after the end of the one token that the history ended
+pub records-ended : (S : Setup) (H : List Entry) (marks : ℕ → Option Status) (t : ℕ) (status : Status) (records : Records) → mark_of S H t ≡ Some status → ((u : ℕ) → t ≢ u → marks u ≡ mark_of S H u) → RecordsSoFar S H marks records
+    → RecordsFollow S H (changed (ended_record status) records t)
+records-ended S H marks t status records ended same far = record { each = each; shown = record { each = shown } }
+  where
+    change : Record → Record
+    change = ended_record status
+
+    before : (o : Option Record) (r : Record) → record_at records t ≡ o → option_map change o ≡ Some r → (r' : Record) × (record_at records t ≡ Some r') × (change r' ≡ r)
+    before None r there e = absurd (no-some r e)
+    before (Some r') r there e = (r', there, some-same (change r') r e)
+
+    own : (u : ℕ) (r : Record) → t ≡ u → record_at (changed change records t) u ≡ Some r → (r' : Record) × (record_at records t ≡ Some r') × (change r' ≡ r)
+    own u r one there = before (record_at records t) r refl (sym (changed-at change records t) ∙ (ap (record_at (changed change records t)) one ∙ there))
+
+    each : (u : ℕ) (r : Record) → record_at (changed change records t) u ≡ Some r → (p : Request) × Tracks S H u r p
+    each u r there = elim (cases_eq t u) [
+      | inr other ↦
+          (let old = far.each u r (sym (changed-other change records t u other) ∙ there) in
+          (old.0, record { named = old.1.named; viewed = old.1.viewed; asked = old.1.asked; begins = old.1.begins; mark = sym (same u other) ∙ old.1.mark; left = old.1.left }))
+      | inl one ↦
+          (let was = own u r one there in
+          let old = far.each t was.0 was.1 in
+          (old.0, subst (λ v. Tracks S H v r old.0) one (subst (λ v. Tracks S H t v old.0) was.2 (far-ended S H marks t status was.0 old.0 ended old.1))))
+    ]
+
+    shown : (u : ℕ) (r : Record) → record_at (changed change records t) u ≡ Some r → IsShown r
+    shown u r there = elim (cases_eq t u) [
+      | inr other ↦ far.shown.each u r (sym (changed-other change records t u other) ∙ there)
+      | inl one ↦ (let was = own u r one there in subst IsShown was.2 (shown-ended status was.0))
+    ]
+
+-- what was read stays, where the command is no get
+read-same : (S : Setup) (H : List Entry) (t u x : ℕ) (c : Command) → is_get c ≡ false → bytes_read S (Done t c ∷ H) u x ≡ bytes_read S H u x
+read-same S H t u x c quiet = elim (cases_eq t u) [
+  | inr other ↦ bytes_read-other S H (Done t c) u x (done-concerns H t u c other)
+  | inl same ↦ subst (λ v. bytes_read S (Done t c ∷ H) v x ≡ bytes_read S H v x) same (bytes_read-kept S H t x c (and_left (is_get c) (lies_in S (first_block c) (block_count S c) x) quiet))
+]
+
+pub buffer-same : (S : Setup) (H : List Entry) (e : Entry) (t : ℕ) (q : Request) (buffer : List ℕ) → ((x : ℕ) → bytes_read S (e ∷ H) t x ≡ bytes_read S H t x) → IsBuffer S H t q buffer → IsBuffer S (e ∷ H) t q buffer
+buffer-same S H e t q buffer same is = record {
+  named = request-stays H e t q is.named;
+  long = is.long;
+  bytes = is.bytes;
+  given = λ reads x v from until read. is.given reads x v from until (sym (same x) ∙ read);
+}
+
+-- the buffers, where the command is no get
+pub kept-done : (S : Setup) (H : List Entry) (t : ℕ) (c : Command) (kept : List (Option Kept)) → is_get c ≡ false → KeptFollow S H kept → KeptFollow S (Done t c ∷ H) kept
+kept-done S H t c kept quiet follow = record {
+  counted = follow.counted ∙ sym (accepted-same H (Done t c) refl);
+  there = λ u k is. (let old = follow.there u k is in (collected-same H (Done t c) u refl ∙ old.0, (old.1.0, buffer-same S H (Done t c) u old.1.0 k.buffer (λ x. read-same S H t u x c quiet) old.1.1)));
+  gone = λ u lt none. collected-same H (Done t c) u refl ∙ follow.gone u (subst (λ n. u < n) (accepted-same H (Done t c) refl) lt) none;
+}

@@ -1,0 +1,52 @@
+-- Each medium follows the history through an entry that is no command.
+use Rattle.std.proofs.Common.{◌≡◌, ℕ, ◌≤◌, Bool, true, false, List, ◌∷◌, refl, sym, ◌∙◌, arith, subst}
+use Rattle.medium.specs.Device.{Device}
+use Rattle.history.specs.declared.entry.Entry.{Entry}
+use Rattle.history.specs.declared.entry.Entry.TheVariants.{Accept, Refuse, Done, Fault, Collect, Cancel, Reset, Eject, Insert, Protect}
+use Rattle.history.specs.Setup.{Setup}
+use Rattle.history.specs.Eras.{is_command, is_fault, era_count}
+use Rattle.history_laws.proofs.ContentLemmas.{is_flush_entry, contents-same, kept-same, piece-none}
+use Rattle.history_laws.proofs.EraLemmas.{era_count-same}
+use Rattle.disk_core.specs.Facts.{MeetsEra}
+
+clash : true ≡ false → ⊥
+clash e = cc
+
+flush-none : (e : Entry) → is_command e ≡ false → is_flush_entry e ≡ false
+flush-none (Accept tag view asked bytes) still = refl
+flush-none (Refuse tag view asked media_id status) still = refl
+flush-none (Done t c) still = absurd (clash still)
+flush-none (Fault t c done) still = refl
+flush-none (Collect tag t) still = refl
+flush-none (Cancel tag view) still = refl
+flush-none (Reset tag) still = refl
+flush-none (Eject tag) still = refl
+flush-none (Insert tag k) still = refl
+flush-none (Protect tag on) still = refl
+
+fault-none : (e : Entry) → is_command e ≡ false → is_fault e ≡ false
+fault-none (Accept tag view asked bytes) still = refl
+fault-none (Refuse tag view asked media_id status) still = refl
+fault-none (Done t c) still = refl
+fault-none (Fault t c done) still = still
+fault-none (Collect tag t) still = refl
+fault-none (Cancel tag view) still = refl
+fault-none (Reset tag) still = refl
+fault-none (Eject tag) still = refl
+fault-none (Insert tag k) still = refl
+fault-none (Protect tag on) still = refl
+
+pub era-still : (S : Setup) (H : List Entry) (e : Entry) (k : ℕ) (d : Device) → is_command e ≡ false → MeetsEra S H k d → MeetsEra S (e ∷ H) k d
+era-still S H e k d still meets =
+    let piece = piece-none S H e still in
+    let faults = era_count-same is_fault k H e (fault-none e still) in
+    record {
+      opening = meets.opening;
+      size = meets.size;
+      cached = meets.cached;
+      now = meets.now ∙ sym (contents-same S k H e piece);
+      kept = meets.kept ∙ sym (kept-same S k H e (flush-none e still) piece);
+      calls = meets.calls ∙ sym (era_count-same is_command k H e still);
+      failed = meets.failed ∙ sym faults;
+      faults = subst (λ n. n ≤ d.faults) (sym faults) meets.faults;
+    }

@@ -1,0 +1,170 @@
+-- What a store puts on the medium, done or failed: its group with the token's bytes put in patches it as those bytes alone do.
+use Rattle.std.proofs.Common.{◌≡◌, ℕ, zero, suc, ◌+◌, ◌-◌, ◌*◌, ◌<◌, ◌≤◌, inl, inr, List, [], ◌∷◌, length, take, drop, slice_get, Option, None, Some, option_map, refl, sym, ◌∙◌, ap, subst, arith}
+use Rattle.std.specs.Prelude.{min}
+use Rattle.std.proofs.lemmas.Bool.{cases_lt, lt-ltb, le-ltb}
+use Rattle.std.proofs.lemmas.List.{length-take, take_all}
+use Rattle.std.proofs.lemmas.Nat.{mul-le}
+use Rattle.byte_lists.specs.Patching.{patch}
+use Rattle.byte_lists.proofs.Patched.{length-patch}
+use Rattle.byte_lists.proofs.Patches.{patch-in, patch-before, patch-behind, patch-block, patch-nothing, same-bytes, part-byte}
+use Rattle.medium.specs.Device.{AreToldAt, patch_told}
+use Rattle.disk_split.specs.declared.span.Span.{Span}
+use Rattle.history.specs.declared.entry.Command.TheVariants.{Store}
+use Rattle.history.specs.declared.entry.Entry.{Entry}
+use Rattle.history.specs.declared.entry.Entry.TheVariants.{Done, Fault}
+use Rattle.history.specs.Setup.{Setup, size_of}
+use Rattle.history.specs.Eras.{media_id_of}
+use Rattle.history.specs.Tokens.{Request, request, request_bytes, from_of}
+use Rattle.history.specs.Contents.{contents, bytes_between, piece_between, piece_of}
+use Rattle.history_laws.specs.Units.{IsUnitCommand}
+use Rattle.history_laws.proofs.ContentLemmas.{contents-piece, contents-same}
+use Rattle.history_laws.proofs.PieceLemmas.{done-contents, fault-piece, piece_at}
+
+-- the first bytes of a list
+get-take : (n : ℕ) (xs : List ℕ) (j : ℕ) → j < n → slice_get (take n xs) j ≡ slice_get xs j
+get-take n xs j lt = part-byte xs 0 n j lt ∙ ap (slice_get xs) (let e : 0 + j ≡ j = omega arith in e)
+
+-- the first bytes of a patched block that is put back
+pub first-bytes : (b : List ℕ) (at : ℕ) (block : List ℕ) (skip : ℕ) (p : List ℕ) (n : ℕ) → at + length block ≤ length b → skip + length p ≤ length block → n ≤ length block
+    → ((j : ℕ) → j < length block → slice_get block j ≡ slice_get b (at + j)) → patch b at (take n (patch block skip p)) ≡ patch b (at + skip) (take (n - skip) p)
+first-bytes b at block skip p n fits inside few same =
+    let long = front-long in
+    let piece = piece-long in
+    same-bytes (patch b at front) (patch b (at + skip) (take (n - skip) p))
+    (length-patch b at front (omega arith) ∙ sym (length-patch b (at + skip) (take (n - skip) p) (omega arith)))
+    (λ i lt. elim (cases_lt i at) [
+      | inl below ↦ patch-before b at front i (omega arith) below ∙ sym (patch-before b (at + skip) (take (n - skip) p) i (omega arith) (omega arith))
+      | inr above ↦ elim (cases_lt i (at + n)) [
+        | inr behind ↦ patch-behind b at front i (omega arith) (omega arith) ∙ elim (cases_lt i (at + skip)) [
+          | inl under ↦ sym (patch-before b (at + skip) (take (n - skip) p) i (omega arith) under)
+          | inr over ↦ sym (patch-behind b (at + skip) (take (n - skip) p) i (omega arith) (omega arith))
+        ]
+        | inl within ↦ inside-first i above within
+      ]
+    ])
+  where
+    front : List ℕ
+    front = take n (patch block skip p)
+
+    whole : length (patch block skip p) ≡ length block
+    whole = length-patch block skip p inside
+
+    front-long : length front ≡ n
+    front-long = simp length-take (omega (arith, whole))
+
+    piece-long : length (take (n - skip) p) ≡ min (n - skip) (length p)
+    piece-long = length-take (n - skip) p
+
+    put : patch b at (patch block skip p) ≡ patch b (at + skip) p
+    put = patch-block b at block skip p fits inside same
+
+    inside-first : (i : ℕ) → at ≤ i → i < at + n → slice_get (patch b at front) i ≡ slice_get (patch b (at + skip) (take (n - skip) p)) i
+    inside-first i above within =
+        let long = front-long in
+        let piece = piece-long in
+        let all = whole in
+        patch-in b at front i (omega arith) above (omega arith) ∙ get-take n (patch block skip p) (i - at) (omega arith)
+        ∙ sym (patch-in b at (patch block skip p) i (omega arith) above (omega arith)) ∙ ap (λ xs. slice_get xs i) put
+        ∙ elim (cases_lt i (at + skip)) [
+          | inl under ↦ patch-before b (at + skip) p i (omega arith) under ∙ sym (patch-before b (at + skip) (take (n - skip) p) i (omega arith) under)
+          | inr over ↦ elim (cases_lt i (at + skip + length p)) [
+            | inl in_piece ↦
+                patch-in b (at + skip) p i (omega arith) over in_piece ∙ sym (get-take (n - skip) p (i - (at + skip)) (omega arith))
+                ∙ sym (patch-in b (at + skip) (take (n - skip) p) i (omega arith) over (omega arith))
+            | inr past ↦ patch-behind b (at + skip) p i (omega arith) past ∙ sym (patch-behind b (at + skip) (take (n - skip) p) i (omega arith) (omega arith))
+          ]
+        ]
+
+take-less : (m n : ℕ) (xs : List ℕ) → m ≤ n → take m (take n xs) ≡ take m xs
+take-less zero n xs le = refl
+take-less (suc m) zero xs le = absurd (omega arith)
+take-less (suc m) (suc n) [] le = refl
+take-less (suc m) (suc n) (x ∷ xs) le = ap (λ ys. x ∷ ys) (take-less m n xs (omega arith))
+
+-- the bytes of a request before a nearer end
+take-between : (S : Setup) (q : Request) (low high m : ℕ) → take m (bytes_between S q low high) ≡ bytes_between S q low (low + min m (high - low))
+take-between S q low high m =
+    let xs = drop (low - from_of S q) (request_bytes q) in
+    let count : low + min m (high - low) - low ≡ min m (high - low) = omega arith in
+    elim (cases_lt m (high - low)) [
+      | inl less ↦ take-less m (high - low) xs (omega arith) ∙ ap (λ n. take n xs) (let e : m ≡ low + min m (high - low) - low = omega arith in e)
+      | inr more ↦
+          take_all m (take (high - low) xs) (simp length-take (omega arith)) ∙ ap (λ n. take n xs) (let e : high - low ≡ low + min m (high - low) - low = omega arith in e)
+    ]
+
+module _ (S : Setup) (H : List Entry) (t : ℕ) (q : Request) (u : Span) (named : request H t ≡ Some q) (of : IsUnitCommand S q (Store u.block) u) (copy : List ℕ) (long : length copy ≡ u.count * size_of S)
+    (room : (bytes : List ℕ) → contents S (media_id_of H) H ≡ Some bytes → (u.block + u.count) * size_of S ≤ length bytes) (told : AreToldAt (contents S (media_id_of H) H) (u.block * size_of S) copy)
+    (put : length (bytes_between S q u.low u.high) ≡ u.high - u.low) where
+  abbrev at : ℕ
+  at = u.block * size_of S
+
+  abbrev skip : ℕ
+  skip = u.low - u.block * size_of S
+
+  abbrev group : List ℕ
+  group = patch copy skip (bytes_between S q u.low u.high)
+
+  copy-byte : (bytes : List ℕ) → contents S (media_id_of H) H ≡ Some bytes → (j : ℕ) → j < length copy → slice_get copy j ≡ slice_get bytes (at + j)
+  copy-byte bytes is j lt = ap (λ xs. slice_get xs j) (subst (λ m. AreToldAt m at copy) is told) ∙ part-byte bytes at (length copy) j lt
+
+  fits : (bytes : List ℕ) → contents S (media_id_of H) H ≡ Some bytes → at + length copy ≤ length bytes
+  fits bytes is = (let all = room bytes is in let sum : (u.block + u.count) * size_of S ≡ at + u.count * size_of S = omega arith in omega arith)
+
+  within : skip + length (bytes_between S q u.low u.high) ≤ length copy
+  within = (let low = of.unit.low in let high = of.unit.high in let sum : (u.block + u.count) * size_of S ≡ at + u.count * size_of S = omega arith in omega arith)
+
+  begins : at + skip ≡ u.low
+  begins = (let low = of.unit.low in omega arith)
+
+  -- a done store
+  pub stored-done : patch_told (contents S (media_id_of H) H) at group ≡ contents S (media_id_of H) (Done t (Store u.block) ∷ H)
+  stored-done = by (contents S (media_id_of H) H) refl ∙ sym (done-contents S (media_id_of H) H t (Store u.block) q u refl named of refl)
+    where
+      by : (m : Option (List ℕ)) → contents S (media_id_of H) H ≡ m → patch_told m at group ≡ option_map (λ bytes. patch bytes u.low (bytes_between S q u.low u.high)) m
+      by None is = refl
+      by (Some bytes) is = ap Some (patch-block bytes at copy skip (bytes_between S q u.low u.high) (fits bytes is) within (copy-byte bytes is) ∙ ap (λ n. patch bytes n (bytes_between S q u.low u.high)) begins)
+
+  -- a store that failed after its first blocks
+  pub stored-failed : (done : ℕ) → done ≤ u.count → patch_told (contents S (media_id_of H) H) at (take (done * size_of S) group) ≡ contents S (media_id_of H) (Fault t (Store u.block) done ∷ H)
+  stored-failed done few = elim (cases_lt u.low high) [
+    | inl some ↦ by (contents S (media_id_of H) H) refl some ∙ sym (contents-piece S (media_id_of H) H e (piece_at S t q u.low high) refl (piece ∙ rw (lt-ltb u.low high some) refl))
+    | inr none ↦ over (contents S (media_id_of H) H) refl none ∙ sym (contents-same S (media_id_of H) H e (piece ∙ rw (le-ltb u.low high none) refl))
+  ]
+    where
+      e : Entry
+      e = Fault t (Store u.block) done
+
+      high : ℕ
+      high = min u.high ((u.block + done) * size_of S)
+
+      tb : List ℕ
+      tb = bytes_between S q u.low u.high
+
+      piece : piece_of S H (Fault t (Store u.block) done) ≡ piece_between S t q u.low (min u.high ((u.block + done) * size_of S))
+      piece = fault-piece S H t (Store u.block) done q u named of refl few
+
+      short : done * size_of S ≤ length copy
+      short = (let less = mul-le done (size_of S) u.count (size_of S) few (omega arith) in omega arith)
+
+      first : (bytes : List ℕ) → contents S (media_id_of H) H ≡ Some bytes → patch bytes at (take (done * size_of S) group) ≡ patch bytes (at + skip) (take (done * size_of S - skip) tb)
+      first bytes is = first-bytes bytes at copy skip tb (done * size_of S) (fits bytes is) within short (copy-byte bytes is)
+
+      sum : (u.block + done) * size_of S ≡ u.block * size_of S + done * size_of S
+      sum = omega arith
+
+      by : (m : Option (List ℕ)) → contents S (media_id_of H) H ≡ m → u.low < high → patch_told m at (take (done * size_of S) group) ≡ option_map (λ bytes. patch bytes u.low (bytes_between S q u.low high)) m
+      by None is some = refl
+      by (Some bytes) is some =
+          let all = sum in
+          let low = of.unit.low in
+          let ends : u.low + min (done * size_of S - skip) (u.high - u.low) ≡ high = omega arith in
+          ap Some (first bytes is ∙ (λ i. patch bytes (begins i) (take-between S q u.low u.high (done * size_of S - skip) i)) ∙ ap (λ n. patch bytes u.low (bytes_between S q u.low n)) ends)
+
+      over : (m : Option (List ℕ)) → contents S (media_id_of H) H ≡ m → high ≤ u.low → patch_told m at (take (done * size_of S) group) ≡ m
+      over None is none = refl
+      over (Some bytes) is none =
+          let all = sum in
+          let low = of.unit.low in
+          let some = of.unit.some in
+          let zero_left : done * size_of S - skip ≡ 0 = omega arith in
+          ap Some (first bytes is ∙ ap (λ n. patch bytes (at + skip) (take n tb)) zero_left ∙ patch-nothing bytes (at + skip))

@@ -1,0 +1,215 @@
+-- What a done command that finishes one unit leaves of its token.
+use Rattle.std.proofs.Common.{◌≡◌, ◌≢◌, ℕ, zero, suc, ◌+◌, ◌-◌, ◌*◌, ◌<◌, ◌≤◌, ◌⊎◌, inl, inr, Bool, true, false, not, ◌&&◌, ◌||◌, List, [], ◌∷◌, length, map, slice_get, Option, None, Some, refl, sym, ◌∙◌, ap, subst, arith}
+use Rattle.std.specs.Prelude.{filter, sum_by, nat_eq, if◌then◌else◌, max}
+use Rattle.std.specs.List.{list_all, list_any}
+use Rattle.std.proofs.lemmas.Bool.{cases_Bool, cases_eq, and_left, and_right, and_from, eq-eqb, ne_eqb, eqb-true, both_ways, or_cases, or_parts, not_from_false}
+use Rattle.std.proofs.lemmas.List.Sums.{sum_by-cons}
+use Rattle.efi_status.specs.declared.Status.TheVariants.{Success}
+use Rattle.disk_split.specs.declared.span.Span.{Span}
+use Rattle.disk_split.specs.Units.{IsUnit}
+use Rattle.disk_split.proofs.Shared.{units-same}
+use Rattle.history.specs.declared.entry.Command.{Command}
+use Rattle.history.specs.declared.entry.Command.TheVariants.{Sync}
+use Rattle.history.specs.declared.entry.Entry.{Entry}
+use Rattle.history.specs.declared.entry.Entry.TheVariants.{Done}
+use Rattle.history.specs.Setup.{Setup, IsSetup, size_of}
+use Rattle.history.specs.Tokens.{Request, accepted, request, is_flush, from_of, until_of}
+use Rattle.history.specs.Commands.{is_transfer, is_sync, has_done, is_moved}
+use Rattle.history.specs.Marks.{mark_of, status_if, is_complete, is_outstanding, IsOutstanding}
+use Rattle.history.specs.Rules.{MayCommand, IsLegal}
+use Rattle.history.specs.Tasks.{Task, Moves, Syncs, tasks_of, is_finished, Todo, pending}
+use Rattle.history_laws.specs.Left.{task_bytes, left_of}
+use Rattle.history_laws.specs.Pending.{is_todo, task_low, IsBefore, Ordered}
+use Rattle.history_laws.specs.Told.{concerns}
+use Rattle.history_laws.specs.Units.{IsUnitCommand}
+use Rattle.history_laws.proofs.CountLemmas.{accepted-same}
+use Rattle.history_laws.proofs.EndLemmas.{mark-done, command-open}
+use Rattle.history_laws.proofs.FinishLemmas.{same-low}
+use Rattle.history_laws.proofs.NextLemmas.{outstanding-test}
+use Rattle.history_laws.proofs.OrderLemmas.{tasks-ordered, pending-ordered}
+use Rattle.history_laws.proofs.PendingLemmas.{IsPending, filter-everything, filter-alike, pending-is, pending-keeps, todo-stays}
+use Rattle.history_laws.proofs.TaskLemmas.{complete-tasks, task-unit, task-sync, task-moving}
+use Rattle.history_laws.proofs.TokenLemmas.{request-same, mark-other, done_commands-other, done-concerns, has_done-done}
+use Rattle.history_laws.proofs.UnitLemmas.{is_within, unit-inside, moved-more}
+
+clash : true ≡ false → ⊥
+clash e = cc
+
+some-same : {X : Type 0} (x y : X) → Some x ≡ Some y → x ≡ y
+some-same x y e = cc
+
+no-some : {X : Type 0} (x : X) → None ≡ Some x → ⊥
+no-some x e = cc
+
+-- a done command finishes this unit of its token, and no other
+pub record FinishesTask (S : Setup) (H : List Entry) (t : ℕ) (c : Command) (r : Request) (task : Task) : Type 0 where
+  pub named : request H t ≡ Some r
+  pub place : ℕ
+  pub listed : slice_get (tasks_of S r) place ≡ Some task
+  pub unfinished : is_finished S H t task ≡ false
+  pub now : (i : ℕ) (other : Task) → slice_get (tasks_of S r) i ≡ Some other → is_finished S (Done t c ∷ H) t other ≡ (nat_eq (task_low other) (task_low task) || is_finished S H t other)
+
+or-same : (p q : Bool) → q ≡ false → (p || q) ≡ p
+or-same true q is = refl
+or-same false q is = is
+
+-- the unit of a transfer
+pub unit-finishes : (S : Setup) (H : List Entry) (t : ℕ) (c : Command) (r : Request) (u : Span) (place : ℕ) → IsSetup S → request H t ≡ Some r → slice_get (tasks_of S r) place ≡ Some (Moves u) → is_finished S H t (Moves u) ≡ false
+    → IsUnitCommand S r c u → is_transfer c ≡ true → FinishesTask S H t c r (Moves u)
+unit-finishes S H t c r u place is named listed unfinished of transfer = record { named = named; place = place; listed = listed; unfinished = unfinished; now = now }
+  where
+    now : (i : ℕ) (other : Task) → slice_get (tasks_of S r) i ≡ Some other → is_finished S (Done t c ∷ H) t other ≡ (nat_eq (task_low other) u.low || is_finished S H t other)
+    now i Syncs there = absurd (both_ways (is_flush r.asked.kind) (task-moving S r place u listed) (task-sync S r i there))
+    now i (Moves v) there =
+        let unit = task-unit S r i v is there in
+        let inside = unit-inside S.geometry (from_of S r) (until_of S r) v.low v unit (omega arith) (omega (arith, unit.some)) in
+        moved-more S H t r c u v.low of transfer inside.0 inside.1 ∙ ap (λ b. b || is_moved S H t v.low) (same-low S r u v is of.unit unit)
+
+-- the sync of a flush
+pub sync-finishes : (S : Setup) (H : List Entry) (t : ℕ) (r : Request) (place : ℕ) → request H t ≡ Some r → slice_get (tasks_of S r) place ≡ Some Syncs → is_finished S H t Syncs ≡ false → FinishesTask S H t Sync r Syncs
+sync-finishes S H t r place named listed unfinished = record { named = named; place = place; listed = listed; unfinished = unfinished; now = now }
+  where
+    now : (i : ℕ) (other : Task) → slice_get (tasks_of S r) i ≡ Some other → is_finished S (Done t Sync ∷ H) t other ≡ (nat_eq (task_low other) 0 || is_finished S H t other)
+    now i Syncs there = has_done-done is_sync H t Sync
+    now i (Moves v) there = absurd (both_ways (is_flush r.asked.kind) (task-moving S r i v there) (task-sync S r place listed))
+
+-- each unit has a byte
+unit-some : (S : Setup) (r : Request) (i : ℕ) (task : Task) → IsSetup S → slice_get (tasks_of S r) i ≡ Some task → 0 < task_bytes task
+unit-some S r i Syncs is there = omega arith
+unit-some S r i (Moves u) is there = let unit = task-unit S r i u is there in let some = unit.some in omega arith
+
+-- tests that are alike but at one element
+abbrev IsLower : Task → Task → Type 0
+IsLower one other = task_low one < task_low other
+
+unordered : (xs : List Task) (x : Task) (j : ℕ) (y : Task) → Ordered IsLower (x ∷ xs) → slice_get xs j ≡ Some y → task_low x < task_low y
+unfolding Ordered
+unordered xs x j y all there = all.0 j y there
+
+rest-ordered : (xs : List Task) (x : Task) → Ordered IsLower (x ∷ xs) → Ordered IsLower xs
+unfolding Ordered
+rest-ordered xs x all = all.1
+
+filter-in : (keep : Task → Bool) (x : Task) (xs : List Task) → keep x ≡ true → filter keep (x ∷ xs) ≡ x ∷ filter keep xs
+filter-in keep x xs is = rw is refl
+
+filter-out : (keep : Task → Bool) (x : Task) (xs : List Task) → keep x ≡ false → filter keep (x ∷ xs) ≡ filter keep xs
+filter-out keep x xs is = rw is refl
+
+falls-by : (f g : Task → Bool) (xs : List Task) (k : ℕ) (task : Task) → Ordered IsLower xs → slice_get xs k ≡ Some task → f task ≡ false
+    → ((i : ℕ) (x : Task) → slice_get xs i ≡ Some x → g x ≡ (nat_eq (task_low x) (task_low task) || f x))
+    → sum_by task_bytes (filter (λ x. not (g x)) xs) + task_bytes task ≡ sum_by task_bytes (filter (λ x. not (f x)) xs)
+falls-by f g [] k task all there open_ after = absurd (no-some task there)
+falls-by f g (x ∷ xs) zero task all there open_ after =
+    let here : x ≡ task = some-same x task there in
+    let done : g x ≡ true = after 0 x refl ∙ ap (λ b. b || f x) (eq-eqb (task_low x) (task_low task) (ap task_low here)) in
+    let was : f x ≡ false = ap f here ∙ open_ in
+    let alike : filter (λ y. not (g y)) xs ≡ filter (λ y. not (f y)) xs =
+    filter-alike (λ y. not (g y)) (λ y. not (f y)) xs (λ i y at.
+    let apart : task_low y ≢ task_low task = (λ same. let lower = unordered xs x i y all at in let low : task_low x ≡ task_low task = ap task_low here in absurd (omega arith)) in
+    ap not (after (suc i) y at ∙ ap (λ b. b || f y) (ne_eqb (task_low y) (task_low task) apart))) in
+    let bytes : task_bytes x ≡ task_bytes task = ap task_bytes here in
+    let left : sum_by task_bytes (filter (λ y. not (g y)) (x ∷ xs)) ≡ sum_by task_bytes (filter (λ y. not (f y)) xs) = ap (sum_by task_bytes) (filter-out (λ y. not (g y)) x xs (ap not done) ∙ alike) in
+    let right : sum_by task_bytes (filter (λ y. not (f y)) (x ∷ xs)) ≡ task_bytes x + sum_by task_bytes (filter (λ y. not (f y)) xs) = ap (sum_by task_bytes) (filter-in (λ y. not (f y)) x xs (ap not was)) ∙ sum_by-cons task_bytes x (filter (λ y. not (f y)) xs) in
+    omega arith
+falls-by f g (x ∷ xs) (suc k) task all there open_ after =
+    let apart : task_low x ≢ task_low task = (λ same. let lower = unordered xs x k task all there in absurd (omega arith)) in
+    let same : g x ≡ f x = after 0 x refl ∙ ap (λ b. b || f x) (ne_eqb (task_low x) (task_low task) apart) in
+    let more = falls-by f g xs k task (rest-ordered xs x all) there open_ (λ i y at. after (suc i) y at) in
+    elim (cases_Bool (f x)) [
+      | inl done ↦
+          let left : sum_by task_bytes (filter (λ y. not (g y)) (x ∷ xs)) ≡ sum_by task_bytes (filter (λ y. not (g y)) xs) = ap (sum_by task_bytes) (filter-out (λ y. not (g y)) x xs (ap not (same ∙ done))) in
+          let right : sum_by task_bytes (filter (λ y. not (f y)) (x ∷ xs)) ≡ sum_by task_bytes (filter (λ y. not (f y)) xs) = ap (sum_by task_bytes) (filter-out (λ y. not (f y)) x xs (ap not done)) in
+          omega arith
+      | inr undone ↦
+          let left : sum_by task_bytes (filter (λ y. not (g y)) (x ∷ xs)) ≡ task_bytes x + sum_by task_bytes (filter (λ y. not (g y)) xs) = ap (sum_by task_bytes) (filter-in (λ y. not (g y)) x xs (ap not (same ∙ undone))) ∙ sum_by-cons task_bytes x (filter (λ y. not (g y)) xs) in
+          let right : sum_by task_bytes (filter (λ y. not (f y)) (x ∷ xs)) ≡ task_bytes x + sum_by task_bytes (filter (λ y. not (f y)) xs) = ap (sum_by task_bytes) (filter-in (λ y. not (f y)) x xs (ap not undone)) ∙ sum_by-cons task_bytes x (filter (λ y. not (f y)) xs) in
+          omega arith
+    ]
+
+-- what is left falls by the bytes of the unit
+pub left-falls : (S : Setup) (H : List Entry) (t : ℕ) (c : Command) (r : Request) (task : Task) → IsSetup S → FinishesTask S H t c r task → left_of S (Done t c ∷ H) t r + task_bytes task ≡ left_of S H t r
+unfolding left_of
+left-falls S H t c r task is finishes = falls-by (is_finished S H t) (is_finished S (Done t c ∷ H) t) (tasks_of S r) finishes.place task (tasks-ordered S r is) finishes.listed finishes.unfinished finishes.now
+
+nothing-left : (f : Task → Bool) (xs : List Task) → ((i : ℕ) (x : Task) → slice_get xs i ≡ Some x → 0 < task_bytes x) → list_all f xs ≡ nat_eq (sum_by task_bytes (filter (λ x. not (f x)) xs)) 0
+nothing-left f [] some = refl
+nothing-left f (x ∷ xs) some = elim (cases_Bool (f x)) [
+  | inl done ↦ rw done (nothing-left f xs (λ i y at. some (suc i) y at))
+  | inr undone ↦
+      let more : sum_by task_bytes (filter (λ y. not (f y)) (x ∷ xs)) ≡ task_bytes x + sum_by task_bytes (filter (λ y. not (f y)) xs) = ap (sum_by task_bytes) (filter-in (λ y. not (f y)) x xs (ap not undone)) ∙ sum_by-cons task_bytes x (filter (λ y. not (f y)) xs) in
+      let least = some 0 x refl in
+      and_left (f x) (list_all f xs) undone ∙ sym (ne_eqb (sum_by task_bytes (filter (λ y. not (f y)) (x ∷ xs))) 0 (λ zero_. absurd (omega arith)))
+]
+
+-- a token is complete exactly where nothing is left of it
+pub complete-left : (S : Setup) (H : List Entry) (t : ℕ) (r : Request) → IsSetup S → IsLegal S H → request H t ≡ Some r → is_complete S H t ≡ nat_eq (left_of S H t r) 0
+unfolding left_of
+complete-left S H t r is legal named = complete-tasks S H t r is legal named ∙ nothing-left (is_finished S H t) (tasks_of S r) (λ i task at. unit-some S r i task is at)
+
+-- the token ends exactly where the unit is all that was left
+pub mark-finished : (S : Setup) (H : List Entry) (t : ℕ) (c : Command) (r : Request) (task : Task) → IsSetup S → IsLegal S (Done t c ∷ H) → mark_of S H t ≡ None → FinishesTask S H t c r task
+    → mark_of S (Done t c ∷ H) t ≡ status_if (nat_eq (left_of S H t r) (task_bytes task)) Success
+mark-finished S H t c r task is legal unmarked finishes =
+    let e = Done t c in
+    let fall = left-falls S H t c r task is finishes in
+    let named : request (e ∷ H) t ≡ Some r = request-same H e t refl ∙ finishes.named in
+    let same : nat_eq (left_of S (e ∷ H) t r) 0 ≡ nat_eq (left_of S H t r) (task_bytes task) =
+    elim (cases_eq (left_of S (e ∷ H) t r) 0) [
+      | inl none ↦ eq-eqb (left_of S (e ∷ H) t r) 0 none ∙ sym (eq-eqb (left_of S H t r) (task_bytes task) (omega arith))
+      | inr some ↦ ne_eqb (left_of S (e ∷ H) t r) 0 some ∙ sym (ne_eqb (left_of S H t r) (task_bytes task) (λ all. some (omega arith)))
+    ] in
+    mark-done S H t c unmarked ∙ ap (λ b. status_if b Success) (complete-left S (e ∷ H) t r is legal named ∙ same)
+
+-- the unit of this token that begins at this byte
+abbrev pub is_here : ℕ → Task → Todo → Bool
+is_here t task todo = nat_eq todo.token t && nat_eq (task_low todo.task) (task_low task)
+
+pub not-all : (test : Task → Bool) (tasks : List Task) (k : ℕ) (task : Task) → slice_get tasks k ≡ Some task → test task ≡ false → list_all test tasks ≡ false
+not-all test [] k task there fails = absurd (no-some task there)
+not-all test (other ∷ tasks) zero task there fails = and_left (test other) (list_all test tasks) (ap test (some-same other task there) ∙ fails)
+not-all test (other ∷ tasks) (suc k) task there fails = and_right (test other) (list_all test tasks) (not-all test tasks k task there fails)
+
+-- whether a unit is left
+left-test : (S : Setup) (H : List Entry) (t : ℕ) (c : Command) (r : Request) (task : Task) (todo : Todo) (q : Request) → IsSetup S → IsLegal S (Done t c ∷ H) → IsOutstanding S H t → FinishesTask S H t c r task → IsPending S H todo q
+    → is_todo S (Done t c ∷ H) todo ≡ not (is_here t task todo)
+left-test S H t c r task todo q is legal open_ finishes left = by (cases_eq todo.token t)
+  where
+    e : Entry
+    e = Done t c
+
+    stays : (task' : Task) → slice_get (tasks_of S r) left.place ≡ Some task' → is_finished S (e ∷ H) t task' ≡ false → is_outstanding S (e ∷ H) t ≡ true
+    stays task' there unfinished =
+        let named : request (e ∷ H) t ≡ Some r = request-same H e t refl ∙ finishes.named in
+        let incomplete = complete-tasks S (e ∷ H) t r is legal named ∙ not-all (is_finished S (e ∷ H) t) (tasks_of S r) left.place task' there unfinished in
+        let token = open_.token in let same = accepted-same H e refl in
+        outstanding-test S (e ∷ H) t (record { token = omega arith; unmarked = mark-done S H t c open_.unmarked ∙ ap (λ b. status_if b Success) incomplete })
+
+    own : (task' : Task) → slice_get (tasks_of S r) left.place ≡ Some task' → is_finished S H t task' ≡ false → (is_outstanding S (e ∷ H) t && not (is_finished S (e ∷ H) t task')) ≡ not (nat_eq (task_low task') (task_low task))
+    own task' there unfinished =
+        let now = finishes.now left.place task' there ∙ or-same (nat_eq (task_low task') (task_low task)) (is_finished S H t task') unfinished in
+        elim (cases_Bool (nat_eq (task_low task') (task_low task))) [
+          | inl same ↦ and_right (is_outstanding S (e ∷ H) t) (not (is_finished S (e ∷ H) t task')) (ap not (now ∙ same)) ∙ sym (ap not same)
+          | inr other ↦ and_from (is_outstanding S (e ∷ H) t) (not (is_finished S (e ∷ H) t task')) (stays task' there (now ∙ other)) (ap not (now ∙ other)) ∙ sym (ap not other)
+        ]
+
+    by : (todo.token ≡ t) ⊎ (todo.token ≡ t → ⊥) → is_todo S (e ∷ H) todo ≡ not (is_here t task todo)
+    by (inr other) =
+        let quiet : concerns H e todo.token ≡ false = done-concerns H t todo.token c (λ same. other (sym same)) in
+        todo-stays S H e todo q left (mark-other S H e todo.token quiet ∙ left.outstanding.unmarked) (done_commands-other S H e todo.token quiet)
+        ∙ sym (ap not (and_left (nat_eq todo.token t) (nat_eq (task_low todo.task) (task_low task)) (ne_eqb todo.token t other)))
+    by (inl same) =
+        let one : q ≡ r = some-same q r (sym left.named ∙ (ap (request H) same ∙ finishes.named)) in
+        let there : slice_get (tasks_of S r) left.place ≡ Some todo.task = subst (λ v. slice_get (tasks_of S v) left.place ≡ Some todo.task) one left.listed in
+        let unfinished : is_finished S H t todo.task ≡ false = subst (λ v. is_finished S H v todo.task ≡ false) same left.unfinished in
+        ap (λ v. is_outstanding S (e ∷ H) v && not (is_finished S (e ∷ H) v todo.task)) same
+        ∙ own todo.task there unfinished
+        ∙ sym (ap (λ b. not (b && nat_eq (task_low todo.task) (task_low task))) (eq-eqb todo.token t same))
+
+-- the unit is taken away, and no other
+pub pending-finished : (S : Setup) (H : List Entry) (t : ℕ) (c : Command) (r : Request) (task : Task) → IsSetup S → IsLegal S (Done t c ∷ H) → IsOutstanding S H t → FinishesTask S H t c r task
+    → pending S (Done t c ∷ H) ≡ filter (λ todo. not (is_here t task todo)) (pending S H)
+pending-finished S H t c r task is legal open_ finishes =
+    pending-keeps S H (Done t c) refl
+    ∙ filter-alike (is_todo S (Done t c ∷ H)) (λ todo. not (is_here t task todo)) (pending S H) (λ k todo there.
+    let left = pending-is S H k todo there in left-test S H t c r task todo left.0 is legal open_ finishes left.1)

@@ -1,0 +1,103 @@
+-- Where the blocks of a unit lie on the medium, and which bytes of its request they have.
+use Rattle.std.proofs.Common.{◌≡◌, ◌≢◌, ℕ, zero, suc, ◌+◌, ◌-◌, ◌*◌, ◌/◌, ◌%◌, ◌^◌, ◌<◌, ◌≤◌, ◌⊎◌, inl, inr, Bool, true, false, List, [], ◌∷◌, length, slice_get, Option, None, Some, refl, sym, ◌∙◌, ap, subst, arith}
+use Rattle.std.specs.Prelude.{if◌then◌else◌, max, min}
+use Rattle.std.proofs.lemmas.Bool.{cases_Bool, cases_lt}
+use Rattle.std.proofs.Math.Nat.{mul-le-mul_right, mul_comm, mul_assoc, mod-eq-sub-div-mul, div-mul-le_self}
+use Rattle.medium.specs.Device.{Device, IsShaped, IsTransfer}
+use Rattle.drive.specs.Drives.{DriveState, medium_in}
+use Rattle.disk_split.specs.declared.span.Span.{Span}
+use Rattle.disk_split.specs.Units.{group_size, IsUnit, IsKind, IsRun, IsGroupPart}
+use Rattle.history.specs.declared.entry.Entry.{Entry}
+use Rattle.history.specs.Setup.{Setup, IsSetup, size_of, per_of, blocks_of, opening_blocks}
+use Rattle.history.specs.Eras.{media_id_of}
+use Rattle.history.specs.Tokens.{Request, request, is_flush, changes_bytes, from_of, until_of}
+use Rattle.history.specs.Marks.{IsOutstanding}
+use Rattle.history.specs.Rules.{IsLegal}
+use Rattle.history.specs.Tasks.{Task, Moves, Syncs, Todo}
+use Rattle.history_laws.proofs.MediaLemmas.{range-in-view, open-media}
+use Rattle.history_laws.proofs.PieceLemmas.{run-high}
+use Rattle.subtask_queue.specs.declared.sub.Sub.{Sub}
+use Rattle.subtask_queue.specs.declared.sub.Sub.TheVariants as sub
+use Rattle.subtask_queue.specs.Subs.{sub_of_task}
+
+-- what the queue keeps as a run is one
+pub run-kept : (size token t b n : ℕ) (write w : Bool) (task : Task) → sub_of_task size token write task ≡ sub.Run t b n w
+    → (low high : ℕ) × (task ≡ Moves (record { whole = true; block = b; count = n; low = low; high = high })) × (write ≡ w)
+run-kept size token t b n write w Syncs is = cc
+run-kept size token t b n write w (Moves u) is = by u.whole refl is
+  where
+    by : (v : Bool) → u.whole ≡ v → (if v then sub.Run token u.block u.count write else sub.Part token u.block (u.low - u.block * size) (u.high - u.low) write) ≡ sub.Run t b n w
+        → (low high : ℕ) × (Moves u ≡ Moves (record { whole = true; block = b; count = n; low = low; high = high })) × (write ≡ w)
+    by true whole same =
+        let block : u.block ≡ b = cc in
+        let count : u.count ≡ n = cc in
+        (u.low, u.high, (λ i. Moves (record { whole = whole i; block = block i; count = count i; low = u.low; high = u.high })), (let e : write ≡ w = cc in e))
+    by false whole same = cc
+
+-- and what it keeps as a part is one
+pub part-kept : (size token t b from n : ℕ) (write w : Bool) (task : Task) → sub_of_task size token write task ≡ sub.Part t b from n w
+    → (count low high : ℕ) × (task ≡ Moves (record { whole = false; block = b; count = count; low = low; high = high })) × (write ≡ w)
+part-kept size token t b from n write w Syncs is = cc
+part-kept size token t b from n write w (Moves u) is = by u.whole refl is
+  where
+    by : (v : Bool) → u.whole ≡ v → (if v then sub.Run token u.block u.count write else sub.Part token u.block (u.low - u.block * size) (u.high - u.low) write) ≡ sub.Part t b from n w
+        → (count low high : ℕ) × (Moves u ≡ Moves (record { whole = false; block = b; count = count; low = low; high = high })) × (write ≡ w)
+    by true whole same = cc
+    by false whole same =
+        let block : u.block ≡ b = cc in
+        (u.count, u.low, u.high, (λ i. Moves (record { whole = whole i; block = block i; count = u.count; low = u.low; high = u.high })), (let e : write ≡ w = cc in e))
+
+cancel : (a b size : ℕ) → 0 < size → a * size ≤ b * size → a ≤ b
+cancel a b size some le = elim (cases_lt b a) [
+  | inl lt ↦ absurd (let more : (b + 1) * size ≤ a * size = mul-le-mul_right size (omega arith) in let sum : (b + 1) * size ≡ b * size + size = omega arith in omega arith)
+  | inr le' ↦ le'
+]
+
+cancel-lt : (a b size : ℕ) → a * size < b * size → a < b
+cancel-lt a b size lt = elim (cases_lt a b) [
+  | inl lt' ↦ lt'
+  | inr le ↦ absurd (let more : b * size ≤ a * size = mul-le-mul_right size le in omega arith)
+]
+
+-- the blocks of a unit are 1 to 64, and lie on the medium
+pub record UnitFits (u : Span) (blocks : ℕ) : Type 0 where
+  pub some : 0 < u.count
+  pub most : u.count ≤ 64
+  pub fits : u.block + u.count ≤ blocks
+
+unit-fits : (S : Setup) (r : Request) (u : Span) (k : ℕ) → IsSetup S → until_of S r ≤ blocks_of S k * size_of S → IsUnit S.geometry (from_of S r) (until_of S r) u → UnitFits u (blocks_of S k)
+unit-fits S r u k is inside unit = by u.whole refl unit.kind
+  where
+    size_some : 0 < size_of S
+    size_some = (let h = is.geometry.size_some in omega arith)
+
+    by : (v : Bool) → u.whole ≡ v → IsKind S.geometry (from_of S r) (until_of S r) v u.block u.count → UnitFits u (blocks_of S k)
+    by true whole run =
+        let high = run-high S.geometry (from_of S r) (until_of S r) u is.geometry unit whole in
+        let ends = unit.high in
+        let some = run.some in let counted = run.counted in
+        record { some = omega arith; most = omega arith; fits = cancel (u.block + u.count) (blocks_of S k) (size_of S) size_some (omega arith) }
+    by false whole (part, count) =
+        let number = part.number in
+        let some = part.part.some in
+        let begins = part.begins in
+        let per_some = is.geometry.per_some in let per_most = is.geometry.per_most in
+        let group : number * (size_of S * per_of S) ≡ number * per_of S * size_of S = ap (λ n. number * n) (mul_comm (size_of S) (per_of S)) ∙ sym (mul_assoc number (per_of S) (size_of S)) in
+        let below : number * per_of S < blocks_of S k = cancel-lt (number * per_of S) (blocks_of S k) (size_of S) (omega arith) in
+        let q = blocks_of S k / per_of S in
+        let whole_groups : blocks_of S k ≡ q * per_of S = omega (arith, is.grouped k, mod-eq-sub-div-mul (blocks_of S k) (per_of S), div-mul-le_self (blocks_of S k) (per_of S)) in
+        let next : number < q = cancel-lt number q (per_of S) (omega arith) in
+        let more : (number + 1) * per_of S ≤ q * per_of S = mul-le-mul_right (per_of S) (omega arith) in
+        let sum : (number + 1) * per_of S ≡ number * per_of S + per_of S = omega arith in
+        record { some = omega arith; most = omega arith; fits = omega arith }
+
+-- those of a unit of an open token
+pub open-fits : (S : Setup) (H : List Entry) (t : ℕ) (r : Request) (u : Span) → IsSetup S → IsLegal S H → IsOutstanding S H t → request H t ≡ Some r → is_flush r.asked.kind ≡ false → IsUnit S.geometry (from_of S r) (until_of S r) u
+    → UnitFits u (blocks_of S (media_id_of H)) × (until_of S r ≤ blocks_of S (media_id_of H) * size_of S)
+open-fits S H t r u is legal open_ named moving unit =
+    let view = range-in-view S H t r legal named moving in
+    let id = (open-media S H t r legal open_ named).1 in
+    let ends = view.ends in
+    let lies : r.view.start + r.view.length ≤ blocks_of S (media_id_of H) * size_of S = subst (λ k. r.view.start + r.view.length ≤ blocks_of S k * size_of S) id view.lies in
+    let inside : until_of S r ≤ blocks_of S (media_id_of H) * size_of S = omega arith in
+    (unit-fits S r u (media_id_of H) is inside unit, inside)

@@ -1,0 +1,98 @@
+-- The steps of a disk that holds no block are the turns of the plain schedule.
+use Rattle.std.proofs.Common.{◌≡◌, ℕ, ◌<◌, Bool, true, false, nat_lt, not, ◌⊎◌, inl, inr, List, [], ◌∷◌, Option, None, Some, IsSome, option_map, refl, sym, ◌∙◌, ap, subst, arith, nat_eq, if◌then◌else◌}
+use Rattle.std.proofs.lemmas.Bool.{cases_Bool, cases_eq, false_from_ne_true, lt-ltb, ne_eqb, eq-eqb, or_left, both_ways}
+use Rattle.disk_split.specs.Units.{group_start}
+use Rattle.disk_split.specs.declared.span.Span.{Span}
+use Rattle.history.specs.declared.entry.Kind.{Kind}
+use Rattle.history.specs.declared.entry.Kind.TheVariants.{Read, Write, Flush, Erase}
+use Rattle.history.specs.declared.entry.Command.{Command}
+use Rattle.history.specs.declared.entry.Command.TheVariants.{Fetch, Store, Put, Get, Wipe, Sync}
+use Rattle.history.specs.declared.entry.Entry.{Entry}
+use Rattle.history.specs.declared.entry.Entry.TheVariants.{Done}
+use Rattle.history.specs.Setup.{Setup, IsSetup}
+use Rattle.history.specs.Commands.{is_fetch, is_at, done_commands, has_done}
+use Rattle.history.specs.Marks.{was_fetched, Holds, HoldsBy, is_held, fetches, ticket_of}
+use Rattle.history.specs.Rules.{MayCommand, IsLegal}
+use Rattle.history.specs.Tasks.{Task, Moves, Syncs, Todo, pending, is_runnable, first_runnable, span_command, task_command}
+use Rattle.history.specs.Next.{Turn, next_turn, first_open, Outcome, Made}
+use Rattle.history_laws.specs.Turns.{turn_of_todo}
+use Rattle.history_laws.proofs.HolderLemmas.{held-holder}
+use Rattle.history_laws.proofs.NextLemmas.{first-open-some, next-turn-is, next-turn-none}
+use Rattle.history_laws.proofs.PendingLemmas.{pending-fetch}
+use Rattle.history_laws.proofs.RunnableLemmas.{open-unfinished, next-runnable}
+use Rattle.history_laws.proofs.TokenLemmas.{request-some}
+use Rattle.block_gate.specs.Gates.{Gate, gate_of}
+use Rattle.disk_core.specs.declared.answers.Step.{Step}
+use Rattle.disk_core.specs.declared.answers.Step.TheVariants as step
+use Rattle.disk_core.specs.State.{State}
+use Rattle.disk_core.specs.Facts.{AreFacts}
+use Rattle.disk_core.specs.Calls.{StepSays, MakesFirst, is_fetched, first_of, command_of}
+use Rattle.disk_core.specs.Turns.{TakesTurn, StepTurns}
+
+-- a fetched group has a ticket
+fetched-ticket : (H : List Entry) (t b : ℕ) → was_fetched H t b ≡ true → (k : ℕ) × (ticket_of H t b ≡ Some k)
+unfolding ticket_of has_done done_commands
+fetched-ticket [] t b was = cc
+fetched-ticket (Done u c ∷ H) t b was = elim (cases_eq u t) [
+  | inr other ↦ rw (ne_eqb u t other) (fetched-ticket H t b (rw (ne_eqb u t other) at was))
+  | inl same ↦ elim (cases_Bool (is_at is_fetch b c)) [
+    | inl is ↦ (fetches H, rw (eq-eqb u t same, is) refl)
+    | inr isnt ↦ rw (eq-eqb u t same, isnt) (fetched-ticket H t b (rw (eq-eqb u t same, isnt) at was))
+  ]
+]
+fetched-ticket (e ∷ H) t b was = fetched-ticket H t b was
+
+-- where no gate is held, no block is
+pub none-held : (s : State) (b : ℕ) → AreFacts s → s.gates.held ≡ [] → is_held s.setup s.entries b ≡ false
+unfolding gate_of
+none-held s b facts none = false_from_ne_true (is_held s.setup s.entries b) (λ held. let (t, holds) = held-holder s.setup s.entries b held in by t holds)
+  where
+    clash : (k : ℕ) (g : Gate) → gate_of [] k ≡ Some g → ⊥
+    clash k g is = cc
+
+    by : (t : ℕ) → Holds s.setup s.entries t (group_start s.setup.geometry b) → ⊥
+    by t holds =
+        let (k, ticket) = fetched-ticket s.entries t (group_start s.setup.geometry b) holds.fetched in
+        let (g, there, block) = facts.gates.all t (group_start s.setup.geometry b) k (record { holds = holds; ticket_is = ticket }) in
+        clash k g (subst (λ held. gate_of held k ≡ Some g) none there)
+
+-- the first runnable unit is the next turn
+pub first-turn : (s : State) (todo : Todo) → IsSetup s.setup → AreFacts s → s.gates.held ≡ [] → 0 < s.gates.free → first_of s ≡ Some todo → next_turn s.setup s.entries ≡ Some (turn_of_todo s.entries todo)
+first-turn s todo is facts none free first =
+    let some : nat_lt 0 s.gates.free ≡ true = lt-ltb 0 s.gates.free free in
+    let here : first_runnable (is_held s.setup s.entries) true s.setup s.entries ≡ Some todo = subst (λ b. first_runnable (is_held s.setup s.entries) b s.setup s.entries ≡ Some todo) some first in
+    next-runnable s.setup s.entries (is_held s.setup s.entries) is facts.legal (λ b. none-held s b facts none) ∙ ap (option_map (turn_of_todo s.entries)) here
+
+-- with its command it is taken
+pub first-taken : (s s' : State) (todo : Todo) (outcome : Outcome) → IsSetup s.setup → AreFacts s → s.gates.held ≡ [] → 0 < s.gates.free → MakesFirst s todo outcome s' → TakesTurn s (turn_of_todo s.entries todo) outcome s'
+first-taken s s' todo outcome is facts none free makes = record { next = first-turn s todo is facts none free makes.first; makes = makes.makes }
+
+-- where none is runnable, none is outstanding
+idle-drained : (s : State) → IsSetup s.setup → AreFacts s → s.gates.held ≡ [] → 0 < s.gates.free → first_of s ≡ None → IsSome (first_open s.setup s.entries) → ⊥
+unfolding next_turn
+idle-drained s is facts none free first open_ =
+    let some : nat_lt 0 s.gates.free ≡ true = lt-ltb 0 s.gates.free free in
+    let here : first_runnable (is_held s.setup s.entries) true s.setup s.entries ≡ None = subst (λ b. first_runnable (is_held s.setup s.entries) b s.setup s.entries ≡ None) some first in
+    let no_turn : next_turn s.setup s.entries ≡ None = next-runnable s.setup s.entries (is_held s.setup s.entries) is facts.legal (λ b. none-held s b facts none) ∙ ap (option_map (turn_of_todo s.entries)) here in
+    by (first_open s.setup s.entries) refl open_ no_turn
+  where
+    by : (o : Option ℕ) → first_open s.setup s.entries ≡ o → IsSome o → next_turn s.setup s.entries ≡ None → ⊥
+    by None first some no_turn = cc
+    by (Some t) first some no_turn =
+        let open_ = (first-open-some s.setup s.entries t first).0 in
+        let (r, named) = request-some s.entries t open_.token in
+        let (task, next) = open-unfinished s.setup s.entries t r is facts.legal open_ named in
+        clash (record { token = t; command = task_command s.entries t r.asked.kind task }) (sym (next-turn-is s.setup s.entries t r task first named next) ∙ no_turn)
+      where
+        clash : (turn : Turn) → Some turn ≡ None → ⊥
+        clash turn e = cc
+
+-- a step is the next turn
+pub steps-turn : (old new : State) (answer : Step) → IsSetup old.setup → AreFacts old → old.gates.held ≡ [] → 0 < old.gates.free → StepSays old answer new → StepTurns old answer new
+unfolding StepSays
+steps-turn old new (step.Lent w) is facts none free (todo, q, lends) =
+    (turn_of_todo old.entries todo, first-taken old new todo Made is facts none free lends.makes, ap (λ c. is_fetched c Made) lends.fetch)
+steps-turn old new step.Did is facts none free (todo, outcome, does) =
+    (turn_of_todo old.entries todo, outcome, first-taken old new todo outcome is facts none free does.makes, does.unfetched, does.gates)
+steps-turn old new step.Idle is facts none free (same, first, open_) = idle-drained old is facts none free first open_
+steps-turn old new step.Drained is facts none free (same, first) = (next-turn-none old.setup old.entries first, same)

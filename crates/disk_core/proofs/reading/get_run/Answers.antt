@@ -1,0 +1,48 @@
+use Rattle.std.proofs.Common.{subst, sym, ap, refl, ◌∙◌, ◌≡◌, ◌+◌, ◌≤◌, IfSome, length, false}
+use Rattle.token_table.specs.Records.{request_at, mark_at}
+use Rattle.disk_core.specs.Moves.{IsTarget, GetsInto}
+use Rattle.disk_core.proofs.Getting.{own, get-present, get-may, get-has, get-request, goes-to, get-enter, get-settled}
+use Rattle.disk_core.proofs.Spans.{run-span, run-transfer, run-begins}
+use Rattle.disk_core.proofs.reading.get_run.Goals as goal
+
+pub target_of-target-requires : goal.target_of-target-requires
+target_of-target-requires g c =
+    let s = run-span _ g.M.Medium.prepared _ _ c.requires.sound _ _ c.requires.next.1 _ c.args.block c.args.count false c.requires.run.1 in
+    ((own _ g.M.Medium.prepared _ _ c.requires.sound _ _ c.requires.next.1 _ s.2 s.3).request, ap (request_at c.args.core.now.tokens) c.token-token.ensures ∙ get-request _ g.M.Medium.prepared _ _ c.requires.sound _ _ c.requires.next.1 _ s.2 s.3, get-has _ g.M.Medium.prepared _ _ c.requires.sound _ _ c.requires.next.1 _ s.2 s.3 g.met.M.Medium.shaped)
+
+pub read_run-answer-requires : goal.read_run-answer-requires
+read_run-answer-requires g c =
+    let s = run-span _ g.M.Medium.prepared _ _ c.requires.sound _ _ c.requires.next.1 _ c.args.block c.args.count false c.requires.run.1 in
+    let core = c.args.core.now in
+    let target = c.target_of-target.result in
+    let is = subst (λ k. IfSome (request_at core.tokens k) (λ q. IsTarget q c.args.block c.args.count core.blocks.size target)) c.token-token.ensures c.target_of-target.ensures in
+    let goes = goes-to _ g.M.Medium.prepared _ _ c.requires.sound _ _ c.requires.next.1 _ s.2 s.3 target is in
+    record {
+      present = get-present _ g.M.Medium.prepared _ _ c.requires.sound _ _ c.requires.next.1 _ s.2 s.3;
+      transfer = run-transfer _ g.M.Medium.prepared _ _ c.requires.sound _ _ c.requires.next.1 0 c.args.block _ _ _ s.2 s.3 target goes;
+      begins = run-begins _ g.M.Medium.prepared _ _ c.requires.sound _ _ c.requires.next.1 0 c.args.block _ _ _ s.2 s.3 target goes;
+      outstanding = ap (mark_at core.tokens) c.token-token.ensures ∙ (get-may _ g.M.Medium.prepared _ _ c.requires.sound _ _ c.requires.next.1 _ s.2 s.3).0;
+      fits = subst (λ k. IfSome (request_at core.tokens k) (λ q. target.place + target.count ≤ length q.buffer)) (sym c.token-token.ensures) goes.fits;
+    }
+
+pub settle-requires : goal.settle-requires
+settle-requires g c =
+    let s = run-span _ g.M.Medium.prepared _ _ c.requires.sound _ _ c.requires.next.1 _ c.args.block c.args.count false c.requires.run.1 in
+    let core = c.args.core.now in
+    let target = c.target_of-target.result in
+    let is = subst (λ k. IfSome (request_at core.tokens k) (λ q. IsTarget q c.args.block c.args.count core.blocks.size target)) c.token-token.ensures c.target_of-target.ensures in
+    let goes = goes-to _ g.M.Medium.prepared _ _ c.requires.sound _ _ c.requires.next.1 _ s.2 s.3 target is in
+    let new = c.read_run-answer.new in
+    let gets = subst (λ k. GetsInto g.M.Medium.device g.M.Medium.prepared c.args.drive.now new.drive core new.core k target.range.low target.place target.count c.read_run-answer.result) c.token-token.ensures c.read_run-answer.ensures in
+    get-enter _ g.M.Medium.prepared _ _ c.requires.sound _ _ c.requires.next.1 _ s.2 s.3 g.met.M.Medium.shaped new.drive new.core new.core target goes c.read_run-answer.result gets
+
+pub returns : goal.returns
+returns g c =
+    let s = run-span _ g.M.Medium.prepared _ _ c.requires.sound _ _ c.requires.next.1 _ c.args.block c.args.count false c.requires.run.1 in
+    let core = c.args.core.now in
+    let target = c.target_of-target.result in
+    let is = subst (λ k. IfSome (request_at core.tokens k) (λ q. IsTarget q c.args.block c.args.count core.blocks.size target)) c.token-token.ensures c.target_of-target.ensures in
+    let goes = goes-to _ g.M.Medium.prepared _ _ c.requires.sound _ _ c.requires.next.1 _ s.2 s.3 target is in
+    let new = c.read_run-answer.new in
+    let gets = subst (λ k. GetsInto g.M.Medium.device g.M.Medium.prepared c.args.drive.now new.drive core new.core k target.range.low target.place target.count c.read_run-answer.result) c.token-token.ensures c.read_run-answer.ensures in
+    get-settled _ g.M.Medium.prepared _ _ c.requires.sound _ _ c.requires.next.1 _ s.2 s.3 g.met.M.Medium.shaped new.drive new.core c.settle.new.core target goes c.read_run-answer.result gets c.settle.ensures

@@ -1,0 +1,78 @@
+-- A disk with one medium stays in its first era.
+use Rattle.std.proofs.Common.{◌≡◌, ◌⊎◌, inl, inr, ℕ, zero, suc, ◌+◌, ◌<◌, ◌≤◌, Bool, true, false, List, [], ◌∷◌, length, slice_get, Option, None, Some, option_map, All, subst, refl, sym, ◌∙◌, ap, arith}
+use Rattle.std.proofs.lemmas.Bool.{cases_Bool}
+use Rattle.std.proofs.lemmas.Option.{slice_get-map, slice_get_within, get_or_from_slice_get}
+use Rattle.medium.specs.Device.{Device}
+use Rattle.drive.specs.Drives.{DriveState, FitTheDrive, devices_of}
+use Rattle.history.specs.declared.entry.Entry.{Entry}
+use Rattle.history.specs.declared.entry.Entry.TheVariants.{Insert}
+use Rattle.history.specs.Setup.{Setup, size_of, opening_blocks, blocks_of}
+use Rattle.history.specs.Eras.{is_insert, inserts, media_id_of, is_fault, era_count, era_faults}
+use Rattle.history.specs.Rules.{MayFollow, IsLegal}
+use Rattle.history.specs.Room.{faults}
+use Rattle.disk_core.specs.State.{State, setup_of}
+use Rattle.disk_core.specs.Facts.{MeetsEra, AreFacts}
+use Rattle.stack_run.specs.Serving.{disk_over}
+use Rattle.history_laws.proofs.CountLemmas.{inserts-none, inserts-same, faults-more, faults-same}
+use Rattle.history_laws.proofs.EraLemmas.{era_count-same, era_count-more}
+
+-- no other medium is ever put in
+no-insert : (S : Setup) (H : List Entry) (e : Entry) → MayFollow S H e → length S.media ≡ 1 → is_insert e ≡ false
+unfolding MayFollow
+no-insert S H (Insert tag k) (out, next, there) one = absurd (omega (arith, next, there, one))
+no-insert S H e may one = refl
+
+first-era : (S : Setup) (H : List Entry) → IsLegal S H → length S.media ≡ 1 → inserts H ≡ 0
+unfolding IsLegal
+first-era S [] legal one = inserts-none
+first-era S (e ∷ H) (legal, may) one = inserts-same H e (no-insert S H e may one) ∙ first-era S H legal one
+
+-- so all its failed commands are of that era
+pub faults-alone : (S : Setup) (H : List Entry) → IsLegal S H → length S.media ≡ 1 → era_faults 1 H ≡ faults H
+unfolding IsLegal faults era_count
+faults-alone S [] legal one = refl
+faults-alone S (e ∷ H) (legal, may) one = elim (cases_Bool (is_fault e)) [
+  | inl is ↦
+      let id : media_id_of H ≡ 1 = omega (arith, first-era S H legal one) in
+      era_count-more is_fault 1 H e id is ∙ (ap (λ n. n + 1) (faults-alone S H legal one) ∙ sym (faults-more H e is))
+  | inr isnt ↦ era_count-same is_fault 1 H e isnt ∙ (faults-alone S H legal one ∙ sym (faults-same H e isnt))
+]
+
+-- what holds of the one element holds of each
+pub all-one : {X : Type 0} (P : X → Type 0) (xs : List X) (x : X) → xs ≡ x ∷ [] → P x → All P xs
+all-one {X} P xs x is holds = subst (λ (ys : List X). All P ys) (sym is) one
+  where
+    one : All P (x ∷ [])
+    one zero d lt = holds
+    one (suc k) d lt = absurd (omega arith)
+
+-- what holds of each holds of the first
+pub all-first : {X : Type 0} (P : X → Type 0) (xs : List X) (x : X) → slice_get xs 0 ≡ Some x → All P xs → P x
+all-first P xs x is all = subst P (get_or_from_slice_get xs 0 x x is) (all 0 x (slice_get_within xs 0 x is))
+
+-- lists of one that are the same have the same one
+pub one-same : {X : Type 0} (x y : X) → (x ∷ []) ≡ (y ∷ []) → x ≡ y
+one-same x y same = cc
+
+-- a list that has one has a first
+pub some-first : {X Y : Type 0} (f : X → Y) (xs : List X) → 0 < length xs → None ≡ option_map f (slice_get xs 0) → ⊥
+some-first f [] some none = absurd (omega arith)
+some-first f (x ∷ xs) some none = cc
+
+module _ {M : Type 0} (device : M → Device) (drive : DriveState M) (fit : FitTheDrive device drive) where
+  -- the setup of an unprotected disk over one medium that keeps no cache
+  pub one-setup : (m : M) → drive.media ≡ m ∷ [] → drive.per ≡ 1 → drive.cached ≡ false → drive.protected ≡ false → setup_of device drive drive.protected ≡ disk_over (device m)
+  unfolding setup_of
+  one-setup m media per cached unprotected =
+      let size : (device m).size ≡ drive.size = all-first (λ n. (device n).size ≡ drive.size) drive.media m (ap (λ l. slice_get l 0) media) fit.size in
+      rw (media, per, cached, unprotected, size) refl
+
+  -- the medium that is in, where nothing has happened
+  pub first-medium : (s : State) (media_id : ℕ) → AreFacts s → s.entries ≡ [] → devices_of device drive ≡ s.devices → (o : Option M) → slice_get drive.media 0 ≡ o
+      → (blocks : ℕ) → Some blocks ≡ option_map (λ m. (device m).blocks) o → (blocks ≡ blocks_of s.setup 1) × (drive.size ≡ size_of s.setup)
+  first-medium s media_id facts fresh devices None there blocks some = cc
+  first-medium s media_id facts fresh devices (Some m) there blocks some =
+      let told : slice_get s.devices 0 ≡ Some (device m) = sym (ap (λ l. slice_get l 0) devices) ∙ (slice_get-map device drive.media 0 ∙ ap (option_map device) there) in
+      let meets : MeetsEra s.setup s.entries 1 (device m) = facts.media 0 (device m) told in
+      let same : blocks ≡ (device m).blocks = cc in
+      (same ∙ sym (ap opening_blocks meets.opening), sym (all-first (λ n. (device n).size ≡ drive.size) drive.media m there fit.size) ∙ meets.size)
