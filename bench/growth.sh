@@ -16,15 +16,17 @@ diskio=$(find "$top/crates/diskio/out" -type f -name diskio -perm -u+x | head -n
 
 program=$scratch/crates/write_bench
 mkdir -p "$program/src"
-for crate in efi_status byte_lists disk_split medium history history_laws disk_core; do
+for crate in efi_status byte_lists event_cell disk_split index_links block_gate medium drive history token_table subtask_queue history_laws \
+    disk_core; do
     cp -r "$top/crates/$crate" "$scratch/crates/"
     grep "^$crate:" "$top/crates.txt" >> "$scratch/crates.txt"
 done
-echo 'write_bench: disk_core history medium efi_status' >> "$scratch/crates.txt"
+echo 'write_bench: disk_core drive block_gate token_table event_cell history medium efi_status' >> "$scratch/crates.txt"
 cat > "$program/src/main.rt" <<'PROGRAM'
 #![tactic(auto)]
 
-use disk_core::{Ask, Disk, Step};
+use disk_core::{Ask, Disk, Step, Stored};
+use drive::Drive;
 use efi_status::Status;
 use history::View;
 use medium::MemMedium;
@@ -42,9 +44,30 @@ const WHOLE: View = View {
 // A disk of 32 MiB of zeros. The error is want of memory.
 fn new_disk(alloc: Global) -> Result<Disk<MemMedium>, AllocError> {
     let medium = MemMedium::make(alloc, vec![in alloc; 0; 32 << 20]?, 512)?;
-    match Disk::make(alloc, medium) {
+    let mut media = Vec::new(alloc);
+    media.push(medium)?;
+    match Disk::make(alloc, Drive::make(media, false, false, 1), 1) {
         Ok(disk) => Ok(disk),
         Err(_) => Err(AllocError),
+    }
+}
+
+// One step, and the store of a lent work. False where no request is outstanding.
+fn step(disk: &mut Disk<MemMedium>) -> bool {
+    match disk.step() {
+        Step::Did | Step::Idle => true,
+        Step::Drained => false,
+        Step::Lent(work) => {
+            let mut work = work;
+            work.merge();
+            match disk.store(work) {
+                Stored::Did | Stored::Stale => true,
+                Stored::Foreign(work) | Stored::Strange(work, _, _, _) => {
+                    work.discard();
+                    false
+                }
+            }
+        }
     }
 }
 
@@ -57,7 +80,7 @@ fn write(disk: &mut Disk<MemMedium>, at: u64, buffer: Vec<u8>) -> Option<Status>
         return None;
     };
     for _ in 0..1000 {
-        if disk.step() == Step::Drained {
+        if !step(disk) {
             break;
         }
     }
