@@ -48,10 +48,6 @@ kept-first S k = by S.cached
     by true = refl
     by false = contents-first S k
 
-era-none : (test : Entry → Bool) (k : ℕ) → era_count test k [] ≡ 0
-unfolding era_count
-era-none test k = refl
-
 -- a medium to which nothing has happened follows the empty history
 pub fresh-era : (S : Setup) (k : ℕ) (d : Device) → IsFresh d → opening_of S k ≡ Some (opening_from d) → d.size ≡ size_of S → d.cached ≡ S.cached → MeetsEra S [] k d
 unfolding era_count
@@ -77,10 +73,6 @@ none-held S t b holds = clash holds.fetched
 
 pub none-open : (S : Setup) (t : ℕ) → IsOutstanding S [] t → ⊥
 none-open S t open_now = let h = open_now.token in absurd (let g : t < 0 = subst (λ n. t < n) accepted-none h in omega arith)
-
-pub none-named : (t : ℕ) (q : Request) → request [] t ≡ Some q → ⊥
-unfolding request
-none-named t q is = cc
 
 pub fresh-kept : (S : Setup) (kept : List (Option Kept)) → kept ≡ [] → KeptFollow S [] kept
 unfolding kept_at

@@ -69,9 +69,6 @@ count-none : {X : Type 0} (test : X → Bool) (xs : List X) → ((k : ℕ) (x : 
 count-none test [] none = refl
 count-none test (x ∷ xs) none = count-same test x xs (none 0 x refl) ∙ count-none test xs (λ k y there. none (suc k) y there)
 
-of-token : ℕ → Todo → Bool
-of-token t todo = nat_eq t todo.token
-
 before-none : (S : Setup) (H : List Entry) (t n : ℕ) → n ≤ t → count_by (λ todo. nat_eq t todo.token) (todo_before S H n) ≡ 0
 before-none S H t n below = count-none (λ (todo : Todo). nat_eq t todo.token) (todo_before S H n) (λ k todo there. let low = (before-is S H n k todo there).0 in ne_eqb t todo.token (λ same. absurd (omega arith)))
 
