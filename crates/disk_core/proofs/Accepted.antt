@@ -4,6 +4,7 @@ use Rattle.std.specs.Prelude.{vec_capacity, if◌then◌else◌}
 use Rattle.std.specs.Option.{option_map}
 use Rattle.std.proofs.lemmas.Bool.{cases_eq, cases_lt, eq-eqb, ne_eqb}
 use Rattle.std.proofs.lemmas.List.{get_or_past, get_or_append_left, get_or_push, length-append, length-map, map-append}
+use Rattle.std.proofs.lemmas.Option.{same_Some}
 use Rattle.medium.specs.Device.{Device, AreToldAt}
 use Rattle.drive.specs.Drives.{DriveState, medium_in}
 use Rattle.disk_split.specs.declared.parts.Parts.{Parts}
@@ -49,6 +50,7 @@ use Rattle.disk_core.specs.Moves.{IsDisk}
 use Rattle.disk_core.proofs.Following.{era-still}
 use Rattle.disk_core.proofs.Still.{left-done, buffer-kept}
 use Rattle.disk_core.proofs.HistoryAccepted.{left-new, uncollected-new}
+use Rattle.disk_core.proofs.Plain.{some-none}
 
 -- what is kept of the last token and of those before
 pub kept-last : (kept : List (Option Kept)) (u : ℕ) (k : Option Kept) → kept_at (kept ++ k ∷ []) u ≡ (if nat_eq u (length kept) then k else kept_at kept u)
@@ -68,12 +70,6 @@ kept-added records r = map-append (option_map kept_from) records (Some r ∷ [])
 pub length-kept : (records : Records) → length (kept_of records) ≡ length records
 unfolding kept_of
 length-kept records = length-map records (option_map kept_from)
-
-some-none : {X : Type 0} (m : Option X) (x : X) → m ≡ None → m ≡ Some x → ⊥
-some-none m x none some = cc
-
-some-same : {X : Type 0} (x y : X) → Some x ≡ Some y → x ≡ y
-some-same x y e = cc
 
 module _ (S : Setup) (H : List Entry) (tag : ℕ) (view : View) (asked : Asked) (bytes : List ℕ) (setup : IsSetup S) (legal : IsLegal S H) (may : MayAccept S H view asked bytes) where
   abbrev e : Entry
@@ -183,7 +179,7 @@ module _ (S : Setup) (H : List Entry) (tag : ℕ) (view : View) (asked : Asked) 
   records-accept records r buffer counted is follow = record {
     each = λ t found there. elim (cases_eq t (length records)) [
       | inl same ↦
-          let here : r ≡ found = some-same r found (sym (at-push records t (Some r) ∙ rw (eq-eqb t (length records) same) refl) ∙ there) in
+          let here : r ≡ found = same_Some r found (sym (at-push records t (Some r) ∙ rw (eq-eqb t (length records) same) refl) ∙ there) in
           (q, subst (λ u. Tracks S (e ∷ H) u found q) (counted ∙ sym same) (subst (λ x. Tracks S (e ∷ H) (accepted H) x q) here (tracks-new r buffer is)))
       | inr other ↦
           let before = follow.each t found (sym (at-push records t (Some r) ∙ rw (ne_eqb t (length records) other) refl) ∙ there) in
@@ -191,7 +187,7 @@ module _ (S : Setup) (H : List Entry) (tag : ℕ) (view : View) (asked : Asked) 
     ];
     shown = record {
       each = λ t found there. elim (cases_eq t (length records)) [
-        | inl same ↦ subst IsShown (some-same r found (sym (at-push records t (Some r) ∙ rw (eq-eqb t (length records) same) refl) ∙ there)) is.shown
+        | inl same ↦ subst IsShown (same_Some r found (sym (at-push records t (Some r) ∙ rw (eq-eqb t (length records) same) refl) ∙ there)) is.shown
         | inr other ↦ follow.shown.each t found (sym (at-push records t (Some r) ∙ rw (ne_eqb t (length records) other) refl) ∙ there)
       ];
     };
@@ -214,7 +210,7 @@ module _ (S : Setup) (H : List Entry) (tag : ℕ) (view : View) (asked : Asked) 
     counted = (let one = length-append kept (Some k ∷ []) in let many = follow.counted in let plus = more in omega arith);
     there = λ t found is. elim (cases_eq t (length kept)) [
       | inl same ↦
-          let here : k ≡ found = some-same k found (sym (kept-last kept t (Some k) ∙ rw (eq-eqb t (length kept) same) refl) ∙ is) in
+          let here : k ≡ found = same_Some k found (sym (kept-last kept t (Some k) ∙ rw (eq-eqb t (length kept) same) refl) ∙ is) in
           subst (λ u. (was_collected (e ∷ H) u ≡ false) × ((was : Request) × IsBuffer S (e ∷ H) u was found.buffer)) (sym (same ∙ follow.counted))
           (subst (λ x. (was_collected (e ∷ H) (accepted H) ≡ false) × ((was : Request) × IsBuffer S (e ∷ H) (accepted H) was x.buffer)) here (uncollected-new S H tag view asked bytes setup legal, (q, buffer-new k.buffer long written)))
       | inr other ↦
@@ -241,7 +237,7 @@ module _ (S : Setup) (H : List Entry) (tag : ℕ) (view : View) (asked : Asked) 
   pub ready-accept : (ready : ℕ → Type 0) → AreReady S H ready → (changes_bytes asked.kind ≡ true → mark_of S (e ∷ H) (accepted H) ≡ None → (b : ℕ) → group_low S q ≤ b → b < group_high S q → ready b) → AreReady S (e ∷ H) ready
   ready-accept ready are now t b was open_now named changes low high = elim (cases_eq t (accepted H)) [
     | inl same ↦
-        let here : q ≡ was = some-same q was (sym (subst (λ u. request (e ∷ H) u ≡ Some q) (sym same) (request-accept H tag view asked bytes)) ∙ named) in
+        let here : q ≡ was = same_Some q was (sym (subst (λ u. request (e ∷ H) u ≡ Some q) (sym same) (request-accept H tag view asked bytes)) ∙ named) in
         now (ap (λ x. changes_bytes x.asked.kind) here ∙ changes) (subst (λ u. mark_of S (e ∷ H) u ≡ None) same open_now.unmarked) b
         (subst (λ x. group_low S x ≤ b) (sym here) low) (subst (λ x. b < group_high S x) (sym here) high)
     | inr other ↦ are t b was (open-before S H e t other open_now) (sym (request-kept H e t other) ∙ named) changes low high

@@ -2,6 +2,7 @@
 use Rattle.std.proofs.Common.{◌≡◌, ℕ, ◌+◌, ◌-◌, ◌*◌, ◌<◌, ◌≤◌, ◌⊎◌, inl, inr, Bool, true, false, nat_lt, nat_eq, eqb, not, ◌||◌, ◌&&◌, cond, if◌then◌else◌, min, max, List, [], ◌∷◌, ◌++◌, length, take, drop, find, slice_get, Option, None, Some, option_map, refl, sym, ◌∙◌, ap, subst, arith}
 use Rattle.std.proofs.lemmas.Bool.{eq-eqb, or_left, and_from, lt-ltb, false≢true}
 use Rattle.std.proofs.lemmas.List.{length-take}
+use Rattle.std.proofs.lemmas.Option.{same_Some}
 use Rattle.byte_lists.specs.Patching.{patch}
 use Rattle.byte_lists.proofs.Patched.{length-patch}
 use Rattle.byte_lists.proofs.Patches.{patch-nothing}
@@ -76,9 +77,6 @@ store-turn S H todo b is legal legal' none first fetch =
     next-runnable S (Done todo.token (Fetch b) ∷ H) (λ c. false) is legal' (λ c. refl) ∙ (ap (option_map (turn_of_todo (Done todo.token (Fetch b) ∷ H))) here
     ∙ ap (λ (c : Command). Some (record { token = todo.token; command = c })) (fetched-command H todo.token todo.kind todo.task b fetch))
 
-some-same : {X : Type 0} (x y : X) → Some x ≡ Some y → x ≡ y
-some-same x y e = cc
-
 -- the holder of a ticket after a fetch is the token that fetched, where none held before
 new-holder : (S : Setup) (H : List Entry) (t b u c k : ℕ) → IsSetup S → IsLegal S (Done t (Fetch b) ∷ H) → (HoldsBy S H u c k → ⊥) → HoldsBy S (Done t (Fetch b) ∷ H) u c k → (t ≡ u) × (b ≡ c)
 new-holder S H t b u c k is legal none holds = by (holds-by-before S H (Done t (Fetch b)) u c k is legal holds)
@@ -152,13 +150,13 @@ module _ (old mid : State) (w : Lent) (todo : Todo) (q : Request) (is : IsSetup 
 
   its-gate : (g : Gate) (t : ℕ) (r : Request) → IsHeldBy mid w.ticket g t r → IsItsGate g t r
   its-gate g t r held =
-      let gate : g ≡ gate_for w.block w.ticket true w.bytes = some-same _ _ (sym held.gate ∙ held-here) in
+      let gate : g ≡ gate_for w.block w.ticket true w.bytes = same_Some _ _ (sym held.gate ∙ held-here) in
       let holds : HoldsBy old.setup (Done todo.token (Fetch w.block) ∷ old.entries) t g.block w.ticket =
       subst (λ S. HoldsBy S (Done todo.token (Fetch w.block) ∷ old.entries) t g.block w.ticket) lends.makes.makes.setup (subst (λ H. HoldsBy mid.setup H t g.block w.ticket) entries-are held.holds) in
       let token : todo.token ≡ t = (new-holder old.setup old.entries todo.token w.block t g.block w.ticket is legal-then (no-holder old t g.block w.ticket facts idle.held) holds).0 in
       let named : request old.entries todo.token ≡ Some r =
       sym (request-same old.entries (Done todo.token (Fetch w.block)) todo.token refl) ∙ (sym (ap (λ H. request H todo.token) entries-are) ∙ (ap (request mid.entries) token ∙ held.named)) in
-      record { gate = gate; token = token; request_is = some-same _ _ (sym lends.work.named ∙ named) }
+      record { gate = gate; token = token; request_is = same_Some _ _ (sym lends.work.named ∙ named) }
 
   -- the merged work is what is expected
   expected : (g : Gate) (t : ℕ) (r : Request) → IsItsGate g t r → expected_of mid.setup r g ≡ (merged w).bytes
@@ -188,7 +186,7 @@ module _ (old mid : State) (w : Lent) (todo : Todo) (q : Request) (is : IsSetup 
       clash : {g : Gate} → None ≡ Some g → ⊥
       clash e = cc
   stores new (stored.Strange back place wanted found) (ours_, same, still, (g, t, r, differs)) =
-      differs.differs (some-same _ _ (sym differs.wanted ∙ (ap (λ l. slice_get l place) (expected g t r (its-gate g t r differs.held)) ∙ differs.has)))
+      differs.differs (same_Some _ _ (sym differs.wanted ∙ (ap (λ l. slice_get l place) (expected g t r (its-gate g t r differs.held)) ∙ differs.has)))
   stores new stored.Did (ours_, (g, t, r, outcome, writes)) =
       let its : IsItsGate g t r = its-gate g t r writes.stores.held in (
         record { token = t; command = Store g.block },

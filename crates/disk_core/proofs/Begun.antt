@@ -40,9 +40,7 @@ use Rattle.disk_core.proofs.HistoryCopies.{copy-stays}
 use Rattle.disk_core.proofs.HistoryOwed.{units-few, open-kept}
 use Rattle.disk_core.proofs.Links.{AreClosed}
 use Rattle.disk_core.proofs.Still.{left-done}
-
-clash : true ≡ false → ⊥
-clash e = cc
+use Rattle.disk_core.proofs.Plain.{clash}
 
 -- an entry that ends tokens and does nothing else to them
 pub record IsEnding (S : Setup) (H : List Entry) (e : Entry) : Type 0 where

@@ -4,6 +4,7 @@ use Rattle.std.specs.Prelude.{slice_set, slice_index_or, min, max}
 use Rattle.std.specs.Option.{option_map}
 use Rattle.std.proofs.lemmas.Bool.{cases_Bool, cases_eq, cases_lt, and_right, false_from_ne_true}
 use Rattle.std.proofs.lemmas.List.{length-set, map-set}
+use Rattle.std.proofs.lemmas.Option.{same_Some, none-some}
 use Rattle.byte_lists.specs.Patching.{patch}
 use Rattle.byte_lists.proofs.Patched.{length-patch}
 use Rattle.byte_lists.proofs.Patches.{patch-in, patch-before, patch-behind, part-byte}
@@ -31,13 +32,8 @@ use Rattle.disk_core.specs.Facts.{IsBuffer, KeptFollow, HasBytesRead}
 use Rattle.disk_core.specs.Parts.{kept_from, kept_of}
 use Rattle.disk_core.specs.Inside.{Tracks, RecordsFollow}
 use Rattle.disk_core.specs.Moves.{put_into}
-use Rattle.disk_core.proofs.Finished.{changed-at, changed-other, buffer-same}
-
-some-same : {X : Type 0} (x y : X) → Some x ≡ Some y → x ≡ y
-some-same x y e = cc
-
-no-some : {X : Type 0} (x : X) → None ≡ Some x → ⊥
-no-some x e = cc
+use Rattle.disk_core.proofs.Finished.{buffer-same}
+use Rattle.disk_core.proofs.Kept.{changed-at, changed-other}
 
 -- records do not see the bytes of a buffer
 tracks-put : (S : Setup) (H : List Entry) (t place : ℕ) (piece : List ℕ) (r : Record) (q : Request) → Tracks S H t r q → Tracks S H t (put_into place piece r) q
@@ -55,8 +51,8 @@ records-put S H t place piece records follow = record { each = each; shown = rec
     change = put_into place piece
 
     before : (o : Option Record) (r : Record) → record_at records t ≡ o → option_map change o ≡ Some r → (r' : Record) × (record_at records t ≡ Some r') × (change r' ≡ r)
-    before None r there e = absurd (no-some r e)
-    before (Some r') r there e = (r', there, some-same (change r') r e)
+    before None r there e = absurd (none-some r e)
+    before (Some r') r there e = (r', there, same_Some (change r') r e)
 
     own : (u : ℕ) (r : Record) → t ≡ u → record_at (changed change records t) u ≡ Some r → (r' : Record) × (record_at records t ≡ Some r') × (change r' ≡ r)
     own u r same there = before (record_at records t) r refl (sym (changed-at change records t) ∙ (ap (record_at (changed change records t)) same ∙ there))
@@ -91,7 +87,7 @@ kept-put t place piece records own there =
 
 pub at-set : (kept : List (Option Kept)) (t : ℕ) (old new : Kept) → kept_at kept t ≡ Some old → kept_at (slice_set kept t (Some new)) t ≡ Some new
 unfolding kept_at
-at-set [] t old new there = absurd (no-some old there)
+at-set [] t old new there = absurd (none-some old there)
 at-set (k ∷ kept) zero old new there = refl
 at-set (k ∷ kept) (suc t) old new there = at-set kept t old new there
 
@@ -104,7 +100,7 @@ at-other (k ∷ kept) (suc t) zero new other = refl
 at-other (k ∷ kept) (suc t) (suc u) new other = at-other kept t u new (λ same. other (ap suc same))
 
 told-byte : (told : Option (List ℕ)) (low x v : ℕ) (piece : List ℕ) → AreToldAt told low piece → low ≤ x → x < low + length piece → byte_at told x ≡ Some v → slice_get piece (x - low) ≡ Some v
-told-byte None low x v piece are from until read = absurd (no-some v read)
+told-byte None low x v piece are from until read = absurd (none-some v read)
 told-byte (Some bytes) low x v piece are from until read =
     ap (λ p. slice_get p (x - low)) are ∙ (part-byte bytes low (length piece) (x - low) (omega arith) ∙ (ap (slice_get bytes) (omega arith) ∙ read))
 
@@ -176,8 +172,8 @@ module _ (S : Setup) (H : List Entry) (t : ℕ) (q : Request) (u : Span) (unit :
             (collected-same H (Done t (Get u.block u.count)) v refl ∙ old.0, (old.1.0, buffer-same S H (Done t (Get u.block u.count)) v old.1.0 k.buffer (λ x. bytes_read-other S H (Done t (Get u.block u.count)) v x (done-concerns H t v (Get u.block u.count) other)) old.1.1)))
         | inl same ↦
             (let old = follow.there t was here in
-            let mine : new ≡ k = some-same new k (sym (at-set kept t was new here) ∙ (ap (kept_at (slice_set kept t (Some new))) same ∙ is)) in
-            let one : old.1.0 ≡ q = some-same old.1.0 q (sym old.1.1.named ∙ named) in
+            let mine : new ≡ k = same_Some new k (sym (at-set kept t was new here) ∙ (ap (kept_at (slice_set kept t (Some new))) same ∙ is)) in
+            let one : old.1.0 ≡ q = same_Some old.1.0 q (sym old.1.1.named ∙ named) in
             let buffer : IsBuffer S H t q was.buffer = subst (λ p. IsBuffer S H t p was.buffer) one old.1.1 in (
               collected-same H (Done t (Get u.block u.count)) v refl ∙ subst (λ w. was_collected H w ≡ false) same old.0,
               (q, subst (λ w. IsBuffer S Now w q k.buffer) same (subst (λ (n : Kept). IsBuffer S Now t q n.buffer) mine (put-buffer was.buffer reads buffer))),
@@ -186,6 +182,6 @@ module _ (S : Setup) (H : List Entry) (t : ℕ) (q : Request) (u : Span) (unit :
 
       gone : (v : ℕ) → v < accepted Now → kept_at (slice_set kept t (Some new)) v ≡ None → was_collected Now v ≡ true
       gone v lt none = elim (cases_eq t v) [
-        | inl same ↦ absurd (no-some new (sym (ap (kept_at (slice_set kept t (Some new))) same ∙ none) ∙ at-set kept t was new here))
+        | inl same ↦ absurd (none-some new (sym (ap (kept_at (slice_set kept t (Some new))) same ∙ none) ∙ at-set kept t was new here))
         | inr other ↦ collected-same H (Done t (Get u.block u.count)) v refl ∙ follow.gone v (subst (λ n. v < n) (accepted-same H (Done t (Get u.block u.count)) refl) lt) (sym (at-other kept t v new other) ∙ none)
       ]

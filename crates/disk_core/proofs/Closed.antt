@@ -32,26 +32,12 @@ use Rattle.disk_core.specs.Parts.{kept_from, kept_of, holder_of}
 use Rattle.disk_core.specs.Inside.{IsEarlier, HoldersFollow, HasRoom}
 use Rattle.disk_core.specs.Moves.{Ends}
 use Rattle.disk_core.specs.Closing.{HoldsSoFar, TracksSoFar, RecordsSoFar, GatesSoFar, token_owed_so_far, tokens_owed_so_far, RoomSoFar, IsClosing}
-use Rattle.disk_core.proofs.Kept.{kept-record}
+use Rattle.disk_core.proofs.Kept.{kept-record, changed-at, changed-other}
 use Rattle.disk_core.proofs.Queued.{queue-without, queue-count}
 use Rattle.disk_core.proofs.Revoked.{filter-mapped, filter-twice, HaveLost, is_ticket_of, revoked-lost, left-gate, gate-left, holder-first, other-ticket, ticket-other, holder-others, others-tickets}
 use Rattle.disk_core.proofs.Links.{AreClosed}
 
 -- ---- records
-
-pub changed-at : (change : Record → Record) (records : Records) (t : ℕ) → record_at (changed change records t) t ≡ option_map change (record_at records t)
-unfolding record_at changed
-changed-at change [] t = refl
-changed-at change (x ∷ records) zero = refl
-changed-at change (x ∷ records) (suc t) = changed-at change records t
-
-pub changed-other : (change : Record → Record) (records : Records) (t u : ℕ) → u ≢ t → record_at (changed change records t) u ≡ record_at records u
-unfolding record_at changed
-changed-other change [] t u other = refl
-changed-other change (x ∷ records) zero zero other = absurd (other refl)
-changed-other change (x ∷ records) zero (suc u) other = refl
-changed-other change (x ∷ records) (suc t) zero other = refl
-changed-other change (x ∷ records) (suc t) (suc u) other = changed-other change records t u (λ same. other (ap suc same))
 
 -- an end keeps the buffer and the event word
 pub kept-ended : (status : Status) (records : Records) (t : ℕ) → kept_of (changed (ended_record status) records t) ≡ kept_of records
@@ -84,7 +70,7 @@ records-step S H marks marks' records t status here away follow = record {
           })),
         )
     | inr other ↦
-        let was = follow.each u r (sym (changed-other (ended_record status) records t u other) ∙ is) in
+        let was = follow.each u r (sym (changed-other (ended_record status) records t u (λ same. other (sym same))) ∙ is) in
         (was.0, record { named = was.1.named; viewed = was.1.viewed; asked = was.1.asked; begins = was.1.begins; mark = away u other ∙ was.1.mark; left = was.1.left })
   ];
   shown = record {
@@ -92,7 +78,7 @@ records-step S H marks marks' records t status here away follow = record {
       | inl same ↦
           let old = mapped-some (ended_record status) (record_at records t) r (sym (changed-at (ended_record status) records t) ∙ (ap (record_at (changed (ended_record status) records t)) (sym same) ∙ is)) in
           subst (λ (x : Record). x.signaller.told ≡ word_for x.ended) old.2 refl
-      | inr other ↦ follow.shown.each u r (sym (changed-other (ended_record status) records t u other) ∙ is)
+      | inr other ↦ follow.shown.each u r (sym (changed-other (ended_record status) records t u (λ same. other (sym same))) ∙ is)
     ];
   };
 }

@@ -33,6 +33,7 @@ use Rattle.disk_core.specs.Moves.{IsDisk, Reaches, HasPlace, entered, collected}
 use Rattle.disk_core.proofs.Following.{era-still}
 use Rattle.disk_core.proofs.Kept.{kept-record, kept-without, kept-cleared, kept-others, records-cleared, records-others}
 use Rattle.disk_core.proofs.Still.{IsStill, gates-still, holders-still, drive-still, ready-still, tracks-still, buffer-still, accepted-still, fetches-still}
+use Rattle.disk_core.proofs.Plain.{some-none}
 
 still-collect : (S : Setup) (H : List Entry) (tag t : ℕ) → IsSetup S → IsLegal S H → MayFollow S H (Collect tag t) → IsStill S H (Collect tag t)
 unfolding IsLegal ending
@@ -47,12 +48,6 @@ still-collect S H tag t setup legal may = record {
   keeps_protection = refl;
   unending = λ u. refl;
 }
-
-some-none : {X : Type 0} (m : Option X) (x : X) → m ≡ None → m ≡ Some x → ⊥
-some-none m x none some = clash (sym none ∙ some)
-  where
-    clash : None ≡ Some x → ⊥
-    clash e = cc
 
 other-collect : (H : List Entry) (tag t u : ℕ) → t ≢ u → was_collected (Collect tag t ∷ H) u ≡ was_collected H u
 other-collect H tag t u other = collected-same H (Collect tag t) u (ne_eqb t u other)

@@ -4,6 +4,7 @@ use Rattle.std.specs.Option.{option_map}
 use Rattle.std.proofs.lemmas.List.{length-take, length-drop, length-replicate}
 use Rattle.std.proofs.lemmas.Nat.{mul-le}
 use Rattle.std.proofs.Math.Seq.{take-append_seam}
+use Rattle.std.proofs.lemmas.Option.{same_Some}
 use Rattle.byte_lists.specs.Patching.{patch}
 use Rattle.byte_lists.proofs.Patched.{length-patch}
 use Rattle.medium.specs.Device.{Device, IsShaped}
@@ -33,9 +34,6 @@ use Rattle.disk_core.proofs.Kept.{kept-record}
 use Rattle.disk_core.proofs.Opened.{IsOpenRecord, IsHolderOf, open-record}
 use Rattle.disk_core.proofs.Parted.{part-there, found-record}
 
-same-request : (p q : Request) → Some p ≡ Some q → p ≡ q
-same-request p q e = cc
-
 put-same : (kind : Kind) (n : ℕ) (buffer bytes : List ℕ) → changes_bytes kind ≡ true → (kind ≡ Write → buffer ≡ bytes) → bytes_to_put kind n buffer ≡ bytes_to_put kind n bytes
 put-same Read n buffer bytes changes written = cc
 put-same Write n buffer bytes changes written = written refl
@@ -60,7 +58,7 @@ module _ {M : Type 0} (device : M → Device) (prepared : M → ℕ → Type 0) 
   unfolding state_of
   open-buffer t r q is =
       let kept = (sound.facts.tokens.there t (kept_from r) (kept-record c.tokens t ∙ ap (option_map kept_from) is.there)).1 in
-      subst (λ p. IsBuffer S c.history.entries t p r.request.buffer) (same-request kept.0 q (sym kept.1.named ∙ is.tracks.named)) kept.1
+      subst (λ p. IsBuffer S c.history.entries t p r.request.buffer) (same_Some kept.0 q (sym kept.1.named ∙ is.tracks.named)) kept.1
 
   -- the bytes that its record puts are those of its request
   pub bytes-put : (t low high : ℕ) (r : Record) (q : Request) → IsOpenRecord S c.history.entries c t r q → changes_bytes q.asked.kind ≡ true → bytes_in r.request low high ≡ bytes_between S q low high
@@ -79,7 +77,7 @@ module _ {M : Type 0} (device : M → Device) (prepared : M → ℕ → Type 0) 
     pub part-record : (r : Record) × IsOpenRecord S c.history.entries c part.token r q
     part-record =
         let (r, p, is) = open-record device prepared drive c sound part.token held.holds.holds.outstanding in
-        (r, subst (IsOpenRecord S c.history.entries c part.token r) (same-request p q (sym is.tracks.named ∙ held.named)) is)
+        (r, subst (IsOpenRecord S c.history.entries c part.token r) (same_Some p q (sym is.tracks.named ∙ held.named)) is)
 
     pub holder-is : (r : Record) → IsOpenRecord S c.history.entries c part.token r q → IsHolderOf device prepared drive c sound part.ticket g part.token q r
     unfolding state_of

@@ -1,8 +1,7 @@
 -- The puts of a write and the wipes of an erase.
-use Rattle.std.proofs.Common.{◌≡◌, ◌≢◌, ℕ, zero, suc, ◌+◌, ◌-◌, ◌*◌, ◌/◌, ◌^◌, ◌<◌, ◌≤◌, Bool, true, false, List, [], ◌∷◌, length, take, drop, slice_get, Option, None, Some, refl, sym, ◌∙◌, ap, subst, arith, Result, Ok, Err, inl, inr, OnOk, IfErr, IsSome, IfSome, length-take, length-drop}
+use Rattle.std.proofs.Common.{◌≡◌, ◌≢◌, ℕ, zero, suc, ◌+◌, ◌-◌, ◌*◌, ◌/◌, ◌^◌, ◌<◌, ◌≤◌, Bool, true, false, List, [], ◌∷◌, length, take, drop, slice_get, Option, None, Some, refl, sym, ◌∙◌, ap, subst, arith, Result, Ok, Err, OnOk, IfErr, IsSome, IfSome, length-take, length-drop}
 use Rattle.std.specs.Prelude.{count_by, max, min, replicate}
-use Rattle.std.proofs.Math.Nat.{mul-le-mul_right, mul_comm, div-le_of_le-mul}
-use Rattle.std.proofs.lemmas.Bool.{cases_lt}
+use Rattle.std.proofs.Math.Nat.{mul-le-mul_right, mul_comm, div-le_of_le-mul, lt_of_mul-lt-mul_right}
 use Rattle.medium.specs.Device.{Device, IsShaped, IsTransfer, IsWrite, patch_told, written}
 use Rattle.medium.specs.declared.block_failed.BlockFailed.{BlockFailed}
 use Rattle.drive.specs.Drives.{DriveState, medium_in}
@@ -101,12 +100,6 @@ cover-is Erase b n is = record { of = refl; at = refl; counted = λ S. refl; cha
 
 pub up-over : (g a : ℕ) → 0 < g → a / g ≤ (a + g - 1) / g
 up-over g a some = div-le_of_le-mul g (let over = up-reaches g a some in let flip = mul_comm (up g a) g in omega arith)
-
-less-blocks : (a b size : ℕ) → a * size < b * size → a < b
-less-blocks a b size lt = elim (cases_lt a b) [
-  | inl below ↦ below
-  | inr over ↦ absurd (let more : b * size ≤ a * size = mul-le-mul_right size over in omega arith)
-]
 
 module _ {M : Type 0} (device : M → Device) (prepared : M → ℕ → Type 0) (drive : DriveState M) (c : Core) (sound : IsDisk device prepared drive c) (unit : Sub) (todo : Todo) (first : IsFirst device drive c unit todo) (b n low high : ℕ)
     (task_is : todo.task ≡ Moves (record { whole = true; block = b; count = n; low = low; high = high })) (writes : changes_bytes todo.kind ≡ true) where
@@ -225,7 +218,7 @@ module _ {M : Type 0} (device : M → Device) (prepared : M → ℕ → Type 0) 
     ready = λ m in_ at from until.
         (let size = (medium-meets device prepared drive c sound m in_).size in
         let here : at * size_of S < (b + n) * size_of S = (let long = put-long in let sum = sum-is in let lhs : at * (device m).size ≡ at * size_of S = ap (λ k. at * k) size in let rhs : b * (device m).size ≡ b * size_of S = ap (λ k. b * k) size in omega arith) in
-        let inside = touched at from (less-blocks at (b + n) (size_of S) here) in
+        let inside = touched at from (lt_of_mul-lt-mul_right (size_of S) here) in
         sound.ready m in_ todo.token at r moving.outstanding moving.named changes inside.0 inside.1);
   }
     where
@@ -253,7 +246,7 @@ module _ {M : Type 0} (device : M → Device) (prepared : M → ℕ → Type 0) 
 
   module _ (shaped : (m : M) → IsShaped (device m)) (drive' : DriveState M) (c' : Core) where
     stops : (d d' : Device) (fault : BlockFailed) → d.size ≡ size_of S → IsWrite d b (blocks_bytes own.request b n c.blocks.size) (Err fault) d' → fault.done < n
-    stops d d' fault size is = less-blocks fault.done n (size_of S) (let few = is.done in let long = put-long in let lhs : fault.done * d.size ≡ fault.done * size_of S = ap (λ k. fault.done * k) size in omega arith)
+    stops d d' fault size is = lt_of_mul-lt-mul_right (size_of S) (let few = is.done in let long = put-long in let lhs : fault.done * d.size ≡ fault.done * size_of S = ap (λ k. fault.done * k) size in omega arith)
 
     few-done : (result : Result (Unit {0}) BlockFailed) (d d' : Device) → d.size ≡ size_of S → IsWrite d b (blocks_bytes own.request b n c.blocks.size) result d' → IfErr result (λ fault. fault.done ≤ u.count)
     few-done (Ok x) d d' size is = tt

@@ -1,9 +1,10 @@
 -- The drive after a command on the medium that is in.
-use Rattle.std.proofs.Common.{◌≡◌, ◌≢◌, ℕ, zero, suc, ◌+◌, ◌-◌, ◌%◌, ◌<◌, ◌≤◌, ◌⊎◌, inl, inr, Bool, true, false, List, [], ◌∷◌, length, map, slice_get, Option, None, Some, refl, sym, ◌∙◌, ap, subst, arith, All, Result, Ok, Err, OnErr}
+use Rattle.std.proofs.Common.{◌≡◌, ◌≢◌, ℕ, zero, suc, ◌+◌, ◌-◌, ◌%◌, ◌<◌, ◌≤◌, ◌⊎◌, inl, inr, Bool, false, List, [], ◌∷◌, length, map, slice_get, Option, Some, refl, sym, ◌∙◌, ap, subst, arith, All, Result, Ok, Err, OnErr}
 use Rattle.std.specs.Prelude.{slice_set, if◌then◌else◌}
 use Rattle.std.proofs.lemmas.Bool.{cases_eq}
 use Rattle.std.proofs.lemmas.List.{length-set, map-set}
 use Rattle.std.proofs.lemmas.List.Elements.{All-set}
+use Rattle.std.proofs.lemmas.Option.{same_Some, none-some}
 use Rattle.medium.specs.Device.{Device, IsSame, IsCommand, StayPrepared, failures}
 use Rattle.medium.specs.Counts.{adds, Rose}
 use Rattle.medium.specs.declared.block_failed.BlockFailed.{BlockFailed}
@@ -29,6 +30,7 @@ use Rattle.disk_core.specs.Inside.{DriveFollows, AreReady}
 use Rattle.disk_core.specs.Calls.{IsCommanded, failures_of}
 use Rattle.disk_core.proofs.Commanded.{outcome_of}
 use Rattle.disk_core.proofs.Setups.{all-at}
+use Rattle.disk_core.proofs.Prepared.{medium-place}
 
 -- another medium does not see the entry
 era-other : (S : Setup) (H : List Entry) (e : Entry) (k : ℕ) (d : Device) → media_id_of H ≢ k → MeetsEra S H k d → MeetsEra S (e ∷ H) k d
@@ -45,22 +47,8 @@ era-other S H e k d other meets =
       faults = subst (λ n. n ≤ d.faults) (sym same) meets.faults;
     }
 
--- the place of the medium that is in
-medium-place : {M : Type 0} (drive : DriveState M) (m : M) → medium_in drive ≡ Some m → slice_get drive.media (drive.media_id - 1) ≡ Some m
-medium-place drive m is = by drive.present is
-  where
-    by : (p : Bool) → (if p then slice_get drive.media (drive.media_id - 1) else None) ≡ Some m → slice_get drive.media (drive.media_id - 1) ≡ Some m
-    by true there = there
-    by false there = cc
-
-some-same : {X : Type 0} (x y : X) → Some x ≡ Some y → x ≡ y
-some-same x y e = cc
-
-no-some : {X : Type 0} (x : X) → None ≡ Some x → ⊥
-no-some x e = cc
-
 get-set : {X : Type 0} (xs : List X) (i : ℕ) (x y : X) → slice_get xs i ≡ Some x → slice_get (slice_set xs i y) i ≡ Some y
-get-set [] i x y is = absurd (no-some x is)
+get-set [] i x y is = absurd (none-some x is)
 get-set (z ∷ xs) zero x y is = refl
 get-set (z ∷ xs) (suc i) x y is = get-set xs i x y is
 
@@ -73,7 +61,7 @@ get-other (z ∷ xs) (suc i) (suc j) y other = get-other xs i j y (λ same. othe
 
 map-replaced : {X Y : Type 0} (f : X → Y) (xs : List X) (i : ℕ) (x y : X) → slice_get xs i ≡ Some x → f y ≡ f x → map f (slice_set xs i y) ≡ map f xs
 map-replaced f [] i x y is same = refl
-map-replaced f (z ∷ xs) zero x y is same = ap (λ v. v ∷ map f xs) (same ∙ ap f (sym (some-same z x is)))
+map-replaced f (z ∷ xs) zero x y is same = ap (λ v. v ∷ map f xs) (same ∙ ap f (sym (same_Some z x is)))
 map-replaced f (z ∷ xs) (suc i) x y is same = ap (λ vs. f z ∷ vs) (map-replaced f xs i x y is same)
 
 -- the entry belongs to a command
@@ -101,7 +89,7 @@ module _ {M : Type 0} (device : M → Device) (prepared : M → ℕ → Type 0) 
   place-is = let id = follow.media_id in omega arith
 
   there : slice_get drive.media (drive.media_id - 1) ≡ Some before
-  there = medium-place drive before was_in
+  there = (medium-place drive before was_in).1
 
   now-there : slice_get (with_medium drive after).media (drive.media_id - 1) ≡ Some after
   now-there = get-set drive.media (drive.media_id - 1) before after there
@@ -110,8 +98,8 @@ module _ {M : Type 0} (device : M → Device) (prepared : M → ℕ → Type 0) 
   device-in = subst (λ i. slice_get (map device drive.media) i ≡ Some (device before)) place-is (at drive.media (drive.media_id - 1) there)
     where
       at : (xs : List M) (i : ℕ) → slice_get xs i ≡ Some before → slice_get (map device xs) i ≡ Some (device before)
-      at [] i is = absurd (no-some before is)
-      at (z ∷ xs) zero is = ap (λ v. Some (device v)) (some-same z before is)
+      at [] i is = absurd (none-some before is)
+      at (z ∷ xs) zero is = ap (λ v. Some (device v)) (same_Some z before is)
       at (z ∷ xs) (suc i) is = at xs i is
 
   pub devices-set : devices_of device (with_medium drive after) ≡ slice_set (devices_of device drive) (inserts H) (device after)
@@ -130,7 +118,7 @@ module _ {M : Type 0} (device : M → Device) (prepared : M → ℕ → Type 0) 
     | inl same ↦
         let now : slice_get (devices_of device (with_medium drive after)) (inserts H) ≡ Some (device after) =
         ap (λ xs. slice_get xs (inserts H)) devices-set ∙ get-set (devices_of device drive) (inserts H) (device before) (device after) device-in in
-        let here : d ≡ device after = some-same d (device after) (sym is ∙ (ap (λ j. slice_get (devices_of device (with_medium drive after)) j) (sym same) ∙ now)) in
+        let here : d ≡ device after = same_Some d (device after) (sym is ∙ (ap (λ j. slice_get (devices_of device (with_medium drive after)) j) (sym same) ∙ now)) in
         let id : media_id_of H ≡ suc i = omega arith in
         subst (λ k. MeetsEra S (e ∷ H) k d) id (subst (λ v. MeetsEra S (e ∷ H) (media_id_of H) v) (sym here) era)
     | inr other ↦
@@ -159,7 +147,7 @@ module _ {M : Type 0} (device : M → Device) (prepared : M → ℕ → Type 0) 
 
   pub ready-driven : (e : Entry) → IsMakingEntry e → StayPrepared (prepared before) (prepared after) → AreReady S H (prepared before) → (m : M) → medium_in (with_medium drive after) ≡ Some m → AreReady S (e ∷ H) (prepared m)
   ready-driven e is stay ready m is_in =
-      let here : after ≡ m = some-same after m (sym now-there ∙ medium-place (with_medium drive after) m is_in) in
+      let here : after ≡ m = same_Some after m (sym now-there ∙ (medium-place (with_medium drive after) m is_in).1) in
       subst (λ v. AreReady S (e ∷ H) (prepared v)) here
       (λ t b q open_now named changes low high.
       let lt = open_now.token in

@@ -6,11 +6,10 @@ use Rattle.efi_status.specs.declared.Status.{Status}
 use Rattle.medium.specs.Device.{Device}
 use Rattle.drive.specs.Drives.{DriveState, medium_in}
 use Rattle.history.specs.declared.entry.Entry.{Entry}
-use Rattle.history.specs.declared.entry.Entry.TheVariants.{Done, Fault}
 use Rattle.history.specs.Setup.{Setup}
 use Rattle.history.specs.Eras.{is_command}
 use Rattle.history.specs.Tokens.{Request, is_accept, accepted, request}
-use Rattle.history.specs.Marks.{mark_of, ending, status_if, is_outstanding, IsOutstanding, is_fetch_entry, fetches}
+use Rattle.history.specs.Marks.{mark_of, ending, status_if, is_outstanding, IsOutstanding, fetches}
 use Rattle.history.specs.Rules.{IsLegal}
 use Rattle.history.specs.Tasks.{pending}
 use Rattle.history_laws.specs.Left.{ended_before, ended_by}
@@ -33,9 +32,7 @@ use Rattle.disk_core.proofs.Links.{StandsBeside, links-disk, disk-closed}
 use Rattle.disk_core.proofs.Begun.{IsEnding, begun, gates-begun, units-left}
 use Rattle.disk_core.proofs.Closed.{closed-all}
 use Rattle.disk_core.proofs.Failed.{beside-rest}
-
-clash : true ≡ false → ⊥
-clash e = cc
+use Rattle.disk_core.proofs.Still.{no-fetch}
 
 -- ---- how many tokens an entry ends
 
@@ -77,11 +74,6 @@ unfolding ended_by
 ended-no S H e none = ended-nothing S H e (accepted H) none
 
 -- ---- what no end touches, over such an entry
-
-no-fetch : (e : Entry) → is_command e ≡ false → is_fetch_entry e ≡ false
-no-fetch (Done t c) still = absurd (clash still)
-no-fetch (Fault t c done) still = absurd (clash still)
-no-fetch e still = refl
 
 pub ready-after : (S : Setup) (H : List Entry) (e : Entry) (ready : ℕ → Type 0) → is_accept e ≡ false → AreReady S H ready → AreReady S (e ∷ H) ready
 ready-after S H e ready adds_none are t b q open_now named changes low high =

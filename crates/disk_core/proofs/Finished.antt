@@ -27,21 +27,8 @@ use Rattle.disk_core.specs.Inside.{Tracks, RecordsFollow}
 use Rattle.disk_core.specs.Closing.{TracksSoFar, RecordsSoFar}
 use Rattle.disk_core.proofs.HistoryUnits.{FinishesTask, left-falls}
 use Rattle.std.specs.Prelude.{filter, sum_by}
-
--- records
-pub changed-at : (change : Record → Record) (records : Records) (t : ℕ) → record_at (changed change records t) t ≡ option_map change (record_at records t)
-unfolding record_at changed
-changed-at change [] t = refl
-changed-at change (r ∷ records) zero = refl
-changed-at change (r ∷ records) (suc t) = changed-at change records t
-
-pub changed-other : (change : Record → Record) (records : Records) (t u : ℕ) → t ≢ u → record_at (changed change records t) u ≡ record_at records u
-unfolding record_at changed
-changed-other change [] t u other = refl
-changed-other change (r ∷ records) zero zero other = absurd (other refl)
-changed-other change (r ∷ records) zero (suc u) other = refl
-changed-other change (r ∷ records) (suc t) zero other = refl
-changed-other change (r ∷ records) (suc t) (suc u) other = changed-other change records t u (λ same. other (ap suc same))
+use Rattle.std.proofs.lemmas.Option.{same_Some, none-some}
+use Rattle.disk_core.proofs.Kept.{changed-at, changed-other}
 
 kept-same : (change : Record → Record) → ((r : Record) → kept_from (change r) ≡ kept_from r) → (o : Option Record) → option_map kept_from (option_map change o) ≡ option_map kept_from o
 kept-same change same None = refl
@@ -70,12 +57,6 @@ pub left-other : (S : Setup) (H : List Entry) (e : Entry) (t : ℕ) (q : Request
 unfolding left_of
 left-other S H e t q quiet = λ i. sum_by task_bytes (filter (λ task. not (finished-same S H (e ∷ H) t task (done_commands-other S H e t quiet) i)) (tasks_of S q))
 
-some-same : {X : Type 0} (x y : X) → Some x ≡ Some y → x ≡ y
-some-same x y e = cc
-
-no-some : {X : Type 0} (x : X) → None ≡ Some x → ⊥
-no-some x e = cc
-
 far-other : (S : Setup) (H : List Entry) (e : Entry) (t : ℕ) (r : Record) (q : Request) → concerns H e t ≡ false → Tracks S H t r q → TracksSoFar S (e ∷ H) (mark_of S H) t r q
 far-other S H e t r q quiet is = record {
   named = request-stays H e t q is.named;
@@ -90,7 +71,7 @@ far-lowered : (S : Setup) (H : List Entry) (t : ℕ) (c : Command) (q : Request)
     → TracksSoFar S (Done t c ∷ H) (mark_of S H) t (lower_record (task_bytes task) r) p
 unfolding lower_record
 far-lowered S H t c q task r p is finishes unmarked tracks =
-    let same : q ≡ p = some-same q p (sym finishes.named ∙ tracks.named) in
+    let same : q ≡ p = same_Some q p (sym finishes.named ∙ tracks.named) in
     let fall : left_of S (Done t c ∷ H) t p + task_bytes task ≡ left_of S H t p = subst (λ v. left_of S (Done t c ∷ H) t v + task_bytes task ≡ left_of S H t v) same (left-falls S H t c q task is finishes) in
     let was = tracks.left (sym tracks.mark ∙ unmarked) in
     record {
@@ -111,8 +92,8 @@ records-lowered S H t c q task records is finishes unmarked follow = record { ea
     change = lower_record (task_bytes task)
 
     before : (o : Option Record) (r : Record) → record_at records t ≡ o → option_map change o ≡ Some r → (r' : Record) × (record_at records t ≡ Some r') × (change r' ≡ r)
-    before None r there e = absurd (no-some r e)
-    before (Some r') r there e = (r', there, some-same (change r') r e)
+    before None r there e = absurd (none-some r e)
+    before (Some r') r there e = (r', there, same_Some (change r') r e)
 
     own : (u : ℕ) (r : Record) → t ≡ u → record_at (changed change records t) u ≡ Some r → (r' : Record) × (record_at records t ≡ Some r') × (change r' ≡ r)
     own u r same there = before (record_at records t) r refl (sym (changed-at change records t) ∙ (ap (record_at (changed change records t)) same ∙ there))
@@ -176,8 +157,8 @@ records-ended S H marks t status records ended same far = record { each = each; 
     change = ended_record status
 
     before : (o : Option Record) (r : Record) → record_at records t ≡ o → option_map change o ≡ Some r → (r' : Record) × (record_at records t ≡ Some r') × (change r' ≡ r)
-    before None r there e = absurd (no-some r e)
-    before (Some r') r there e = (r', there, some-same (change r') r e)
+    before None r there e = absurd (none-some r e)
+    before (Some r') r there e = (r', there, same_Some (change r') r e)
 
     own : (u : ℕ) (r : Record) → t ≡ u → record_at (changed change records t) u ≡ Some r → (r' : Record) × (record_at records t ≡ Some r') × (change r' ≡ r)
     own u r one there = before (record_at records t) r refl (sym (changed-at change records t) ∙ (ap (record_at (changed change records t)) one ∙ there))

@@ -1,5 +1,5 @@
 -- Each medium follows the history through an entry that is no command.
-use Rattle.std.proofs.Common.{◌≡◌, ℕ, ◌≤◌, Bool, true, false, List, ◌∷◌, refl, sym, ◌∙◌, arith, subst}
+use Rattle.std.proofs.Common.{◌≡◌, ℕ, ◌≤◌, Bool, false, List, ◌∷◌, refl, sym, ◌∙◌, arith, subst}
 use Rattle.medium.specs.Device.{Device}
 use Rattle.history.specs.declared.entry.Entry.{Entry}
 use Rattle.history.specs.declared.entry.Entry.TheVariants.{Accept, Refuse, Done, Fault, Collect, Cancel, Reset, Eject, Insert, Protect}
@@ -8,9 +8,7 @@ use Rattle.history.specs.Eras.{is_command, is_fault, era_count}
 use Rattle.history_laws.proofs.ContentLemmas.{is_flush_entry, contents-same, kept-same, piece-none}
 use Rattle.history_laws.proofs.EraLemmas.{era_count-same}
 use Rattle.disk_core.specs.Facts.{MeetsEra}
-
-clash : true ≡ false → ⊥
-clash e = cc
+use Rattle.disk_core.proofs.Plain.{clash}
 
 flush-none : (e : Entry) → is_command e ≡ false → is_flush_entry e ≡ false
 flush-none (Accept tag view asked bytes) still = refl

@@ -6,6 +6,7 @@ use Rattle.std.specs.Option.{option_map}
 use Rattle.std.proofs.Math.Nat.{le-div_iff_mul-le, div-mul-le_self, mul-le-mul_right}
 use Rattle.std.proofs.lemmas.Bool.{cases_Bool, cases_eq, eq-eqb, ne_eqb, eqb-true, or_cases, not_from_false, not-true, false_from_ne_true, true_from_ne_false}
 use Rattle.std.specs.Prelude.{◌==◌}
+use Rattle.std.specs.Cmp.{both_ways}
 use Rattle.medium.specs.Device.{Device}
 use Rattle.drive.specs.Drives.{DriveState, IsPer}
 use Rattle.block_gate.specs.Gates.{Gate, Gates, gate_of, is_block_held}
@@ -40,12 +41,10 @@ use Rattle.disk_core.specs.Calls.{first_of}
 use Rattle.disk_core.specs.Moves.{IsDisk}
 use Rattle.disk_core.proofs.Gated.{held-block, unheld-block}
 use Rattle.disk_core.proofs.Upcoming.{legal-in}
-
-clash : true ≡ false → ⊥
-clash e = cc
+use Rattle.disk_core.proofs.Plain.{clash}
 
 -- a fetched group has its ticket
-fetched-ticket : (H : List Entry) (t b : ℕ) → was_fetched H t b ≡ true → (k : ℕ) × (ticket_of H t b ≡ Some k)
+pub fetched-ticket : (H : List Entry) (t b : ℕ) → was_fetched H t b ≡ true → (k : ℕ) × (ticket_of H t b ≡ Some k)
 unfolding has_done done_commands ticket_of
 fetched-ticket [] t b is = absurd (clash (sym is))
 fetched-ticket (Done u c ∷ H) t b is = elim (cases_Bool (nat_eq u t)) [
@@ -65,11 +64,6 @@ fetched-ticket (Reset tag ∷ H) t b is = fetched-ticket H t b is
 fetched-ticket (Eject tag ∷ H) t b is = fetched-ticket H t b is
 fetched-ticket (Insert tag j ∷ H) t b is = fetched-ticket H t b is
 fetched-ticket (Protect tag on ∷ H) t b is = fetched-ticket H t b is
-
-same-bool : (x y : Bool) → (x ≡ true → y ≡ true) → (y ≡ true → x ≡ true) → x ≡ y
-same-bool true y to back = sym (to refl)
-same-bool false true to back = back refl
-same-bool false false to back = refl
 
 -- 64 blocks are whole groups
 whole-runs : (per : ℕ) → IsPer per → (m : ℕ) × (64 ≡ m * per)
@@ -105,11 +99,11 @@ module _ (S : Setup) (H : List Entry) (gates : Gates) (holders : List Holder) (p
       subst (λ v. is_block_held gates.held v ≡ true) gate.2 (held-by gates.held ticket.0 gate.0 gate.1)
 
   start-agrees : (b : ℕ) → group_start S.geometry b ≡ b → is_block_held gates.held b ≡ is_held S H b
-  start-agrees b starts = same-bool (is_block_held gates.held b) (is_held S H b) (held-block S H gates holders places setup legal follow holding_ b) (λ is. subst (λ v. is_block_held gates.held v ≡ true) starts (start-held b is))
+  start-agrees b starts = both_ways (is_block_held gates.held b) (is_held S H b) (held-block S H gates holders places setup legal follow holding_ b) (λ is. subst (λ v. is_block_held gates.held v ≡ true) starts (start-held b is))
 
   -- no block of a run of whole groups is held by a gate exactly where none is in the history
   run-agrees : (b n q : ℕ) → b ≡ q * per_of S → all_from (λ at. not (is_block_held gates.held at)) b n ≡ all_from (λ at. not (is_held S H at)) b n
-  run-agrees b n q aligned = same-bool (all_from (λ at. not (is_block_held gates.held at)) b n) (all_from (λ at. not (is_held S H at)) b n)
+  run-agrees b n q aligned = both_ways (all_from (λ at. not (is_block_held gates.held at)) b n) (all_from (λ at. not (is_held S H at)) b n)
       (λ none. all_from-true (λ at. not (is_held S H at)) b n (λ at lo hi. not_from_false (is_held S H at) (false_from_ne_true (is_held S H at) (λ held. inside at lo hi none held))))
       (λ none. all_from-true (λ at. not (is_block_held gates.held at)) b n
       (λ at lo hi. not_from_false (is_block_held gates.held at) (unheld-block S H gates holders places setup legal follow holding_ at (not-true (is_held S H at) (all_from-each (λ x. not (is_held S H x)) b n at none lo hi)))))

@@ -1,5 +1,5 @@
 -- A block is held by a gate exactly where the history holds its group, and what a new gate leaves.
-use Rattle.std.proofs.Common.{◌≡◌, ◌≢◌, ℕ, zero, suc, ◌+◌, ◌-◌, ◌*◌, ◌/◌, ◌<◌, ◌≤◌, ◌⊎◌, inl, inr, Bool, true, false, cond, ◌||◌, List, [], ◌∷◌, ◌++◌, length, map, slice_get, Option, None, Some, refl, sym, ◌∙◌, ap, subst, arith, length-append}
+use Rattle.std.proofs.Common.{◌≡◌, ◌≢◌, ℕ, zero, suc, ◌+◌, ◌-◌, ◌*◌, ◌/◌, ◌<◌, ◌≤◌, ◌⊎◌, inl, inr, Bool, true, false, ◌||◌, List, [], ◌∷◌, ◌++◌, length, map, slice_get, Option, None, Some, refl, sym, ◌∙◌, ap, subst, arith, length-append}
 use Rattle.std.specs.Prelude.{nat_eq, vec_capacity, if◌then◌else◌}
 use Rattle.std.specs.List.{find, list_any}
 use Rattle.std.specs.Option.{option_map}
@@ -7,7 +7,7 @@ use Rattle.std.proofs.lemmas.Bool.{cases_Bool, cases_eq, eq-eqb, ne_eqb, eqb-tru
 use Rattle.index_links.specs.Lists.{is_among}
 use Rattle.medium.specs.Device.{Device}
 use Rattle.drive.specs.Drives.{DriveState}
-use Rattle.block_gate.specs.Gates.{Gate, Gates, gate_of, is_block_held, is_out, is_lent, turned, holding, lending, AreSound}
+use Rattle.block_gate.specs.Gates.{Gate, Gates, gate_of, is_block_held, is_out, is_lent, holding, lending, AreSound}
 use Rattle.block_gate.proofs.GatesLemmas.{gate-new, gate-of-others, gate-turned, gate-turned-other, gate-ticket, held-by}
 use Rattle.disk_split.specs.Units.{group_start}
 use Rattle.history.specs.declared.entry.Entry.{Entry}
@@ -22,7 +22,7 @@ use Rattle.disk_core.specs.declared.parts.Holder.{Holder}
 use Rattle.disk_core.specs.Facts.{IsGate, GatesFollow}
 use Rattle.disk_core.specs.Parts.{holder_of}
 use Rattle.disk_core.specs.Inside.{IsEarlier, HoldersFollow}
-use Rattle.disk_core.proofs.Revoked.{holder-at}
+use Rattle.disk_core.proofs.Revoked.{holder-at, turned-long, turned-tickets}
 
 abbrev IsLess : ℕ → ℕ → Type 0
 IsLess one other = one < other
@@ -110,20 +110,6 @@ unfolding lending holding
 other-gate s b k j copy other =
     let g : Gate = record { ticket = k; block = b; out = false; copy = copy } in
     gate-turned-other (s.held ++ g ∷ []) k j true other ∙ gate-of-others s.held j g other
-
-turned-tickets : (k : ℕ) (out : Bool) (held : List Gate) → map (λ (g : Gate). g.ticket) (turned k out held) ≡ map (λ (g : Gate). g.ticket) held
-unfolding turned
-turned-tickets k out [] = refl
-turned-tickets k out (g ∷ held) = ap (λ t. t ∷ map (λ (h : Gate). h.ticket) (turned k out held)) (by (nat_eq k g.ticket)) ∙ ap (λ rest. g.ticket ∷ rest) (turned-tickets k out held)
-  where
-    by : (b : Bool) → (cond b (record g { out = out }) g).ticket ≡ g.ticket
-    by true = refl
-    by false = refl
-
-turned-long : (k : ℕ) (out : Bool) (held : List Gate) → length (turned k out held) ≡ length held
-unfolding turned
-turned-long k out [] = refl
-turned-long k out (g ∷ held) = ap suc (turned-long k out held)
 
 map-push : {X Y : Type 0} (f : X → Y) (xs : List X) (x : X) → map f (xs ++ x ∷ []) ≡ map f xs ++ f x ∷ []
 map-push f [] x = refl

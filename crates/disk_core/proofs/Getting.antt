@@ -40,9 +40,8 @@ use Rattle.disk_core.specs.Calls.{StepSays, Fills, Gets, command_of, low_in, hig
 use Rattle.disk_core.specs.Moves.{IsDisk, IsFirst, Reaches, HasPlace, HasBytesIn, IsTarget, IsGot, GetsInto, put_into, Finishes, Fails, MayEnter, Settles}
 use Rattle.disk_core.proofs.Buffered.{records-put, kept-put, kept-got}
 use Rattle.disk_core.proofs.Commanded.{entry_for, quiet-era, no-flush}
-use Rattle.disk_core.proofs.Finished.{changed-at}
 use Rattle.disk_core.proofs.HistoryUnits.{FinishesTask}
-use Rattle.disk_core.proofs.Kept.{kept-record}
+use Rattle.disk_core.proofs.Kept.{kept-record, changed-at}
 use Rattle.disk_core.proofs.Moving.{IsMoving, unit-moving, medium-meets, moving-request, moving-present, moving-finishes, moving-left, moving-transfer, moving-has}
 use Rattle.disk_core.proofs.Stepped.{Follows, did-done, did-failed}
 use Rattle.disk_core.proofs.Synced.{on-as}

@@ -3,6 +3,7 @@ use Rattle.std.proofs.Common.{◌≡◌, ◌≢◌, ℕ, zero, suc, ◌+◌, ◌
 use Rattle.std.specs.Prelude.{slice_set, nat_eq, if◌then◌else◌}
 use Rattle.std.proofs.lemmas.Bool.{cases_eq, cases_lt, eq-eqb, ne_eqb, le-leb, ltb-false, or_parts}
 use Rattle.std.proofs.lemmas.List.{append_assoc}
+use Rattle.std.proofs.lemmas.Option.{same_Some}
 use Rattle.byte_lists.specs.Patching.{patch}
 use Rattle.byte_lists.proofs.Patches.{patch-before, patch-behind}
 use Rattle.byte_lists.proofs.Patched.{length-patch}
@@ -31,15 +32,10 @@ use Rattle.disk_core.specs.GoingOn.{IsBufferRest, StaysKept, GoesOn, SubmitGoesO
 use Rattle.disk_core.proofs.Accepted.{kept-last}
 use Rattle.disk_core.proofs.Buffered.{at-set, at-other}
 use Rattle.disk_core.proofs.Kept.{kept-others}
-
-clash : true ≡ false → ⊥
-clash e = cc
+use Rattle.disk_core.proofs.Plain.{clash}
 
 some-kept : (a b : Kept) → Some a ≡ Some b → a ≡ b
 some-kept a b e = cc
-
-some-request : (a b : Request) → Some a ≡ Some b → a ≡ b
-some-request a b e = cc
 
 rest-same : (s : State) (t : ℕ) (q : Request) (buffer : List ℕ) → IsBufferRest s t q buffer buffer
 rest-same s t q buffer = record { long = refl; same = λ x from until none. refl }
@@ -110,7 +106,7 @@ got-rest : (old new : State) (t b n : ℕ) (q p : Request) (was : Kept) → new.
 got-rest old new t b n q p was setup entries gets named there =
     let place : ℕ = max (from_of old.setup q) (b * old.setup.geometry.size) - from_of old.setup q in
     let one : gets.was ≡ was = some-kept gets.was was (sym gets.there ∙ there) in
-    let asked : p ≡ q = some-request p q (sym named ∙ (request-same old.entries (Done t (Get b n)) t refl ∙ gets.named)) in
+    let asked : p ≡ q = same_Some p q (sym named ∙ (request-same old.entries (Done t (Get b n)) t refl ∙ gets.named)) in
     let fits : place + length gets.piece ≤ length was.buffer = rw one at gets.fits in
     record {
       now = record was { buffer = patch was.buffer place gets.piece };

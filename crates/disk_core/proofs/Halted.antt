@@ -2,6 +2,7 @@
 use Rattle.std.proofs.Common.{◌≡◌, ◌≢◌, ℕ, Bool, true, false, List, [], ◌∷◌, map, Option, None, Some, refl, sym, ◌∙◌, ap, subst, IsSome}
 use Rattle.std.specs.Prelude.{nat_lt, find}
 use Rattle.std.specs.Option.{option_map}
+use Rattle.std.proofs.lemmas.Option.{same_Some}
 use Rattle.medium.specs.Device.{Device}
 use Rattle.drive.specs.Drives.{DriveState}
 use Rattle.block_gate.specs.Gates.{is_block_held}
@@ -19,9 +20,6 @@ use Rattle.disk_core.specs.Moves.{IsDisk, IsFirst, Reaches, rest_of}
 use Rattle.disk_core.proofs.Found.{found-first}
 use Rattle.disk_core.proofs.Upcoming.{legal-in}
 
-some-same : {X : Type 0} (x y : X) → Some x ≡ Some y → x ≡ y
-some-same x y e = cc
-
 module _ {M : Type 0} (device : M → Device) (prepared : M → ℕ → Type 0) (drive : DriveState M) (c : Core) (sound : IsDisk device prepared drive c) where
   -- the unit that the queue finds comes first
   pub step-next : (unit : Sub) → Some unit ≡ find (may_run (is_block_held c.gates.held) (nat_lt 0 c.gates.free)) c.queue → (todo : Todo) × IsFirst device drive c unit todo
@@ -32,7 +30,7 @@ module _ {M : Type 0} (device : M → Device) (prepared : M → ℕ → Type 0) 
         where
           no-way : Some unit ≡ None → ⊥
           no-way e = cc
-      by (Some todo) first = (todo, record { first = first; kept_so = sym (some-same unit (sub_of drive.size todo) (is ∙ found-first device prepared drive c sound ∙ ap (option_map (sub_of drive.size)) first)) })
+      by (Some todo) first = (todo, record { first = first; kept_so = sym (same_Some unit (sub_of drive.size todo) (is ∙ found-first device prepared drive c sound ∙ ap (option_map (sub_of drive.size)) first)) })
 
   none-first : None ≡ find (may_run (is_block_held c.gates.held) (nat_lt 0 c.gates.free)) c.queue → first_of (state_of device drive c) ≡ None
   none-first is = by (first_of (state_of device drive c)) refl

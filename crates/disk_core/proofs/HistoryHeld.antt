@@ -29,9 +29,6 @@ use Rattle.history_laws.proofs.TokenLemmas.{request-same, has_done-done}
 use Rattle.history_laws.proofs.UnitLemmas.{part_span, part-unit-at, done-tasks, is_within, moves-unit, unit-inside}
 use Rattle.disk_core.proofs.HistoryUnits.{not-all}
 
-clash : true ≡ false → ⊥
-clash e = cc
-
 -- the unit of a part
 abbrev pub part_of_range : Setup → Request → ℕ → Span
 part_of_range S r b = part_span S.geometry (from_of S r) (until_of S r) b

@@ -16,12 +16,12 @@ use Rattle.history.specs.Marks.{mark_of, is_outstanding}
 use Rattle.history.specs.Rules.{MayFollow, IsLegal}
 use Rattle.history.specs.Tasks.{Task, Moves, Syncs, tasks_of, is_finished, Todo, todo_of, todo_before, pending}
 use Rattle.history.specs.Room.{part_owed, span_owed, task_owed, commands_owed}
-use Rattle.history_laws.proofs.CountLemmas.{count-same}
 use Rattle.history_laws.proofs.TokenLemmas.{collected-same}
 use Rattle.history_laws.proofs.EndLemmas.{mark-before}
 use Rattle.history_laws.proofs.UnitLemmas.{unmoved-undone, store-transfers, put-transfers, get-transfers, wipe-transfers}
 use Rattle.history_laws.proofs.TaskLemmas.{task-unit, task-moving}
 use Rattle.history_laws.proofs.PendingLemmas.{todo-closed, todo-open, todo-is, before-is}
+use Rattle.disk_core.proofs.Plain.{count-none}
 
 part-owes : (fetched : Bool) → 1 ≤ part_owed fetched false
 part-owes true = omega arith
@@ -64,10 +64,6 @@ todos-few S H t r is legal named = elim (cases_Bool (is_outstanding S H t)) [
     not-true : (b : Bool) → not b ≡ true → b ≡ false
     not-true true e = cc
     not-true false e = refl
-
-count-none : {X : Type 0} (test : X → Bool) (xs : List X) → ((k : ℕ) (x : X) → slice_get xs k ≡ Some x → test x ≡ false) → count_by test xs ≡ 0
-count-none test [] none = refl
-count-none test (x ∷ xs) none = count-same test x xs (none 0 x refl) ∙ count-none test xs (λ k y there. none (suc k) y there)
 
 before-none : (S : Setup) (H : List Entry) (t n : ℕ) → n ≤ t → count_by (λ todo. nat_eq t todo.token) (todo_before S H n) ≡ 0
 before-none S H t n below = count-none (λ (todo : Todo). nat_eq t todo.token) (todo_before S H n) (λ k todo there. let low = (before-is S H n k todo there).0 in ne_eqb t todo.token (λ same. absurd (omega arith)))

@@ -4,6 +4,7 @@ use Rattle.std.specs.Prelude.{filter, sum_by, nat_eq, if◌then◌else◌, max}
 use Rattle.std.specs.List.{list_all, list_any}
 use Rattle.std.proofs.lemmas.Bool.{cases_Bool, cases_eq, and_left, and_right, and_from, eq-eqb, ne_eqb, eqb-true, both_ways, or_cases, or_parts, not_from_false}
 use Rattle.std.proofs.lemmas.List.Sums.{sum_by-cons}
+use Rattle.std.proofs.lemmas.Option.{same_Some, none-some}
 use Rattle.efi_status.specs.declared.Status.TheVariants.{Success}
 use Rattle.disk_split.specs.declared.span.Span.{Span}
 use Rattle.disk_split.specs.Units.{IsUnit}
@@ -31,15 +32,6 @@ use Rattle.history_laws.proofs.PendingLemmas.{IsPending, filter-everything, filt
 use Rattle.history_laws.proofs.TaskLemmas.{complete-tasks, task-unit, task-sync, task-moving}
 use Rattle.history_laws.proofs.TokenLemmas.{request-same, mark-other, done_commands-other, done-concerns, has_done-done}
 use Rattle.history_laws.proofs.UnitLemmas.{is_within, unit-inside, moved-more}
-
-clash : true ≡ false → ⊥
-clash e = cc
-
-some-same : {X : Type 0} (x y : X) → Some x ≡ Some y → x ≡ y
-some-same x y e = cc
-
-no-some : {X : Type 0} (x : X) → None ≡ Some x → ⊥
-no-some x e = cc
 
 -- a done command finishes this unit of its token, and no other
 pub record FinishesTask (S : Setup) (H : List Entry) (t : ℕ) (c : Command) (r : Request) (task : Task) : Type 0 where
@@ -99,9 +91,9 @@ filter-out keep x xs is = rw is refl
 falls-by : (f g : Task → Bool) (xs : List Task) (k : ℕ) (task : Task) → Ordered IsLower xs → slice_get xs k ≡ Some task → f task ≡ false
     → ((i : ℕ) (x : Task) → slice_get xs i ≡ Some x → g x ≡ (nat_eq (task_low x) (task_low task) || f x))
     → sum_by task_bytes (filter (λ x. not (g x)) xs) + task_bytes task ≡ sum_by task_bytes (filter (λ x. not (f x)) xs)
-falls-by f g [] k task all there open_ after = absurd (no-some task there)
+falls-by f g [] k task all there open_ after = absurd (none-some task there)
 falls-by f g (x ∷ xs) zero task all there open_ after =
-    let here : x ≡ task = some-same x task there in
+    let here : x ≡ task = same_Some x task there in
     let done : g x ≡ true = after 0 x refl ∙ ap (λ b. b || f x) (eq-eqb (task_low x) (task_low task) (ap task_low here)) in
     let was : f x ≡ false = ap f here ∙ open_ in
     let alike : filter (λ y. not (g y)) xs ≡ filter (λ y. not (f y)) xs =
@@ -166,8 +158,8 @@ abbrev pub is_here : ℕ → Task → Todo → Bool
 is_here t task todo = nat_eq todo.token t && nat_eq (task_low todo.task) (task_low task)
 
 pub not-all : (test : Task → Bool) (tasks : List Task) (k : ℕ) (task : Task) → slice_get tasks k ≡ Some task → test task ≡ false → list_all test tasks ≡ false
-not-all test [] k task there fails = absurd (no-some task there)
-not-all test (other ∷ tasks) zero task there fails = and_left (test other) (list_all test tasks) (ap test (some-same other task there) ∙ fails)
+not-all test [] k task there fails = absurd (none-some task there)
+not-all test (other ∷ tasks) zero task there fails = and_left (test other) (list_all test tasks) (ap test (same_Some other task there) ∙ fails)
 not-all test (other ∷ tasks) (suc k) task there fails = and_right (test other) (list_all test tasks) (not-all test tasks k task there fails)
 
 -- whether a unit is left
@@ -199,7 +191,7 @@ left-test S H t c r task todo q is legal open_ finishes left = by (cases_eq todo
         todo-stays S H e todo q left (mark-other S H e todo.token quiet ∙ left.outstanding.unmarked) (done_commands-other S H e todo.token quiet)
         ∙ sym (ap not (and_left (nat_eq todo.token t) (nat_eq (task_low todo.task) (task_low task)) (ne_eqb todo.token t other)))
     by (inl same) =
-        let one : q ≡ r = some-same q r (sym left.named ∙ (ap (request H) same ∙ finishes.named)) in
+        let one : q ≡ r = same_Some q r (sym left.named ∙ (ap (request H) same ∙ finishes.named)) in
         let there : slice_get (tasks_of S r) left.place ≡ Some todo.task = subst (λ v. slice_get (tasks_of S v) left.place ≡ Some todo.task) one left.listed in
         let unfinished : is_finished S H t todo.task ≡ false = subst (λ v. is_finished S H v todo.task ≡ false) same left.unfinished in
         ap (λ v. is_outstanding S (e ∷ H) v && not (is_finished S (e ∷ H) v todo.task)) same

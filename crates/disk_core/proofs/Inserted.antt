@@ -41,9 +41,7 @@ use Rattle.history.specs.Room.{owed_entries}
 use Rattle.history_laws.proofs.TokenLemmas.{collected-same}
 use Rattle.disk_core.proofs.Following.{era-still}
 use Rattle.disk_core.proofs.Still.{left-done, buffer-kept}
-
-clash : true ≡ false → ⊥
-clash e = cc
+use Rattle.disk_core.proofs.Plain.{clash}
 
 -- where no medium is in no token is open
 pub none-open : (S : Setup) (H : List Entry) (t : ℕ) → IsLegal S H → is_present H ≡ false → IsOutstanding S H t → ⊥

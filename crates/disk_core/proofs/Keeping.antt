@@ -18,11 +18,11 @@ use Rattle.token_table.specs.declared.record.Mark.{Mark}
 use Rattle.token_table.specs.declared.record.Request.{Request}
 use Rattle.token_table.specs.declared.record.Record.{Record}
 use Rattle.token_table.specs.Records.{Records, record_at, new_record, added, changed, mark_of_record, mark_at}
-use Rattle.disk_core.proofs.Unqueued.{token-sub}
 use Rattle.token_table.proofs.RecordsLemmas.{at-push, record_at-added}
 use Rattle.subtask_queue.specs.declared.sub.Sub.{Sub}
 use Rattle.subtask_queue.specs.declared.sub.Sub.TheVariants.{Part, Run, Sync}
 use Rattle.subtask_queue.specs.Subs.{token_of, is_of, sub_of, sub_of_span, spans_in, subs_of_request, without_token, AreBelow}
+use Rattle.disk_core.proofs.Queued.{sub-token}
 
 -- the record that was added last is changed
 set-last : {X : Type 0} (xs : List X) (x y : X) → slice_set (xs ++ x ∷ []) (length xs) y ≡ xs ++ y ∷ []
@@ -38,7 +38,7 @@ changed-last change s r n is =
 are-below : (n size : ℕ) (todos : List Todo) → ((k : ℕ) (todo : Todo) → slice_get todos k ≡ Some todo → todo.token < n) → AreBelow n (map (sub_of size) todos)
 unfolding AreBelow
 are-below n size [] each = tt
-are-below n size (todo ∷ todos) each = ((let same = token-sub size todo in let lt = each zero todo refl in omega arith), are-below n size todos (λ k later there. each (suc k) later there))
+are-below n size (todo ∷ todos) each = ((let same = sub-token size todo in let lt = each zero todo refl in omega arith), are-below n size todos (λ k later there. each (suc k) later there))
 
 -- the queue has units of accepted tokens alone
 pub queue-below : (S : Setup) (H : List Entry) (size n : ℕ) (queue : List Sub) → n ≡ accepted H → queue ≡ map (sub_of size) (pending S H) → AreBelow n queue

@@ -3,7 +3,7 @@ use Rattle.std.proofs.Common.{◌≡◌, ◌≢◌, ℕ, zero, suc, ◌+◌, ◌
 use Rattle.std.specs.Prelude.{slice_set, slice_index_or}
 use Rattle.std.specs.Option.{option_map}
 use Rattle.token_table.specs.declared.record.Record.{Record}
-use Rattle.token_table.specs.Records.{Records, record_at, without_record}
+use Rattle.token_table.specs.Records.{Records, record_at, without_record, changed}
 use Rattle.disk_core.specs.State.{Kept, kept_at}
 use Rattle.disk_core.specs.Parts.{kept_from, kept_of}
 
@@ -46,3 +46,18 @@ records-others (k ∷ records) zero zero other = absurd (other refl)
 records-others (k ∷ records) zero (suc u) other = refl
 records-others (k ∷ records) (suc t) zero other = refl
 records-others (k ∷ records) (suc t) (suc u) other = records-others records t u (λ same. other (ap suc same))
+
+-- records
+pub changed-at : (change : Record → Record) (records : Records) (t : ℕ) → record_at (changed change records t) t ≡ option_map change (record_at records t)
+unfolding record_at changed
+changed-at change [] t = refl
+changed-at change (r ∷ records) zero = refl
+changed-at change (r ∷ records) (suc t) = changed-at change records t
+
+pub changed-other : (change : Record → Record) (records : Records) (t u : ℕ) → t ≢ u → record_at (changed change records t) u ≡ record_at records u
+unfolding record_at changed
+changed-other change [] t u other = refl
+changed-other change (r ∷ records) zero zero other = absurd (other refl)
+changed-other change (r ∷ records) zero (suc u) other = refl
+changed-other change (r ∷ records) (suc t) zero other = refl
+changed-other change (r ∷ records) (suc t) (suc u) other = changed-other change records t u (λ same. other (ap suc same))

@@ -47,6 +47,7 @@ mod Lowered
 mod Nexts
 mod Made
 mod Opened
+mod Plain
 mod Prepared
 mod Queued
 mod Moving

@@ -1,6 +1,6 @@
 -- The parts after a done command that finished a unit, and after the end of its token where it was the last one.
 use Rattle.std.proofs.Common.{◌≡◌, ◌≢◌, ℕ, zero, suc, ◌+◌, ◌-◌, ◌*◌, ◌^◌, ◌<◌, ◌≤◌, ◌⊎◌, inl, inr, Bool, true, false, not, List, [], ◌∷◌, length, map, slice_get, Option, None, Some, refl, sym, ◌∙◌, ap, subst, arith}
-use Rattle.std.specs.Prelude.{filter, count_by, nat_eq, vec_capacity, if◌then◌else◌}
+use Rattle.std.specs.Prelude.{filter, nat_eq, vec_capacity, if◌then◌else◌}
 use Rattle.std.specs.Option.{option_map}
 use Rattle.std.proofs.lemmas.Bool.{cases_Bool, cases_eq, ne_eqb}
 use Rattle.efi_status.specs.declared.Status.{Status}
@@ -16,7 +16,6 @@ use Rattle.history.specs.Rules.{MayCommand, MayFollow, IsLegal}
 use Rattle.history.specs.Tasks.{Task, Todo, pending}
 use Rattle.history.specs.Room.{owed_entries}
 use Rattle.history_laws.specs.Left.{task_bytes, left_of}
-use Rattle.history_laws.proofs.CountLemmas.{count-same}
 use Rattle.history_laws.proofs.EndLemmas.{command-open}
 use Rattle.history_laws.proofs.PendingLemmas.{IsPending, filter-everything, pending-is, get-mapped}
 use Rattle.history_laws.proofs.SpareLemmas.{entries-done, entries-done-end}
@@ -36,7 +35,9 @@ use Rattle.disk_core.proofs.Finished.{kept-changed, kept-lowered, kept-ended, re
 use Rattle.disk_core.proofs.HistoryUnits.{FinishesTask, mark-finished}
 use Rattle.disk_core.proofs.Links.{AreClosed}
 use Rattle.disk_core.proofs.Revoked.{holder-at}
-use Rattle.disk_core.proofs.Unqueued.{task_block, token-sub, queue-finished}
+use Rattle.disk_core.proofs.Unqueued.{task_block, queue-finished}
+use Rattle.disk_core.proofs.Plain.{count-none}
+use Rattle.disk_core.proofs.Queued.{sub-token}
 
 -- the last unit of a token was finished, and its end is still to come
 pub record IsLastUnit (S : Setup) (marks : ℕ → Option Status) (t : ℕ) (c : Core) : Type 0 where
@@ -59,10 +60,6 @@ no-end status m some none = clash (sym some ∙ none)
     clash : Some status ≡ None → ⊥
     clash e = cc
 
-count-none : {X : Type 0} (test : X → Bool) (xs : List X) → ((i : ℕ) (x : X) → slice_get xs i ≡ Some x → test x ≡ false) → count_by test xs ≡ 0
-count-none test [] none = refl
-count-none test (x ∷ xs) none = count-same test x xs (none 0 x refl) ∙ count-none test xs (λ i y at. none (suc i) y at)
-
 revoked-none : (token : ℕ) (holders : List Holder) (s : Gates) → ((i : ℕ) (h : Holder) → slice_get holders i ≡ Some h → nat_eq token h.token ≡ false) → revoked token holders s ≡ s
 unfolding revoked revoked_one
 revoked-none token [] s none = refl
@@ -77,7 +74,7 @@ module _ (S : Setup) (marks : ℕ → Option Status) (t : ℕ) (c c' : Core) (la
   unit-free i s at =
       let mapped = get-mapped (sub_of (size_of S)) (pending S c.history.entries) i s (subst (λ q. slice_get q i ≡ Some s) last.queue at) in
       let left = pending-is S c.history.entries i mapped.0 mapped.1 in
-      ap (nat_eq t) (ap token_of (sym mapped.2) ∙ token-sub (size_of S) mapped.0) ∙ closed-token mapped.0.token left.1.outstanding
+      ap (nat_eq t) (ap token_of (sym mapped.2) ∙ sub-token (size_of S) mapped.0) ∙ closed-token mapped.0.token left.1.outstanding
 
   holder-free : (i : ℕ) (h : Holder) → slice_get c.holders.items i ≡ Some h → nat_eq t h.token ≡ false
   holder-free i h at =

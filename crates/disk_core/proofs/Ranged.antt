@@ -2,7 +2,7 @@
 use Rattle.std.proofs.Common.{◌≡◌, ◌≢◌, ℕ, zero, suc, ◌+◌, ◌-◌, ◌*◌, ◌/◌, ◌%◌, ◌^◌, ◌<◌, ◌≤◌, ◌⊎◌, inl, inr, Bool, true, false, List, [], ◌∷◌, length, slice_get, Option, None, Some, refl, sym, ◌∙◌, ap, subst, arith}
 use Rattle.std.specs.Prelude.{if◌then◌else◌, max, min}
 use Rattle.std.proofs.lemmas.Bool.{cases_Bool, cases_lt}
-use Rattle.std.proofs.Math.Nat.{mul-le-mul_right, mul_comm, mul_assoc, mod-eq-sub-div-mul, div-mul-le_self}
+use Rattle.std.proofs.Math.Nat.{mul-le-mul_right, mul_comm, mul_assoc, mod-eq-sub-div-mul, div-mul-le_self, lt_of_mul-lt-mul_right}
 use Rattle.medium.specs.Device.{Device, IsShaped, IsTransfer}
 use Rattle.drive.specs.Drives.{DriveState, medium_in}
 use Rattle.disk_split.specs.declared.span.Span.{Span}
@@ -53,12 +53,6 @@ cancel a b size some le = elim (cases_lt b a) [
   | inr le' ↦ le'
 ]
 
-cancel-lt : (a b size : ℕ) → a * size < b * size → a < b
-cancel-lt a b size lt = elim (cases_lt a b) [
-  | inl lt' ↦ lt'
-  | inr le ↦ absurd (let more : b * size ≤ a * size = mul-le-mul_right size le in omega arith)
-]
-
 -- the blocks of a unit are 1 to 64, and lie on the medium
 pub record UnitFits (u : Span) (blocks : ℕ) : Type 0 where
   pub some : 0 < u.count
@@ -83,10 +77,10 @@ unit-fits S r u k is inside unit = by u.whole refl unit.kind
         let begins = part.begins in
         let per_some = is.geometry.per_some in let per_most = is.geometry.per_most in
         let group : number * (size_of S * per_of S) ≡ number * per_of S * size_of S = ap (λ n. number * n) (mul_comm (size_of S) (per_of S)) ∙ sym (mul_assoc number (per_of S) (size_of S)) in
-        let below : number * per_of S < blocks_of S k = cancel-lt (number * per_of S) (blocks_of S k) (size_of S) (omega arith) in
+        let below : number * per_of S < blocks_of S k = lt_of_mul-lt-mul_right (size_of S) (omega arith) in
         let q = blocks_of S k / per_of S in
         let whole_groups : blocks_of S k ≡ q * per_of S = omega (arith, is.grouped k, mod-eq-sub-div-mul (blocks_of S k) (per_of S), div-mul-le_self (blocks_of S k) (per_of S)) in
-        let next : number < q = cancel-lt number q (per_of S) (omega arith) in
+        let next : number < q = lt_of_mul-lt-mul_right (per_of S) (omega arith) in
         let more : (number + 1) * per_of S ≤ q * per_of S = mul-le-mul_right (per_of S) (omega arith) in
         let sum : (number + 1) * per_of S ≡ number * per_of S + per_of S = omega arith in
         record { some = omega arith; most = omega arith; fits = omega arith }

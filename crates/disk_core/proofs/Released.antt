@@ -5,7 +5,6 @@ use Rattle.std.specs.List.{find, position_from}
 use Rattle.std.proofs.lemmas.List.Quantifiers.{position-Some}
 use Rattle.std.proofs.lemmas.Iterator.Adapters.{position_from-zero}
 use Rattle.std.proofs.lemmas.Bool.{cases_Bool, cases_eq, or_cases, or_left, or_right, eqb-true, eq-eqb, ne_eqb}
-use Rattle.std.proofs.lemmas.List.{length-map}
 use Rattle.index_links.specs.Lists.{is_among, without}
 use Rattle.history_laws.specs.Pending.{Ordered}
 use Rattle.history_laws.proofs.OrderLemmas.{ordered-filter}
@@ -16,10 +15,8 @@ use Rattle.disk_core.specs.Parts.{holder_of}
 use Rattle.disk_core.specs.Inside.{IsEarlier}
 use Rattle.disk_core.specs.Moves.{without_at, without_ticket_of}
 use Rattle.disk_core.proofs.Late.{without-among, without-less}
-use Rattle.disk_core.proofs.Revoked.{HaveLost, lose-held, left-gate, gate-left, filter-mapped}
-
-clash : true ≡ false → ⊥
-clash e = cc
+use Rattle.disk_core.proofs.Revoked.{HaveLost, lose-held, left-gate, gate-left, filter-mapped, turned-long, turned-tickets}
+use Rattle.disk_core.proofs.Plain.{clash}
 
 -- ---- the gates from which a work came back, or not
 
@@ -57,20 +54,6 @@ turned-there k out (h ∷ held) g there = elim (cases_Bool (eqb k h.ticket)) [
   | inl same ↦ (record h { out = out }, rw (same, same) refl, refl)
   | inr other ↦ (let rest = turned-there k out held g (rw other at there) in (rest.0, rw (other, other) rest.1, rest.2))
 ]
-
-turned-tickets : (k : ℕ) (out : Bool) (held : List Gate) → map (λ g. g.ticket) (turned k out held) ≡ map (λ g. g.ticket) held
-unfolding turned
-turned-tickets k out [] = refl
-turned-tickets k out (g ∷ held) = by (eqb k g.ticket) (turned-tickets k out held)
-  where
-    by : (b : Bool) → map (λ h. h.ticket) (map (λ h. cond (eqb k h.ticket) (record h { out = out }) h) held) ≡ map (λ h. h.ticket) held
-        → map (λ h. h.ticket) (cond b (record g { out = out }) g ∷ map (λ h. cond (eqb k h.ticket) (record h { out = out }) h) held) ≡ map (λ h. h.ticket) (g ∷ held)
-    by true rest = ap (λ more. g.ticket ∷ more) rest
-    by false rest = ap (λ more. g.ticket ∷ more) rest
-
-turned-long : (k : ℕ) (out : Bool) (held : List Gate) → length (turned k out held) ≡ length held
-unfolding turned
-turned-long k out held = length-map held (λ g. cond (eqb k g.ticket) (record g { out = out }) g)
 
 taken-within : (k : ℕ) (s : Gates) (g : Gate) → gate_of s.held k ≡ Some g → (j : ℕ) → is_out (record { size = s.size; held = turned k false s.held; gone = without k s.gone; free = s.free }) j ≡ true → is_out s j ≡ true
 unfolding is_out is_lent

@@ -1,12 +1,12 @@
 -- The gates and the holders after those of a token were revoked.
-use Rattle.std.proofs.Common.{◌≡◌, ◌≢◌, ℕ, zero, suc, ◌+◌, ◌<◌, ◌≤◌, ◌⊎◌, inl, inr, Bool, true, false, not, nat_eq, cond, ◌&&◌, ◌||◌, List, [], ◌∷◌, ◌++◌, length, map, slice_get, Option, None, Some, is_some, refl, sym, ◌∙◌, ap, subst, arith}
+use Rattle.std.proofs.Common.{◌≡◌, ◌≢◌, ℕ, zero, suc, ◌+◌, ◌<◌, ◌≤◌, ◌⊎◌, inl, inr, Bool, true, false, not, nat_eq, cond, ◌&&◌, ◌||◌, List, [], ◌∷◌, ◌++◌, length, map, slice_get, Option, None, Some, is_some, refl, sym, ◌∙◌, ap, subst, arith, eqb}
 use Rattle.std.specs.Prelude.{filter, if◌then◌else◌}
 use Rattle.std.specs.List.{list_any, find}
 use Rattle.std.specs.Option.{option_map}
-use Rattle.std.proofs.lemmas.List.{length-append}
+use Rattle.std.proofs.lemmas.List.{length-append, length-map}
 use Rattle.std.proofs.lemmas.Bool.{cases_Bool, cases_eq, eq-eqb, ne_eqb, eqb-true, or_left, or_right, or_cases, and_from, and_parts, both_ways, false_from_ne_true}
 use Rattle.index_links.specs.Lists.{is_among}
-use Rattle.block_gate.specs.Gates.{Gate, Gates, gate_of, is_out, is_lent, releasing, without_ticket, AreSound}
+use Rattle.block_gate.specs.Gates.{Gate, Gates, gate_of, is_out, is_lent, releasing, without_ticket, AreSound, turned}
 use Rattle.block_gate.proofs.GatesLemmas.{gate-without, gate-without-other}
 use Rattle.history_laws.specs.Pending.{Ordered}
 use Rattle.history_laws.proofs.PendingLemmas.{filter-everything, filter-alike}
@@ -329,3 +329,17 @@ others-tickets token holders rising =
       | inl is ↦ holder-ticket token holders h.ticket (holder-at holders i h rising there ∙ ap Some is) ∙ sym (eq-eqb token h.token (sym is))
       | inr isnt ↦ other-ticket token h.token holders h.ticket rising (holder-at holders i h rising there) isnt ∙ sym (ne_eqb token h.token (λ e. isnt (sym e)))
     ]
+
+pub turned-tickets : (k : ℕ) (out : Bool) (held : List Gate) → map (λ g. g.ticket) (turned k out held) ≡ map (λ g. g.ticket) held
+unfolding turned
+turned-tickets k out [] = refl
+turned-tickets k out (g ∷ held) = by (eqb k g.ticket) (turned-tickets k out held)
+  where
+    by : (b : Bool) → map (λ h. h.ticket) (map (λ h. cond (eqb k h.ticket) (record h { out = out }) h) held) ≡ map (λ h. h.ticket) held
+        → map (λ h. h.ticket) (cond b (record g { out = out }) g ∷ map (λ h. cond (eqb k h.ticket) (record h { out = out }) h) held) ≡ map (λ h. h.ticket) (g ∷ held)
+    by true rest = ap (λ more. g.ticket ∷ more) rest
+    by false rest = ap (λ more. g.ticket ∷ more) rest
+
+pub turned-long : (k : ℕ) (out : Bool) (held : List Gate) → length (turned k out held) ≡ length held
+unfolding turned
+turned-long k out held = length-map held (λ g. cond (eqb k g.ticket) (record g { out = out }) g)

@@ -1,10 +1,11 @@
 -- The works of revoked gates that were lent stay out, and no set is free for them.
-use Rattle.std.proofs.Common.{◌≡◌, ℕ, ◌+◌, ◌<◌, inl, inr, Bool, true, false, not, nat_eq, List, [], ◌∷◌, length, map, Option, None, Some, is_some, refl, sym, ◌∙◌, ap, subst, arith}
+use Rattle.std.proofs.Common.{◌≡◌, ℕ, ◌+◌, ◌<◌, inl, inr, true, not, nat_eq, List, [], ◌∷◌, length, map, Option, None, Some, is_some, refl, sym, ◌∙◌, ap, subst, arith}
 use Rattle.std.specs.Prelude.{filter, if◌then◌else◌}
 use Rattle.std.proofs.lemmas.Bool.{cases_Bool, ne_eqb, eqb-true}
 use Rattle.std.proofs.lemmas.List.{length-append}
 use Rattle.std.proofs.lemmas.Option.{slice_get-map}
 use Rattle.std.specs.Option.{option_map}
+use Rattle.std.specs.Cmp.{both_ways}
 use Rattle.block_gate.specs.Gates.{Gate, Gates, gate_of, is_out, is_lent, outs, releasing, without_ticket}
 use Rattle.history_laws.specs.Pending.{Ordered}
 use Rattle.history_laws.proofs.PendingLemmas.{filter-everything}
@@ -47,17 +48,12 @@ one-less (h ∷ held) k g is out rising = elim (cases_Bool (nat_eq k h.ticket)) 
       rw other (elim (cases_Bool h.out) [ inl lent ↦ rw lent (omega arith) | inr isnt ↦ rw isnt less ])
 ]
 
-both-ways : (a b : Bool) → (a ≡ true → b ≡ true) → (b ≡ true → a ≡ true) → a ≡ b
-both-ways true b there back = sym (there refl)
-both-ways false true there back = back refl
-both-ways false false there back = refl
-
 release-stays : (s : Gates) (k : ℕ) (g : Gate) → gate_of s.held k ≡ Some g → AreLent s.held → StayOut s (releasing s k)
 unfolding outs releasing without_ticket is_lent
 release-stays s k g is are =
     let lent : is_lent (gate_of s.held k) ≡ true = ap is_lent is ∙ are.lent k g is in
     record {
-      works = λ j. both-ways (is_out (releasing s k) j) (is_out s j) (release-within s k j) (release-still s k j lent);
+      works = λ j. both_ways (is_out (releasing s k) j) (is_out s j) (release-within s k j) (release-still s k j lent);
       count = rw lent (let less = one-less s.held k g is (are.lent k g is) are.rising in let more = length-append s.gone (k ∷ []) in omega arith);
       free = rw lent refl;
     }

@@ -1,5 +1,5 @@
 -- What an entry leaves that makes no command, accepts and ends nothing, and changes no medium and no protection.
-use Rattle.std.proofs.Common.{◌≡◌, ◌≢◌, ℕ, ◌+◌, ◌-◌, ◌*◌, ◌<◌, ◌≤◌, ◌⊎◌, inl, inr, Bool, true, false, not, List, [], ◌∷◌, map, Option, None, Some, refl, sym, ◌∙◌, ap, subst, arith}
+use Rattle.std.proofs.Common.{◌≡◌, ◌≢◌, ℕ, ◌+◌, ◌-◌, ◌*◌, ◌<◌, ◌≤◌, ◌⊎◌, inl, inr, Bool, false, not, List, [], ◌∷◌, map, Option, None, Some, refl, sym, ◌∙◌, ap, subst, arith}
 use Rattle.std.specs.Prelude.{filter, sum_by}
 use Rattle.medium.specs.Device.{Device, AreToldAt}
 use Rattle.drive.specs.Drives.{DriveState}
@@ -31,6 +31,7 @@ use Rattle.disk_core.specs.declared.parts.Holder.{Holder}
 use Rattle.disk_core.specs.Facts.{IsBuffer, IsGate, GatesFollow}
 use Rattle.disk_core.specs.Parts.{holder_of}
 use Rattle.disk_core.specs.Inside.{DriveFollows, Tracks, RecordsFollow, HoldersFollow, AreReady}
+use Rattle.disk_core.proofs.Plain.{clash}
 
 pub record IsStill (S : Setup) (H : List Entry) (e : Entry) : Type 0 where
   pub setup : IsSetup S
@@ -43,14 +44,11 @@ pub record IsStill (S : Setup) (H : List Entry) (e : Entry) : Type 0 where
   pub keeps_protection : is_protect e ≡ false
   pub unending : (t : ℕ) → ending S H e t ≡ None
 
-clash : true ≡ false → ⊥
-clash e = cc
-
 no-done : (e : Entry) → is_command e ≡ false → is_done e ≡ false
 no-done (Done t c) still = absurd (clash still)
 no-done e still = refl
 
-no-fetch : (e : Entry) → is_command e ≡ false → is_fetch_entry e ≡ false
+pub no-fetch : (e : Entry) → is_command e ≡ false → is_fetch_entry e ≡ false
 no-fetch (Done t c) still = absurd (clash still)
 no-fetch (Fault t c done) still = absurd (clash still)
 no-fetch e still = refl

@@ -1,17 +1,14 @@
 -- The steps of a disk that holds no block are the turns of the plain schedule.
-use Rattle.std.proofs.Common.{◌≡◌, ℕ, ◌<◌, Bool, true, false, nat_lt, not, ◌⊎◌, inl, inr, List, [], ◌∷◌, Option, None, Some, IsSome, option_map, refl, sym, ◌∙◌, ap, subst, arith, nat_eq, if◌then◌else◌}
-use Rattle.std.proofs.lemmas.Bool.{cases_Bool, cases_eq, false_from_ne_true, lt-ltb, ne_eqb, eq-eqb, or_left, both_ways}
+use Rattle.std.proofs.Common.{◌≡◌, ℕ, ◌<◌, Bool, true, false, nat_lt, not, ◌⊎◌, [], ◌∷◌, Option, None, Some, IsSome, option_map, refl, sym, ◌∙◌, ap, subst, arith, nat_eq, if◌then◌else◌}
+use Rattle.std.proofs.lemmas.Bool.{false_from_ne_true, lt-ltb, or_left, both_ways}
 use Rattle.disk_split.specs.Units.{group_start}
 use Rattle.disk_split.specs.declared.span.Span.{Span}
 use Rattle.history.specs.declared.entry.Kind.{Kind}
 use Rattle.history.specs.declared.entry.Kind.TheVariants.{Read, Write, Flush, Erase}
 use Rattle.history.specs.declared.entry.Command.{Command}
 use Rattle.history.specs.declared.entry.Command.TheVariants.{Fetch, Store, Put, Get, Wipe, Sync}
-use Rattle.history.specs.declared.entry.Entry.{Entry}
-use Rattle.history.specs.declared.entry.Entry.TheVariants.{Done}
 use Rattle.history.specs.Setup.{Setup, IsSetup}
-use Rattle.history.specs.Commands.{is_fetch, is_at, done_commands, has_done}
-use Rattle.history.specs.Marks.{was_fetched, Holds, HoldsBy, is_held, fetches, ticket_of}
+use Rattle.history.specs.Marks.{Holds, HoldsBy, is_held}
 use Rattle.history.specs.Rules.{MayCommand, IsLegal}
 use Rattle.history.specs.Tasks.{Task, Moves, Syncs, Todo, pending, is_runnable, first_runnable, span_command, task_command}
 use Rattle.history.specs.Next.{Turn, next_turn, first_open, Outcome, Made}
@@ -28,19 +25,7 @@ use Rattle.disk_core.specs.State.{State}
 use Rattle.disk_core.specs.Facts.{AreFacts}
 use Rattle.disk_core.specs.Calls.{StepSays, MakesFirst, is_fetched, first_of, command_of}
 use Rattle.disk_core.specs.Turns.{TakesTurn, StepTurns}
-
--- a fetched group has a ticket
-fetched-ticket : (H : List Entry) (t b : ℕ) → was_fetched H t b ≡ true → (k : ℕ) × (ticket_of H t b ≡ Some k)
-unfolding ticket_of has_done done_commands
-fetched-ticket [] t b was = cc
-fetched-ticket (Done u c ∷ H) t b was = elim (cases_eq u t) [
-  | inr other ↦ rw (ne_eqb u t other) (fetched-ticket H t b (rw (ne_eqb u t other) at was))
-  | inl same ↦ elim (cases_Bool (is_at is_fetch b c)) [
-    | inl is ↦ (fetches H, rw (eq-eqb u t same, is) refl)
-    | inr isnt ↦ rw (eq-eqb u t same, isnt) (fetched-ticket H t b (rw (eq-eqb u t same, isnt) at was))
-  ]
-]
-fetched-ticket (e ∷ H) t b was = fetched-ticket H t b was
+use Rattle.disk_core.proofs.Found.{fetched-ticket}
 
 -- where no gate is held, no block is
 pub none-held : (s : State) (b : ℕ) → AreFacts s → s.gates.held ≡ [] → is_held s.setup s.entries b ≡ false

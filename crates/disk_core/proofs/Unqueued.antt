@@ -2,6 +2,7 @@
 use Rattle.std.proofs.Common.{◌≡◌, ◌≢◌, ℕ, zero, suc, ◌+◌, ◌-◌, ◌*◌, ◌<◌, ◌≤◌, ◌⊎◌, inl, inr, Bool, true, false, not, ◌&&◌, List, [], ◌∷◌, map, slice_get, Option, None, Some, refl, sym, ◌∙◌, ap, subst, arith}
 use Rattle.std.specs.Prelude.{filter, nat_eq, if◌then◌else◌, max}
 use Rattle.std.proofs.lemmas.Bool.{cases_Bool, cases_eq, and_left, and_right, and_parts, eq-eqb, ne_eqb, eqb-true, both_ways}
+use Rattle.std.proofs.lemmas.Option.{same_Some}
 use Rattle.disk_split.specs.declared.span.Span.{Span}
 use Rattle.disk_split.specs.Units.{IsUnit}
 use Rattle.disk_split.proofs.Shared.{units-same}
@@ -21,25 +22,16 @@ use Rattle.subtask_queue.specs.declared.sub.Sub.{Sub}
 use Rattle.subtask_queue.specs.declared.sub.Sub.TheVariants.{Part, Run}
 use Rattle.subtask_queue.specs.Subs.{token_of, block_of, is_of, has_block, is_unit, sub_of_span, sub_of_task, sub_of, without_first}
 use Rattle.disk_core.proofs.HistoryUnits.{FinishesTask, is_here, pending-finished}
-
-some-same : {X : Type 0} (x y : X) → Some x ≡ Some y → x ≡ y
-some-same x y e = cc
+use Rattle.disk_core.proofs.Queued.{sub-token}
 
 -- the first block of a unit
 abbrev pub task_block : Task → ℕ
 task_block (Moves u) = u.block
 task_block Syncs = 0
 
-token-task : (size token : ℕ) (write : Bool) (task : Task) → token_of (sub_of_task size token write task) ≡ token
-token-task size token write Syncs = refl
-token-task size token write (Moves u) = elim u.whole as (λ v. token_of (if v then Run token u.block u.count write else Part token u.block (u.low - u.block * size) (u.high - u.low) write) ≡ token) [ true ↦ refl | false ↦ refl ]
-
 block-task : (size token : ℕ) (write : Bool) (task : Task) → block_of (sub_of_task size token write task) ≡ task_block task
 block-task size token write Syncs = refl
 block-task size token write (Moves u) = elim u.whole as (λ v. block_of (if v then Run token u.block u.count write else Part token u.block (u.low - u.block * size) (u.high - u.low) write) ≡ u.block) [ true ↦ refl | false ↦ refl ]
-
-pub token-sub : (size : ℕ) (todo : Todo) → token_of (sub_of size todo) ≡ todo.token
-token-sub size todo = token-task size todo.token (changes_bytes todo.kind) todo.task
 
 pub block-sub : (size : ℕ) (todo : Todo) → block_of (sub_of size todo) ≡ task_block todo.task
 block-sub size todo = block-task size todo.token (changes_bytes todo.kind) todo.task
@@ -79,14 +71,14 @@ finds : (S : Setup) (H : List Entry) (t : ℕ) (r : Request) (task : Task) (plac
     → is_unit t (task_block task) (sub_of (size_of S) todo) ≡ is_here t task todo
 finds S H t r task place todo q is named listed left =
     test-unit t (task_block task) (sub_of (size_of S) todo)
-    ∙ ap (λ v. nat_eq t v && nat_eq (task_block task) (block_of (sub_of (size_of S) todo))) (token-sub (size_of S) todo)
+    ∙ ap (λ v. nat_eq t v && nat_eq (task_block task) (block_of (sub_of (size_of S) todo))) (sub-token (size_of S) todo)
     ∙ ap (λ v. nat_eq t todo.token && nat_eq (task_block task) v) (block-sub (size_of S) todo)
     ∙ elim (cases_eq todo.token t) [
       | inr other ↦
           and_left (nat_eq t todo.token) (nat_eq (task_block task) (task_block todo.task)) (ne_eqb t todo.token (λ same. other (sym same)))
           ∙ sym (and_left (nat_eq todo.token t) (nat_eq (task_low todo.task) (task_low task)) (ne_eqb todo.token t other))
       | inl same ↦
-          let one : q ≡ r = some-same q r (sym left.named ∙ (ap (request H) same ∙ named)) in
+          let one : q ≡ r = same_Some q r (sym left.named ∙ (ap (request H) same ∙ named)) in
           let there : slice_get (tasks_of S r) left.place ≡ Some todo.task = subst (λ v. slice_get (tasks_of S v) left.place ≡ Some todo.task) one left.listed in
           ap (λ b. b && nat_eq (task_block task) (task_block todo.task)) (flip t todo.token)
           ∙ ap (λ b. nat_eq todo.token t && b) (blocks-tell S r place left.place task todo.task is listed there)

@@ -1,7 +1,7 @@
 -- Gates and holders through an entry that touches none of them.
-use Rattle.std.proofs.Common.{◌≡◌, ◌≢◌, ℕ, zero, suc, ◌+◌, ◌-◌, ◌*◌, ◌<◌, ◌≤◌, ◌⊎◌, inl, inr, Bool, true, false, ◌&&◌, List, [], ◌∷◌, length, map, take, drop, slice_get, Option, None, Some, option_map, refl, sym, ◌∙◌, ap, subst, arith}
+use Rattle.std.proofs.Common.{◌≡◌, ◌≢◌, ℕ, zero, suc, ◌+◌, ◌-◌, ◌*◌, ◌<◌, ◌≤◌, ◌⊎◌, inl, inr, Bool, false, ◌&&◌, List, [], ◌∷◌, length, map, take, drop, slice_get, Option, None, Some, option_map, refl, sym, ◌∙◌, ap, subst, arith}
 use Rattle.std.specs.Prelude.{vec_capacity}
-use Rattle.std.proofs.lemmas.Option.{slice_get-map}
+use Rattle.std.proofs.lemmas.Option.{slice_get-map, same_Some}
 use Rattle.byte_lists.proofs.Patches.{get-drop}
 use Rattle.medium.specs.Device.{Device, IsShaped, IsTold, AreToldAt}
 use Rattle.drive.specs.Drives.{DriveState, FitTheDrive}
@@ -28,12 +28,7 @@ use Rattle.disk_core.specs.Parts.{holder_of}
 use Rattle.disk_core.specs.Inside.{HoldersFollow}
 use Rattle.disk_core.proofs.HistoryCopies.{copy-stays}
 use Rattle.disk_core.proofs.Setups.{all-at}
-
-clash : true ≡ false → ⊥
-clash e = cc
-
-some-same : {X : Type 0} (x y : X) → Some x ≡ Some y → x ≡ y
-some-same x y e = cc
+use Rattle.disk_core.proofs.Plain.{clash}
 
 -- the opening bytes that are told are those of all blocks
 pub told-whole : {M : Type 0} (device : M → Device) (drive : DriveState M) (protected : Bool) → ((m : M) → IsShaped (device m)) → FitTheDrive device drive → AreToldWhole (setup_of device drive protected)
@@ -43,7 +38,7 @@ told-whole {M} device drive protected shaped fit (suc i) bytes is = by (slice_ge
   where
     told : (first : Option (List ℕ)) (n : ℕ) → IsTold first n → first ≡ Some bytes → length bytes ≡ n
     told None n long same = cc
-    told (Some xs) n long same = subst (λ v. length v ≡ n) (some-same xs bytes same) long
+    told (Some xs) n long same = subst (λ v. length v ≡ n) (same_Some xs bytes same) long
 
     by : (o : Option M) → slice_get drive.media i ≡ o → opening_bytes (option_map (λ m. opening_from (device m)) o) ≡ Some bytes → length bytes ≡ opening_blocks (slice_get (map (λ m. opening_from (device m)) drive.media) i) * drive.size
     by None there same = cc

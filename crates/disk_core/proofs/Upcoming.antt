@@ -31,8 +31,9 @@ use Rattle.disk_core.proofs.Failed.{units-owed, open-place}
 use Rattle.disk_core.proofs.HistoryUnits.{FinishesTask, left-falls}
 use Rattle.disk_core.proofs.Links.{disk-closed}
 use Rattle.disk_core.proofs.Opened.{open-record, open-marked}
-use Rattle.disk_core.proofs.Unqueued.{task_block, token-sub, block-sub}
+use Rattle.disk_core.proofs.Unqueued.{task_block, block-sub}
 use Rattle.disk_core.proofs.Untouched.{told-whole}
+use Rattle.disk_core.proofs.Queued.{sub-token}
 
 -- a unit that is left, and its command may be made
 pub record IsNext (S : Setup) (H : List Entry) (free : Bool) (todo : Todo) (r : Request) : Type 0 where
@@ -102,7 +103,7 @@ module _ {M : Type 0} (device : M → Device) (prepared : M → ℕ → Type 0) 
       one q e = cc
 
   pub unit-token : (unit : Sub) (todo : Todo) → IsFirst device drive c unit todo → token_of unit ≡ todo.token
-  unit-token unit todo first = ap token_of (sym first.kept_so) ∙ token-sub drive.size todo
+  unit-token unit todo first = ap token_of (sym first.kept_so) ∙ sub-token drive.size todo
 
   pub unit-block : (unit : Sub) (todo : Todo) → IsFirst device drive c unit todo → block_of unit ≡ task_block todo.task
   unit-block unit todo first = ap block_of (sym first.kept_so) ∙ block-sub drive.size todo

@@ -32,9 +32,7 @@ use Rattle.disk_core.proofs.Kept.{kept-record}
 use Rattle.disk_core.proofs.HistoryOwed.{open-kept}
 use Rattle.disk_core.proofs.Links.{AreClosed}
 use Rattle.disk_core.proofs.Queued.{sub-token}
-
-clash : true ≡ false → ⊥
-clash e = cc
+use Rattle.disk_core.proofs.Plain.{clash}
 
 -- ---- tokens and their units
 

@@ -25,9 +25,7 @@ use Rattle.disk_core.specs.Closing.{IsClosing, is_some_meant, is_queued, is_queu
 use Rattle.disk_core.proofs.Closed.{kept-ended, closing-step, open-outstanding, open-owed}
 use Rattle.disk_core.proofs.Staying.{revokes, holders-lent}
 use Rattle.disk_core.proofs.Walked.{Tells, closing-tells, queue-sorted, queue-below, queued-open, open-queued, open-answers}
-
-clash : true ≡ false → ⊥
-clash e = cc
+use Rattle.disk_core.proofs.Plain.{clash}
 
 below-then : (S : Setup) (H : List Entry) (e : Entry) (n u : ℕ) → u < n → marks_below S H e n u ≡ mark_of S (e ∷ H) u
 below-then S H e n u below = rw (lt-ltb u n below) refl

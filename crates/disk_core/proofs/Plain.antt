@@ -1,0 +1,15 @@
+-- Small facts of options, booleans and lists.
+use Rattle.std.proofs.Common.{◌≡◌, ℕ, suc, Bool, true, false, List, [], ◌∷◌, slice_get, Option, None, Some, refl, sym, ◌∙◌}
+use Rattle.std.specs.Prelude.{count_by}
+use Rattle.std.proofs.lemmas.Option.{none-some}
+use Rattle.history_laws.proofs.CountLemmas.{count-same}
+
+pub clash : true ≡ false → ⊥
+clash e = cc
+
+pub some-none : {X : Type 0} (m : Option X) (x : X) → m ≡ None → m ≡ Some x → ⊥
+some-none m x none some = none-some x (sym none ∙ some)
+
+pub count-none : {X : Type 0} (test : X → Bool) (xs : List X) → ((k : ℕ) (x : X) → slice_get xs k ≡ Some x → test x ≡ false) → count_by test xs ≡ 0
+count-none test [] none = refl
+count-none test (x ∷ xs) none = count-same test x xs (none 0 x refl) ∙ count-none test xs (λ k y there. none (suc k) y there)
