@@ -27,14 +27,14 @@ use Rattle.disk_core.specs.declared.ending.Meant.TheVariants.{OfView, Changes, A
 use Rattle.disk_core.specs.State.{State, setup_of}
 use Rattle.disk_core.specs.Parts.{state_of}
 use Rattle.disk_core.specs.Inside.{DriveFollows}
-use Rattle.disk_core.specs.Moves.{IsDisk, Reaches, HasPlace, entered}
+use Rattle.disk_core.specs.Moves.{IsDisk, Reaches, HasPlace, entered, with_spare}
 use Rattle.disk_core.specs.Calls.{EndsBy, EndSays}
 use Rattle.disk_core.specs.Closing.{meant_in, is_some_meant, is_queued, IsNextMeant, IsAbort, AreSorted, HasToEnd, IsToEnd, EndsMeant, NoneMeantBefore, RoomSoFar}
 use Rattle.subtask_queue.specs.Subs.{AreBelow}
 use Rattle.disk_core.proofs.Links.{AreClosed, disk-closed}
 use Rattle.disk_core.proofs.Begun.{IsEnding, owed-before}
 use Rattle.disk_core.proofs.Failed.{open-place}
-use Rattle.disk_core.proofs.Endings.{IsOneMore, ended-some, ended-no, more-to-end, all-ended}
+use Rattle.disk_core.proofs.Endings.{IsOneMore, one-more, ended-some, ended-no, more-to-end, all-ended}
 use Rattle.disk_core.proofs.Walked.{Tells, closed-tells, queue-sorted, queue-below, queued-open, open-queued, open-record, open-answers}
 
 view-same : (v w : View) → is_same_view v w ≡ true → v ≡ w
@@ -182,20 +182,8 @@ module _ {M : Type 0} (device : M → Device) (prepared : M → ℕ → Type 0) 
     abort-within = (let token = abort-open.token in let accepts = sound.fitted.accepts in omega arith)
 
     abort-more : IsOneMore e c (entered c e 0)
-    unfolding entered
-    abort-more = record {
-      entries = refl;
-      protected_at_first = refl;
-      blocks = refl;
-      accepted_same = refl;
-      fetched = refl;
-      tokens = refl;
-      queue = refl;
-      gates = refl;
-      holders = refl;
-      group = refl;
-      zeros = refl;
-    }
+    unfolding with_spare
+    abort-more = one-more c e c.history.spare 0
 
     abort-room : RoomSoFar Begin (e ∷ Before) (mark_of Begin Before) 1 (entered c e 0)
     unfolding entered owed_entries

@@ -1,5 +1,5 @@
 -- Where the gates are idle, a lent work that is merged is written at once.
-use Rattle.std.proofs.Common.{◌≡◌, ℕ, ◌+◌, ◌-◌, ◌*◌, ◌<◌, ◌≤◌, ◌⊎◌, inl, inr, Bool, true, false, nat_lt, nat_eq, eqb, not, ◌||◌, ◌&&◌, cond, if◌then◌else◌, min, max, List, [], ◌∷◌, ◌++◌, length, take, drop, find, slice_get, Option, None, Some, option_map, refl, sym, ◌∙◌, ap, subst, arith}
+use Rattle.std.proofs.Common.{◌≡◌, ℕ, ◌+◌, ◌-◌, ◌*◌, ◌≤◌, ◌⊎◌, inl, inr, Bool, true, false, nat_eq, eqb, if◌then◌else◌, List, [], ◌∷◌, length, drop, find, slice_get, None, Some, option_map, refl, sym, ◌∙◌, ap, subst, arith}
 use Rattle.std.proofs.lemmas.Bool.{eq-eqb, or_left, and_from, lt-ltb, false≢true}
 use Rattle.std.proofs.lemmas.List.{length-take}
 use Rattle.std.proofs.lemmas.Option.{same_Some}
@@ -9,16 +9,15 @@ use Rattle.byte_lists.proofs.Patches.{patch-nothing}
 use Rattle.history.specs.declared.entry.Kind.{Kind}
 use Rattle.history.specs.declared.entry.Kind.TheVariants.{Read, Write, Flush, Erase}
 use Rattle.history.specs.declared.entry.Command.{Command}
-use Rattle.history.specs.declared.entry.Command.TheVariants.{Fetch, Store, Put, Get, Wipe, Sync}
+use Rattle.history.specs.declared.entry.Command.TheVariants.{Fetch, Store}
 use Rattle.history.specs.declared.entry.Entry.{Entry}
 use Rattle.history.specs.declared.entry.Entry.TheVariants.{Done}
-use Rattle.disk_split.specs.declared.span.Span.{Span}
 use Rattle.history.specs.Setup.{Setup, IsSetup, size_of, per_of}
 use Rattle.history.specs.Tokens.{Request, request, request_bytes, from_of}
 use Rattle.history.specs.Commands.{is_fetch, is_at}
 use Rattle.history.specs.Contents.{bytes_between}
 use Rattle.history.specs.Marks.{was_fetched, is_held, fetches, HoldsBy}
-use Rattle.history.specs.Rules.{MayCommand, MayFollow, IsLegal}
+use Rattle.history.specs.Rules.{MayCommand, IsLegal}
 use Rattle.history.specs.Tasks.{Task, Moves, Syncs, Todo, pending, is_runnable, first_runnable, task_command}
 use Rattle.history.specs.Next.{Turn, next_turn, Outcome, Made, Failed}
 use Rattle.history_laws.specs.Turns.{turn_of_todo}

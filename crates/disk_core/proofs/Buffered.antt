@@ -1,8 +1,8 @@
 -- The buffer of a read once a get has put its bytes there.
-use Rattle.std.proofs.Common.{◌≡◌, ◌≢◌, ℕ, zero, suc, ◌+◌, ◌-◌, ◌*◌, ◌^◌, ◌<◌, ◌≤◌, ◌⊎◌, inl, inr, Bool, true, false, ◌&&◌, List, [], ◌∷◌, length, map, take, drop, slice_get, Option, None, Some, refl, sym, ◌∙◌, ap, subst, arith}
-use Rattle.std.specs.Prelude.{slice_set, slice_index_or, min, max}
+use Rattle.std.proofs.Common.{◌≡◌, ◌≢◌, ℕ, zero, suc, ◌+◌, ◌-◌, ◌<◌, ◌≤◌, inl, inr, true, false, List, [], ◌∷◌, length, map, slice_get, Option, None, Some, refl, sym, ◌∙◌, ap, subst, arith}
+use Rattle.std.specs.Prelude.{slice_set}
 use Rattle.std.specs.Option.{option_map}
-use Rattle.std.proofs.lemmas.Bool.{cases_Bool, cases_eq, cases_lt, and_right, false_from_ne_true}
+use Rattle.std.proofs.lemmas.Bool.{cases_Bool, cases_eq, cases_lt}
 use Rattle.std.proofs.lemmas.List.{length-set, map-set}
 use Rattle.std.proofs.lemmas.Option.{same_Some, none-some}
 use Rattle.byte_lists.specs.Patching.{patch}
@@ -11,17 +11,14 @@ use Rattle.byte_lists.proofs.Patches.{patch-in, patch-before, patch-behind, part
 use Rattle.medium.specs.Device.{AreToldAt}
 use Rattle.disk_split.specs.declared.span.Span.{Span}
 use Rattle.disk_split.specs.Units.{IsUnit}
-use Rattle.history.specs.declared.entry.Kind.{Kind}
-use Rattle.history.specs.declared.entry.Kind.TheVariants.{Read, Write, Flush, Erase}
-use Rattle.history.specs.declared.entry.Command.{Command}
+use Rattle.history.specs.declared.entry.Kind.TheVariants.{Read, Write}
 use Rattle.history.specs.declared.entry.Command.TheVariants.{Get}
 use Rattle.history.specs.declared.entry.Entry.{Entry}
 use Rattle.history.specs.declared.entry.Entry.TheVariants.{Done}
-use Rattle.history.specs.Setup.{Setup, size_of}
+use Rattle.history.specs.Setup.{Setup}
 use Rattle.history.specs.Eras.{media_id_of}
 use Rattle.history.specs.Tokens.{Request, accepted, request, was_collected, from_of, until_of}
-use Rattle.history.specs.Commands.{lies_in}
-use Rattle.history.specs.Contents.{contents, byte_at, bytes_read}
+use Rattle.history.specs.Contents.{contents, byte_at}
 use Rattle.history_laws.proofs.CountLemmas.{accepted-same}
 use Rattle.history_laws.proofs.TokenLemmas.{request-stays, collected-same, bytes_read-other, bytes_read-get, bytes_read-kept, done-concerns}
 use Rattle.history_laws.proofs.UnitLemmas.{is_within, within-from, within-parts, lies-in-unit}
@@ -33,7 +30,7 @@ use Rattle.disk_core.specs.Parts.{kept_from, kept_of}
 use Rattle.disk_core.specs.Inside.{Tracks, RecordsFollow}
 use Rattle.disk_core.specs.Moves.{put_into}
 use Rattle.disk_core.proofs.Finished.{buffer-same}
-use Rattle.disk_core.proofs.Kept.{changed-at, changed-other}
+use Rattle.disk_core.proofs.Kept.{each-changed}
 
 -- records do not see the bytes of a buffer
 tracks-put : (S : Setup) (H : List Entry) (t place : ℕ) (piece : List ℕ) (r : Record) (q : Request) → Tracks S H t r q → Tracks S H t (put_into place piece r) q
@@ -45,32 +42,13 @@ unfolding IsShown put_into
 shown-put place piece r is = is
 
 pub records-put : (S : Setup) (H : List Entry) (t place : ℕ) (piece : List ℕ) (records : Records) → RecordsFollow S H records → RecordsFollow S H (changed (put_into place piece) records t)
-records-put S H t place piece records follow = record { each = each; shown = record { each = shown } }
-  where
-    change : Record → Record
-    change = put_into place piece
-
-    before : (o : Option Record) (r : Record) → record_at records t ≡ o → option_map change o ≡ Some r → (r' : Record) × (record_at records t ≡ Some r') × (change r' ≡ r)
-    before None r there e = absurd (none-some r e)
-    before (Some r') r there e = (r', there, same_Some (change r') r e)
-
-    own : (u : ℕ) (r : Record) → t ≡ u → record_at (changed change records t) u ≡ Some r → (r' : Record) × (record_at records t ≡ Some r') × (change r' ≡ r)
-    own u r same there = before (record_at records t) r refl (sym (changed-at change records t) ∙ (ap (record_at (changed change records t)) same ∙ there))
-
-    each : (u : ℕ) (r : Record) → record_at (changed change records t) u ≡ Some r → (q : Request) × Tracks S H u r q
-    each u r there = elim (cases_eq t u) [
-      | inr other ↦ follow.each u r (sym (changed-other change records t u other) ∙ there)
-      | inl same ↦
-          (let was = own u r same there in
-          let old = follow.each t was.0 was.1 in
-          (old.0, subst (λ v. Tracks S H v r old.0) same (subst (λ v. Tracks S H t v old.0) was.2 (tracks-put S H t place piece was.0 old.0 old.1))))
-    ]
-
-    shown : (u : ℕ) (r : Record) → record_at (changed change records t) u ≡ Some r → IsShown r
-    shown u r there = elim (cases_eq t u) [
-      | inr other ↦ follow.shown.each u r (sym (changed-other change records t u other) ∙ there)
-      | inl same ↦ (let was = own u r same there in subst IsShown was.2 (shown-put place piece was.0 (follow.shown.each t was.0 was.1)))
-    ]
+records-put S H t place piece records follow = record {
+  each = each-changed (put_into place piece) records t (λ u r. (q : Request) × Tracks S H u r q) (λ u r. (q : Request) × Tracks S H u r q) follow.each (λ u r other old. old)
+      (λ r old. (old.0, tracks-put S H t place piece r old.0 old.1));
+  shown = record {
+    each = each-changed (put_into place piece) records t (λ u r. IsShown r) (λ u r. IsShown r) follow.shown.each (λ u r other shown. shown) (λ r shown. shown-put place piece r shown);
+  };
+}
 
 put-from : (place : ℕ) (piece : List ℕ) (r : Record) → kept_from (put_into place piece r) ≡ record (kept_from r) { buffer = patch r.request.buffer place piece }
 unfolding put_into

@@ -1,12 +1,10 @@
 -- The parts through the steps of a done fetch: the entry, the gate, and the loan.
-use Rattle.std.proofs.Common.{◌≡◌, ℕ, ◌+◌, ◌-◌, ◌*◌, List, [], ◌∷◌, ◌++◌, length, refl, sym, ◌∙◌, ap, subst, arith}
+use Rattle.std.proofs.Common.{◌≡◌, ℕ, ◌+◌, List, [], ◌∷◌, ◌++◌, sym, ◌∙◌, ap, subst}
 use Rattle.std.specs.Prelude.{vec_capacity}
 use Rattle.block_gate.specs.Gates.{holding, lending, AreSound}
 use Rattle.history.specs.declared.entry.Command.TheVariants.{Fetch}
-use Rattle.history.specs.declared.entry.Entry.{Entry}
 use Rattle.history.specs.declared.entry.Entry.TheVariants.{Done}
 use Rattle.disk_core.specs.declared.parts.Core.{Core}
-use Rattle.disk_core.specs.declared.parts.Holder.{Holder}
 use Rattle.disk_core.specs.Moves.{entered}
 use Rattle.disk_core.proofs.Lending.{HasLent}
 

@@ -1,29 +1,25 @@
 -- The parts carry one end after the other, and follow the history again after the last.
-use Rattle.std.proofs.Common.{◌≡◌, ◌≢◌, ℕ, zero, suc, ◌+◌, ◌-◌, ◌<◌, ◌≤◌, ◌⊎◌, inl, inr, Bool, true, false, not, nat_eq, ◌&&◌, List, [], ◌∷◌, map, slice_get, Option, None, Some, refl, sym, ◌∙◌, ap, subst, arith}
+use Rattle.std.proofs.Common.{◌≡◌, ◌≢◌, ℕ, zero, suc, ◌+◌, ◌-◌, ◌<◌, ◌≤◌, inl, inr, Bool, true, false, not, nat_eq, List, [], ◌∷◌, map, slice_get, Option, None, Some, refl, sym, ◌∙◌, ap, subst, arith}
 use Rattle.std.specs.Prelude.{filter, count_by, is_none, vec_capacity}
 use Rattle.std.specs.Option.{option_map}
-use Rattle.std.proofs.lemmas.Bool.{cases_Bool, cases_eq, eq-eqb, ne_eqb, and_right}
+use Rattle.std.proofs.lemmas.Bool.{cases_Bool, cases_eq, eq-eqb}
 use Rattle.std.proofs.lemmas.Option.{slice_get-map}
 use Rattle.efi_status.specs.declared.Status.{Status}
-use Rattle.disk_split.specs.declared.span.Span.{Span}
 use Rattle.history.specs.declared.entry.Entry.{Entry}
 use Rattle.history.specs.Setup.{Setup, size_of}
 use Rattle.history.specs.Tokens.{Request, accepted, request, was_collected}
 use Rattle.history.specs.Marks.{mark_of, HoldsBy}
-use Rattle.history.specs.Tasks.{Task, Moves, Syncs, Todo, pending}
+use Rattle.history.specs.Tasks.{Todo, pending}
 use Rattle.history.specs.Room.{commands_owed, owed_by, token_owed, tokens_owed, owed_entries}
 use Rattle.history_laws.specs.Pending.{Ordered}
-use Rattle.history_laws.proofs.CountLemmas.{count-more, count-same}
 use Rattle.history_laws.proofs.TokenLemmas.{request-some}
-use Rattle.history_laws.proofs.PendingLemmas.{filter-everything, filter-alike}
 use Rattle.history_laws.proofs.OrderLemmas.{ordered-filter}
 use Rattle.history_laws.proofs.SpareLemmas.{marked-accepted}
 use Rattle.history_laws.proofs.TicketLemmas.{ticket-one}
 use Rattle.token_table.specs.declared.record.Record.{Record}
 use Rattle.token_table.specs.declared.record.Mark.{Mark}
 use Rattle.token_table.specs.Records.{Records, record_at, changed, ended_record, mark_at, mark_of_record, mark_of_end, word_for, IsShown}
-use Rattle.subtask_queue.specs.declared.sub.Sub.{Sub}
-use Rattle.subtask_queue.specs.Subs.{token_of, is_of, sub_of, without_token}
+use Rattle.subtask_queue.specs.Subs.{is_of, sub_of, without_token}
 use Rattle.block_gate.specs.Gates.{Gate, gate_of}
 use Rattle.disk_core.specs.declared.parts.Core.{Core}
 use Rattle.disk_core.specs.declared.parts.Holder.{Holder}
@@ -32,55 +28,29 @@ use Rattle.disk_core.specs.Parts.{kept_from, kept_of, holder_of}
 use Rattle.disk_core.specs.Inside.{IsEarlier, HoldersFollow, HasRoom}
 use Rattle.disk_core.specs.Moves.{Ends}
 use Rattle.disk_core.specs.Closing.{HoldsSoFar, TracksSoFar, RecordsSoFar, GatesSoFar, token_owed_so_far, tokens_owed_so_far, RoomSoFar, IsClosing}
-use Rattle.disk_core.proofs.Kept.{kept-record, changed-at, changed-other}
+use Rattle.disk_core.proofs.Kept.{kept-record, kept-changed, each-changed}
 use Rattle.disk_core.proofs.Queued.{queue-without, queue-count}
-use Rattle.disk_core.proofs.Revoked.{filter-mapped, filter-twice, HaveLost, is_ticket_of, revoked-lost, left-gate, gate-left, holder-first, other-ticket, ticket-other, holder-others, others-tickets}
+use Rattle.disk_core.proofs.Revoked.{filter-mapped, HaveLost, is_ticket_of, revoked-lost, left-gate, gate-left, holder-first, other-ticket, ticket-other, holder-others, others-tickets}
 use Rattle.disk_core.proofs.Links.{AreClosed}
 
 -- ---- records
 
 -- an end keeps the buffer and the event word
 pub kept-ended : (status : Status) (records : Records) (t : ℕ) → kept_of (changed (ended_record status) records t) ≡ kept_of records
-unfolding kept_of changed record_at ended_record
-kept-ended status [] t = refl
-kept-ended status (None ∷ records) zero = refl
-kept-ended status (Some r ∷ records) zero = refl
-kept-ended status (x ∷ records) (suc t) = ap (λ rest. option_map kept_from x ∷ rest) (kept-ended status records t)
-
-mapped-some : (change : Record → Record) (m : Option Record) (r : Record) → option_map change m ≡ Some r → (old : Record) × (m ≡ Some old) × (change old ≡ r)
-mapped-some change None r is = cc
-mapped-some change (Some old) r is = (old, refl, (let e : Some (change old) ≡ Some r = is in cc))
+unfolding ended_record
+kept-ended status records t = kept-changed (ended_record status) (λ r. refl) records t
 
 records-step : (S : Setup) (H : List Entry) (marks marks' : ℕ → Option Status) (records : Records) (t : ℕ) (status : Status) → marks' t ≡ Some status → ((u : ℕ) → u ≢ t → marks' u ≡ marks u)
     → RecordsSoFar S H marks records → RecordsSoFar S H marks' (changed (ended_record status) records t)
 unfolding ended_record IsShown word_for
 records-step S H marks marks' records t status here away follow = record {
-  each = λ u r is. elim (cases_eq u t) [
-    | inl same ↦
-        let old = mapped-some (ended_record status) (record_at records t) r (sym (changed-at (ended_record status) records t) ∙ (ap (record_at (changed (ended_record status) records t)) (sym same) ∙ is)) in
-        let was = follow.each t old.0 old.1 in (
-          was.0,
-          subst (λ v. TracksSoFar S H marks' v r was.0) (sym same) (subst (λ x. TracksSoFar S H marks' t x was.0) old.2 (record {
-            named = was.1.named;
-            viewed = was.1.viewed;
-            asked = was.1.asked;
-            begins = was.1.begins;
-            mark = here;
-            left = λ never. absurd (some-none never);
-          })),
-        )
-    | inr other ↦
-        let was = follow.each u r (sym (changed-other (ended_record status) records t u (λ same. other (sym same))) ∙ is) in
-        (was.0, record { named = was.1.named; viewed = was.1.viewed; asked = was.1.asked; begins = was.1.begins; mark = away u other ∙ was.1.mark; left = was.1.left })
-  ];
-  shown = record {
-    each = λ u r is. elim (cases_eq u t) [
-      | inl same ↦
-          let old = mapped-some (ended_record status) (record_at records t) r (sym (changed-at (ended_record status) records t) ∙ (ap (record_at (changed (ended_record status) records t)) (sym same) ∙ is)) in
-          subst (λ (x : Record). x.signaller.told ≡ word_for x.ended) old.2 refl
-      | inr other ↦ follow.shown.each u r (sym (changed-other (ended_record status) records t u (λ same. other (sym same))) ∙ is)
-    ];
-  };
+  each = each-changed (ended_record status) records t (λ u r. (q : Request) × TracksSoFar S H marks u r q) (λ u r. (q : Request) × TracksSoFar S H marks' u r q) follow.each
+      (λ u r other was. (
+        was.0,
+        record { named = was.1.named; viewed = was.1.viewed; asked = was.1.asked; begins = was.1.begins; mark = away u (λ same. other (sym same)) ∙ was.1.mark; left = was.1.left },
+      ))
+      (λ r was. (was.0, record { named = was.1.named; viewed = was.1.viewed; asked = was.1.asked; begins = was.1.begins; mark = here; left = λ never. absurd (some-none never) }));
+  shown = record { each = each-changed (ended_record status) records t (λ u r. IsShown r) (λ u r. IsShown r) follow.shown.each (λ u r other shown. shown) (λ r shown. refl) };
 }
   where
     some-none : Some status ≡ None → ⊥

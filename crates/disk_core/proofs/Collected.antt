@@ -1,34 +1,32 @@
 -- An ended request is handed back.
-use Rattle.std.proofs.Common.{◌≡◌, ◌≢◌, ℕ, suc, ◌+◌, ◌-◌, ◌*◌, ◌^◌, ◌<◌, ◌≤◌, ◌⊎◌, inl, inr, Bool, true, false, List, [], ◌∷◌, length, map, Option, None, Some, refl, sym, ◌∙◌, ap, subst, arith, IsSome, Result, Ok, Err, OnOk, OnErr}
-use Rattle.std.specs.Prelude.{slice_set, nat_eq, vec_capacity}
+use Rattle.std.proofs.Common.{◌≡◌, ◌≢◌, ℕ, suc, ◌<◌, inl, inr, true, false, List, ◌∷◌, map, Option, None, Some, refl, sym, ◌∙◌, ap, subst, arith, IsSome, Result, Ok, Err, OnOk, OnErr}
+use Rattle.std.specs.Prelude.{slice_set, vec_capacity}
 use Rattle.std.specs.Option.{option_map}
 use Rattle.std.proofs.lemmas.Bool.{cases_eq, cases_lt, ne_eqb}
 use Rattle.std.proofs.lemmas.List.{length-set}
 use Rattle.efi_status.specs.declared.Status.{Status}
 use Rattle.medium.specs.Device.{Device}
-use Rattle.drive.specs.Drives.{DriveState, medium_in, devices_of}
+use Rattle.drive.specs.Drives.{DriveState, devices_of}
 use Rattle.history.specs.declared.entry.Entry.{Entry}
 use Rattle.history.specs.declared.entry.Entry.TheVariants.{Collect}
 use Rattle.history.specs.Setup.{Setup, IsSetup, size_of}
-use Rattle.history.specs.Tokens.{Request, accepted, request, was_collected}
-use Rattle.history.specs.Marks.{mark_of, ending}
+use Rattle.history.specs.Tokens.{Request, accepted, was_collected}
+use Rattle.history.specs.Marks.{ending}
 use Rattle.history.specs.Rules.{MayFollow, IsLegal}
-use Rattle.history.specs.Tasks.{pending}
-use Rattle.history.specs.Room.{owed_entries}
 use Rattle.history_laws.proofs.TokenLemmas.{collected-collect, collected-same, request-accepted}
 use Rattle.history_laws.proofs.PendingLemmas.{pending-collect}
 use Rattle.history_laws.proofs.SpareLemmas.{entries-collect}
 use Rattle.token_table.specs.declared.record.Record.{Record}
 use Rattle.token_table.specs.declared.record.Done.{Done}
 use Rattle.token_table.specs.declared.record.NotThere.{NotThere}
-use Rattle.token_table.specs.Records.{Records, record_at, without_record, done_at, done_of, done_by, mark_at, mark_of_record, mark_of_end, AreShown}
+use Rattle.token_table.specs.Records.{Records, record_at, without_record, done_at, done_of, done_by, mark_at, mark_of_record, mark_of_end}
 use Rattle.subtask_queue.specs.Subs.{sub_of}
 use Rattle.disk_core.specs.declared.parts.Core.{Core}
-use Rattle.disk_core.specs.State.{State, Kept, kept_at, setup_of}
-use Rattle.disk_core.specs.Facts.{IsBuffer, KeptFollow, AreFacts}
+use Rattle.disk_core.specs.State.{Kept, kept_at, setup_of}
+use Rattle.disk_core.specs.Facts.{IsBuffer, KeptFollow}
 use Rattle.disk_core.specs.Parts.{kept_from, kept_of, state_of}
-use Rattle.disk_core.specs.Inside.{IsSound, RecordsFollow, Tracks, HasRoom}
-use Rattle.disk_core.specs.Calls.{CollectSays, Collects, IsUnknown, MarkSays}
+use Rattle.disk_core.specs.Inside.{RecordsFollow, HasRoom}
+use Rattle.disk_core.specs.Calls.{CollectSays, IsUnknown, MarkSays}
 use Rattle.disk_core.specs.Moves.{IsDisk, Reaches, HasPlace, entered, collected}
 use Rattle.disk_core.proofs.Following.{era-still}
 use Rattle.disk_core.proofs.Kept.{kept-record, kept-without, kept-cleared, kept-others, records-cleared, records-others}

@@ -1,8 +1,7 @@
 -- The medium that is in follows the history through a command.
-use Rattle.std.proofs.Common.{◌≡◌, ◌≢◌, ℕ, suc, ◌+◌, ◌-◌, ◌*◌, ◌^◌, ◌<◌, ◌≤◌, Bool, true, false, List, [], ◌∷◌, length, take, Option, None, Some, refl, sym, ◌∙◌, ap, subst, arith, Result, Ok, Err, OnOk, OnErr, IfErr}
+use Rattle.std.proofs.Common.{◌≡◌, ℕ, ◌+◌, ◌*◌, ◌^◌, ◌<◌, ◌≤◌, Bool, true, false, List, ◌∷◌, length, take, Option, None, Some, refl, sym, ◌∙◌, ap, arith, Result, Ok, Err, IfErr}
 use Rattle.std.specs.Prelude.{if◌then◌else◌, option_map}
 use Rattle.byte_lists.specs.Patching.{patch}
-use Rattle.medium.specs.Counts.{adds, Rose}
 use Rattle.medium.specs.Device.{Device, IsSame, IsCommand, IsRead, IsWrite, IsSync, patch_told, written}
 use Rattle.medium.specs.declared.block_failed.BlockFailed.{BlockFailed}
 use Rattle.disk_split.specs.declared.span.Span.{Span}
@@ -24,7 +23,6 @@ use Rattle.history_laws.proofs.EraLemmas.{era_count-same, era_count-more, era_co
 use Rattle.history_laws.proofs.PieceLemmas.{done-contents, fault-contents, run-low}
 use Rattle.disk_core.specs.State.{opening_from}
 use Rattle.disk_core.specs.Facts.{MeetsEra}
-use Rattle.disk_core.specs.Calls.{failures_of}
 
 -- how a command of the medium ended
 abbrev pub outcome_of : Result (Unit {0}) BlockFailed → Outcome

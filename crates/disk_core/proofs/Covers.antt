@@ -1,47 +1,45 @@
 -- The puts of a write and the wipes of an erase.
-use Rattle.std.proofs.Common.{◌≡◌, ◌≢◌, ℕ, zero, suc, ◌+◌, ◌-◌, ◌*◌, ◌/◌, ◌^◌, ◌<◌, ◌≤◌, Bool, true, false, List, [], ◌∷◌, length, take, drop, slice_get, Option, None, Some, refl, sym, ◌∙◌, ap, subst, arith, Result, Ok, Err, OnOk, IfErr, IsSome, IfSome, length-take, length-drop}
-use Rattle.std.specs.Prelude.{count_by, max, min, replicate}
+use Rattle.std.proofs.Common.{◌≡◌, ℕ, ◌+◌, ◌-◌, ◌*◌, ◌/◌, ◌^◌, ◌<◌, ◌≤◌, true, false, List, ◌∷◌, length, take, drop, Option, None, Some, refl, sym, ◌∙◌, ap, subst, arith, Result, Ok, Err, OnOk, IfErr, IsSome, IfSome, length-take, length-drop}
+use Rattle.std.specs.Prelude.{count_by, max, min}
 use Rattle.std.proofs.Math.Nat.{mul-le-mul_right, mul_comm, div-le_of_le-mul, lt_of_mul-lt-mul_right}
 use Rattle.medium.specs.Device.{Device, IsShaped, IsTransfer, IsWrite, patch_told, written}
 use Rattle.medium.specs.declared.block_failed.BlockFailed.{BlockFailed}
 use Rattle.drive.specs.Drives.{DriveState, medium_in}
 use Rattle.disk_split.specs.declared.span.Span.{Span}
-use Rattle.disk_split.specs.Units.{group_size, up, IsUnit, IsKind, IsRun, first_whole}
+use Rattle.disk_split.specs.Units.{group_size, up, IsRun, first_whole}
 use Rattle.disk_split.proofs.Rounding.{up-reaches, group-some}
 use Rattle.history.specs.declared.entry.Kind.{Kind}
 use Rattle.history.specs.declared.entry.Kind.TheVariants.{Read, Write, Flush, Erase}
 use Rattle.history.specs.declared.entry.Command.{Command}
-use Rattle.history.specs.declared.entry.Command.TheVariants.{Put, Wipe}
 use Rattle.history.specs.declared.entry.Entry.{Entry}
-use Rattle.history.specs.declared.entry.Entry.TheVariants.{Done, Fault}
+use Rattle.history.specs.declared.entry.Entry.TheVariants.{Fault}
 use Rattle.history.specs.Setup.{Setup, size_of, per_of}
 use Rattle.history.specs.Eras.{media_id_of}
-use Rattle.history.specs.Tokens.{Request, request, is_flush, changes_bytes, bytes_to_put, request_bytes, from_of, until_of}
+use Rattle.history.specs.Tokens.{Request, changes_bytes, bytes_to_put, request_bytes, from_of, until_of}
 use Rattle.history.specs.Commands.{first_block, block_count, is_change, is_transfer, is_fetch, is_store, is_sync, is_get}
 use Rattle.history.specs.Contents.{contents, bytes_between}
 use Rattle.history.specs.Rules.{StopsAt}
-use Rattle.history.specs.Tasks.{Task, Moves, Todo, task_command, span_command}
-use Rattle.history.specs.Next.{Outcome, Made, Failed}
+use Rattle.history.specs.Tasks.{Moves, Todo, task_command, span_command}
+use Rattle.history.specs.Next.{Made}
 use Rattle.history_laws.specs.Left.{task_bytes}
 use Rattle.history_laws.specs.Units.{IsUnitCommand, is_span_command}
 use Rattle.history_laws.proofs.CountLemmas.{fetches-same}
 use Rattle.history_laws.proofs.MediaLemmas.{bytes-long}
 use Rattle.history_laws.proofs.PieceLemmas.{run-low, run-high}
 use Rattle.token_table.specs.declared.record.Record.{Record}
-use Rattle.token_table.specs.declared.record.Mark.{Mark}
-use Rattle.token_table.specs.Records.{record_at, request_at, mark_at}
+use Rattle.token_table.specs.Records.{request_at, mark_at}
 use Rattle.subtask_queue.specs.declared.sub.Sub.{Sub}
 use Rattle.subtask_queue.specs.Subs.{token_of, is_of}
 use Rattle.disk_core.specs.declared.answers.Step.TheVariants.{Did}
 use Rattle.disk_core.specs.declared.parts.Core.{Core}
 use Rattle.disk_core.specs.State.{Kept, setup_of}
-use Rattle.disk_core.specs.Facts.{MeetsEra, IsBuffer}
+use Rattle.disk_core.specs.Facts.{IsBuffer}
 use Rattle.disk_core.specs.Parts.{kept_of, state_of}
 use Rattle.disk_core.specs.Pieces.{bytes_in}
-use Rattle.disk_core.specs.Commands.{OnMedium, OfMedium}
+use Rattle.disk_core.specs.Commands.{OnMedium}
 use Rattle.disk_core.specs.Inside.{Tracks, group_low, group_high}
 use Rattle.disk_core.specs.Calls.{StepSays, Fills, command_of}
-use Rattle.disk_core.specs.Moves.{IsDisk, IsFirst, Reaches, HasPlace, HasBytesIn, MayName, MayPut, low_of, high_of, blocks_bytes, cover_by, MayEnter, Settles, Finishes, Fails}
+use Rattle.disk_core.specs.Moves.{IsDisk, IsFirst, Reaches, HasBytesIn, MayPut, low_of, high_of, blocks_bytes, cover_by, MayEnter, Settles, Finishes, Fails}
 use Rattle.disk_core.proofs.Commanded.{entry_for, write-era, run-written}
 use Rattle.disk_core.proofs.Finished.{kept-done}
 use Rattle.disk_core.proofs.HistoryUnits.{FinishesTask}

@@ -1,9 +1,8 @@
 -- The medium is taken out.
-use Rattle.std.proofs.Common.{◌≡◌, ℕ, suc, ◌+◌, ◌-◌, ◌<◌, ◌≤◌, Bool, true, false, nat_eq, List, ◌∷◌, length, map, Option, None, Some, refl, sym, ◌∙◌, ap, subst, arith, Result, Ok, Err}
+use Rattle.std.proofs.Common.{◌≡◌, ℕ, ◌+◌, ◌≤◌, Bool, true, false, List, ◌∷◌, length, None, Some, refl, sym, ◌∙◌, ap, subst, arith, Ok, Err}
 use Rattle.std.specs.Prelude.{if◌then◌else◌}
 use Rattle.std.proofs.lemmas.Bool.{ne_eqb, eqb-true, lt-ltb}
 use Rattle.std.proofs.lemmas.List.{length-map}
-use Rattle.efi_status.specs.declared.Status.{Status}
 use Rattle.efi_status.specs.declared.Status.TheVariants.{NoMedia}
 use Rattle.medium.specs.Device.{Device}
 use Rattle.drive.specs.Drives.{DriveState, medium_in}
@@ -23,14 +22,14 @@ use Rattle.history_laws.proofs.SpareLemmas.{media-within}
 use Rattle.disk_core.specs.declared.parts.Core.{Core}
 use Rattle.disk_core.specs.declared.answers.EjectRefused.{EjectRefused}
 use Rattle.disk_core.specs.declared.ending.Meant.TheVariants.{All}
-use Rattle.disk_core.specs.State.{State, opening_from, setup_of}
+use Rattle.disk_core.specs.State.{opening_from, setup_of}
 use Rattle.disk_core.specs.Parts.{state_of}
 use Rattle.disk_core.specs.Inside.{DriveFollows}
-use Rattle.disk_core.specs.Moves.{IsDisk, Reaches, HasPlace, entered}
+use Rattle.disk_core.specs.Moves.{IsDisk, Reaches, HasPlace, entered, with_spare}
 use Rattle.disk_core.specs.Calls.{EjectSays}
 use Rattle.disk_core.specs.Closing.{HasToEnd, IsToEnd, EndsMeant, RoomSoFar}
 use Rattle.disk_core.proofs.Begun.{IsEnding, owed-before}
-use Rattle.disk_core.proofs.Endings.{IsOneMore, more-to-end, all-ended}
+use Rattle.disk_core.proofs.Endings.{IsOneMore, one-more, more-to-end, all-ended}
 
 module _ {M : Type 0} (device : M → Device) (prepared : M → ℕ → Type 0) (drive : DriveState M) (c : Core) (tag : ℕ) (sound : IsDisk device prepared drive c) (in_ : drive.present ≡ true) where
   abbrev Begin : Setup
@@ -79,20 +78,8 @@ module _ {M : Type 0} (device : M → Device) (prepared : M → ℕ → Type 0) 
   eject-place = (let falls = media-falls in let owed = sound.room.owed in let places = sound.room.places in (omega arith, omega arith))
 
   eject-more : IsOneMore (Eject tag) c Entered
-  unfolding entered
-  eject-more = record {
-    entries = refl;
-    protected_at_first = refl;
-    blocks = refl;
-    accepted_same = refl;
-    fetched = refl;
-    tokens = refl;
-    queue = refl;
-    gates = refl;
-    holders = refl;
-    group = refl;
-    zeros = refl;
-  }
+  unfolding with_spare
+  eject-more = one-more c (Eject tag) c.history.spare 1
 
   eject-room : RoomSoFar Begin (Eject tag ∷ Before) (mark_of Begin Before) 0 Entered
   unfolding entered state_of owed_entries

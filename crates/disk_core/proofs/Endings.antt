@@ -24,7 +24,7 @@ use Rattle.disk_core.specs.declared.ending.Meant.{Meant}
 use Rattle.disk_core.specs.State.{setup_of}
 use Rattle.disk_core.specs.Parts.{kept_of, state_of}
 use Rattle.disk_core.specs.Inside.{DriveFollows, AreReady}
-use Rattle.disk_core.specs.Moves.{IsDisk}
+use Rattle.disk_core.specs.Moves.{IsDisk, entered, with_spare}
 use Rattle.disk_core.specs.Calls.{EndsBy, Revokes}
 use Rattle.disk_core.specs.Closing.{meant_in, GatesSoFar, RoomSoFar, IsClosing, IsToEnd, HaveEnded}
 use Rattle.disk_core.proofs.Following.{era-still}
@@ -92,6 +92,22 @@ pub record IsOneMore (e : Entry) (c₀ c : Core) : Type 0 where
   pub holders : c.holders ≡ c₀.holders
   pub group : c.group ≡ c₀.group
   pub zeros : c.zeros ≡ c₀.zeros
+
+pub one-more : (c : Core) (e : Entry) (spare paid : ℕ) → IsOneMore e c (entered (with_spare c spare) e paid)
+unfolding entered with_spare
+one-more c e spare paid = record {
+  entries = refl;
+  protected_at_first = refl;
+  blocks = refl;
+  accepted_same = refl;
+  fetched = refl;
+  tokens = refl;
+  queue = refl;
+  gates = refl;
+  holders = refl;
+  group = refl;
+  zeros = refl;
+}
 
 module _ {M : Type 0} (device : M → Device) (prepared : M → ℕ → Type 0) (drive drive' : DriveState M) (c₀ c : Core) (e : Entry) (sound : IsDisk device prepared drive c₀) (more : IsOneMore e c₀ c) (quiet : is_command e ≡ false) where
   abbrev pub Begin : Setup

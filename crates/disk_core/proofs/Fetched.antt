@@ -1,7 +1,6 @@
 -- The fetch of a part of a write or an erase.
-use Rattle.std.proofs.Common.{◌≡◌, ◌≢◌, ℕ, zero, suc, ◌+◌, ◌-◌, ◌*◌, ◌^◌, ◌<◌, ◌≤◌, Bool, true, false, not, ◌&&◌, ◌||◌, List, [], ◌∷◌, length, map, take, drop, slice_get, Option, None, Some, refl, sym, ◌∙◌, ap, subst, arith, Result, Ok, Err, IsSome, IfSome}
-use Rattle.std.specs.Prelude.{count_by, max, min, nat_lt, replicate, vec_capacity, is_some, if◌then◌else◌}
-use Rattle.std.specs.Option.{option_map}
+use Rattle.std.proofs.Common.{◌≡◌, ℕ, ◌+◌, ◌-◌, ◌*◌, ◌^◌, ◌<◌, ◌≤◌, Bool, true, false, not, ◌&&◌, ◌||◌, List, ◌∷◌, length, Option, None, Some, refl, sym, ◌∙◌, ap, subst, arith, Result, Ok, Err, IsSome, IfSome}
+use Rattle.std.specs.Prelude.{count_by, max, min, nat_lt, vec_capacity, is_some, if◌then◌else◌}
 use Rattle.std.proofs.Math.Nat.{mul-le-mul_right, mul_comm}
 use Rattle.std.proofs.lemmas.Bool.{and_parts, not-true, ltb-true}
 use Rattle.std.proofs.lemmas.List.{length-map}
@@ -9,45 +8,42 @@ use Rattle.std.proofs.lemmas.List.Sums.{count_by-le-length}
 use Rattle.medium.specs.Device.{Device, IsShaped, IsTransfer, IsRead, AreToldAt}
 use Rattle.medium.specs.declared.block_failed.BlockFailed.{BlockFailed}
 use Rattle.drive.specs.Drives.{DriveState, medium_in}
-use Rattle.block_gate.specs.Gates.{Gate, Gates, gate_of, is_block_held, is_lent, holding, lending, AreSound}
+use Rattle.block_gate.specs.Gates.{Gate, gate_of, is_block_held, is_lent, holding}
 use Rattle.block_gate.specs.Works.{Lent as Work}
 use Rattle.block_gate.proofs.GatesLemmas.{gate-new}
 use Rattle.disk_split.specs.declared.span.Span.{Span}
-use Rattle.disk_split.specs.Units.{group_size}
 use Rattle.history.specs.declared.entry.Kind.{Kind}
 use Rattle.history.specs.declared.entry.Kind.TheVariants.{Read, Write, Flush, Erase}
-use Rattle.history.specs.declared.entry.Command.{Command}
 use Rattle.history.specs.declared.entry.Command.TheVariants.{Fetch, Store}
 use Rattle.history.specs.declared.entry.Entry.{Entry}
 use Rattle.history.specs.declared.entry.Entry.TheVariants.{Done, Fault}
 use Rattle.history.specs.Setup.{Setup, size_of, per_of}
 use Rattle.history.specs.Eras.{media_id_of}
-use Rattle.history.specs.Tokens.{Request, accepted, request, is_flush, changes_bytes, from_of, until_of}
+use Rattle.history.specs.Tokens.{Request, accepted, changes_bytes, from_of, until_of}
 use Rattle.history.specs.Contents.{contents, bytes_between}
-use Rattle.history.specs.Marks.{is_held, is_fetch_entry, fetches, was_fetched, IsOutstanding}
+use Rattle.history.specs.Marks.{is_held, is_fetch_entry, fetches, was_fetched}
 use Rattle.history.specs.Rules.{MayCommand}
-use Rattle.history.specs.Tasks.{Task, Moves, Todo, task_command, span_command, is_runnable, is_task_clear}
-use Rattle.history.specs.Next.{Outcome, Made, Failed}
+use Rattle.history.specs.Tasks.{Moves, Todo, task_command, span_command, is_task_clear}
+use Rattle.history.specs.Next.{Made}
 use Rattle.history_laws.proofs.CountLemmas.{accepted-same, fetches-more}
-use Rattle.history_laws.proofs.MayLemmas.{IsLeft, part-unfetched}
+use Rattle.history_laws.proofs.MayLemmas.{part-unfetched}
 use Rattle.history_laws.proofs.MediaLemmas.{bytes-long}
 use Rattle.token_table.specs.declared.record.Record.{Record}
 use Rattle.token_table.specs.declared.record.Mark.{Mark}
-use Rattle.token_table.specs.Records.{record_at, request_at, mark_at}
+use Rattle.token_table.specs.Records.{request_at, mark_at}
 use Rattle.subtask_queue.specs.declared.sub.Sub.{Sub}
 use Rattle.subtask_queue.specs.declared.sub.Sub.TheVariants as sub
-use Rattle.subtask_queue.specs.Subs.{token_of, is_of}
+use Rattle.subtask_queue.specs.Subs.{is_of}
 use Rattle.disk_core.specs.declared.answers.Step.TheVariants.{Did, Lent}
 use Rattle.disk_core.specs.declared.parts.Core.{Core}
-use Rattle.disk_core.specs.State.{Kept, setup_of}
-use Rattle.disk_core.specs.Facts.{MeetsEra}
+use Rattle.disk_core.specs.State.{setup_of}
 use Rattle.disk_core.specs.Parts.{kept_of, state_of}
 use Rattle.index_links.specs.Lists.{is_among}
 use Rattle.disk_core.specs.Pieces.{bytes_in}
 use Rattle.disk_core.specs.Commands.{OnMedium, OfMedium}
 use Rattle.disk_core.specs.Inside.{AreFitted}
 use Rattle.disk_core.specs.Calls.{StepSays, IsWork, LendsFirst, Makes, command_of, low_in, high_in}
-use Rattle.disk_core.specs.Moves.{IsDisk, IsFirst, Reaches, HasPlace, HasBytesIn, MayName, MayHold, MayLend, low_of, high_of, blocks_bytes, lent_of, entered, Fails}
+use Rattle.disk_core.specs.Moves.{IsDisk, IsFirst, Reaches, HasPlace, HasBytesIn, MayName, MayHold, MayLend, low_of, high_of, blocks_bytes, lent_of, Fails}
 use Rattle.disk_core.proofs.Commanded.{entry_for, read-era}
 use Rattle.disk_core.proofs.Covers.{bytes-same, between-long}
 use Rattle.disk_core.proofs.Gated.{unheld-block, ticket-new, ticket-unknown}

@@ -1,45 +1,32 @@
 -- Records and kept buffers after a done command.
-use Rattle.std.proofs.Common.{◌≡◌, ◌≢◌, ℕ, zero, suc, ◌+◌, ◌-◌, ◌*◌, ◌<◌, ◌≤◌, ◌⊎◌, inl, inr, Bool, true, false, not, ◌&&◌, List, [], ◌∷◌, length, map, slice_get, Option, None, Some, refl, sym, ◌∙◌, ap, subst, arith}
-use Rattle.std.specs.Prelude.{slice_set, slice_index_or}
-use Rattle.std.specs.Option.{option_map}
-use Rattle.std.proofs.lemmas.Bool.{cases_Bool, cases_eq, and_left}
+use Rattle.std.proofs.Common.{◌≡◌, ◌≢◌, ℕ, ◌+◌, ◌<◌, inl, inr, false, not, List, ◌∷◌, Option, None, Some, refl, sym, ◌∙◌, subst, arith}
+use Rattle.std.proofs.lemmas.Bool.{cases_eq, and_left}
 use Rattle.efi_status.specs.declared.Status.{Status}
 use Rattle.history.specs.declared.entry.Command.{Command}
 use Rattle.history.specs.declared.entry.Entry.{Entry}
 use Rattle.history.specs.declared.entry.Entry.TheVariants.{Done}
-use Rattle.history.specs.Setup.{Setup, IsSetup, size_of}
-use Rattle.history.specs.Tokens.{Request, accepted, request, was_collected}
+use Rattle.history.specs.Setup.{Setup, IsSetup}
+use Rattle.history.specs.Tokens.{Request}
 use Rattle.history.specs.Commands.{is_get, lies_in, first_block, block_count}
 use Rattle.history.specs.Contents.{bytes_read}
 use Rattle.history.specs.Marks.{mark_of}
-use Rattle.history.specs.Tasks.{Task, tasks_of, is_finished}
+use Rattle.history.specs.Tasks.{Task, tasks_of}
 use Rattle.history_laws.specs.Left.{task_bytes, left_of}
 use Rattle.history_laws.specs.Told.{concerns}
 use Rattle.history_laws.proofs.CountLemmas.{accepted-same}
 use Rattle.history_laws.proofs.PendingLemmas.{finished-same}
-use Rattle.history_laws.proofs.TokenLemmas.{request-same, request-stays, mark-other, done_commands-other, done-concerns, collected-same, bytes_read-other, bytes_read-kept}
+use Rattle.history_laws.proofs.TokenLemmas.{request-stays, done_commands-other, done-concerns, collected-same, bytes_read-other, bytes_read-kept}
 use Rattle.token_table.specs.declared.record.Record.{Record}
-use Rattle.token_table.specs.Records.{Records, record_at, changed, lower_record, ended_record, IsShown, AreShown, word_for}
-use Rattle.disk_core.specs.State.{Kept, kept_at}
+use Rattle.token_table.specs.Records.{Records, changed, lower_record, ended_record, IsShown, word_for}
+use Rattle.disk_core.specs.State.{Kept}
 use Rattle.disk_core.specs.Facts.{IsBuffer, KeptFollow}
-use Rattle.disk_core.specs.Parts.{kept_from, kept_of}
+use Rattle.disk_core.specs.Parts.{kept_from}
 use Rattle.disk_core.specs.Inside.{Tracks, RecordsFollow}
 use Rattle.disk_core.specs.Closing.{TracksSoFar, RecordsSoFar}
 use Rattle.disk_core.proofs.HistoryUnits.{FinishesTask, left-falls}
 use Rattle.std.specs.Prelude.{filter, sum_by}
-use Rattle.std.proofs.lemmas.Option.{same_Some, none-some}
-use Rattle.disk_core.proofs.Kept.{changed-at, changed-other}
-
-kept-same : (change : Record → Record) → ((r : Record) → kept_from (change r) ≡ kept_from r) → (o : Option Record) → option_map kept_from (option_map change o) ≡ option_map kept_from o
-kept-same change same None = refl
-kept-same change same (Some r) = ap Some (same r)
-
--- a change of a record that leaves its buffer and its event's word is not seen
-pub kept-changed : (change : Record → Record) → ((r : Record) → kept_from (change r) ≡ kept_from r) → (records : Records) (t : ℕ) → kept_of (changed change records t) ≡ kept_of records
-unfolding kept_of changed record_at
-kept-changed change same [] t = refl
-kept-changed change same (o ∷ records) zero = ap (λ x. x ∷ map (option_map kept_from) records) (kept-same change same o)
-kept-changed change same (o ∷ records) (suc t) = ap (λ rest. option_map kept_from o ∷ rest) (kept-changed change same records t)
+use Rattle.std.proofs.lemmas.Option.{same_Some}
+use Rattle.disk_core.proofs.Kept.{each-changed}
 
 pub kept-lowered : (by : ℕ) (r : Record) → kept_from (lower_record by r) ≡ kept_from r
 unfolding lower_record
@@ -86,32 +73,17 @@ far-lowered S H t c q task r p is finishes unmarked tracks =
 -- the records where the unit was finished; its token ends only later
 pub records-lowered : (S : Setup) (H : List Entry) (t : ℕ) (c : Command) (q : Request) (task : Task) (records : Records) → IsSetup S → FinishesTask S H t c q task → mark_of S H t ≡ None → RecordsFollow S H records
     → RecordsSoFar S (Done t c ∷ H) (mark_of S H) (changed (lower_record (task_bytes task)) records t)
-records-lowered S H t c q task records is finishes unmarked follow = record { each = each; shown = record { each = shown } }
+records-lowered S H t c q task records is finishes unmarked follow = record {
+  each = each-changed change records t (λ u r. (p : Request) × Tracks S H u r p) (λ u r. (p : Request) × TracksSoFar S (Done t c ∷ H) (mark_of S H) u r p) follow.each
+      (λ u r other old. (old.0, far-other S H (Done t c) u r old.0 (done-concerns H t u c other) old.1))
+      (λ r old. (old.0, far-lowered S H t c q task r old.0 is finishes unmarked old.1));
+  shown = record {
+    each = each-changed change records t (λ u r. IsShown r) (λ u r. IsShown r) follow.shown.each (λ u r other shown. shown) (λ r shown. shown-lowered (task_bytes task) r shown);
+  };
+}
   where
     change : Record → Record
     change = lower_record (task_bytes task)
-
-    before : (o : Option Record) (r : Record) → record_at records t ≡ o → option_map change o ≡ Some r → (r' : Record) × (record_at records t ≡ Some r') × (change r' ≡ r)
-    before None r there e = absurd (none-some r e)
-    before (Some r') r there e = (r', there, same_Some (change r') r e)
-
-    own : (u : ℕ) (r : Record) → t ≡ u → record_at (changed change records t) u ≡ Some r → (r' : Record) × (record_at records t ≡ Some r') × (change r' ≡ r)
-    own u r same there = before (record_at records t) r refl (sym (changed-at change records t) ∙ (ap (record_at (changed change records t)) same ∙ there))
-
-    each : (u : ℕ) (r : Record) → record_at (changed change records t) u ≡ Some r → (p : Request) × TracksSoFar S (Done t c ∷ H) (mark_of S H) u r p
-    each u r there = elim (cases_eq t u) [
-      | inr other ↦ (let old = follow.each u r (sym (changed-other change records t u other) ∙ there) in (old.0, far-other S H (Done t c) u r old.0 (done-concerns H t u c other) old.1))
-      | inl same ↦
-          (let was = own u r same there in
-          let old = follow.each t was.0 was.1 in
-          (old.0, subst (λ v. TracksSoFar S (Done t c ∷ H) (mark_of S H) v r old.0) same (subst (λ v. TracksSoFar S (Done t c ∷ H) (mark_of S H) t v old.0) was.2 (far-lowered S H t c q task was.0 old.0 is finishes unmarked old.1))))
-    ]
-
-    shown : (u : ℕ) (r : Record) → record_at (changed change records t) u ≡ Some r → IsShown r
-    shown u r there = elim (cases_eq t u) [
-      | inr other ↦ follow.shown.each u r (sym (changed-other change records t u other) ∙ there)
-      | inl same ↦ (let was = own u r same there in subst IsShown was.2 (shown-lowered (task_bytes task) was.0 (follow.shown.each t was.0 was.1)))
-    ]
 
 -- they follow where all marks are those of the history
 pub records-follow : (S : Setup) (H : List Entry) (marks : ℕ → Option Status) (records : Records) → ((u : ℕ) → marks u ≡ mark_of S H u) → RecordsSoFar S H marks records → RecordsFollow S H records
@@ -151,34 +123,12 @@ far-ended S H marks t status r p ended is = record {
 -- and after the end of the one token that the history ended
 pub records-ended : (S : Setup) (H : List Entry) (marks : ℕ → Option Status) (t : ℕ) (status : Status) (records : Records) → mark_of S H t ≡ Some status → ((u : ℕ) → t ≢ u → marks u ≡ mark_of S H u) → RecordsSoFar S H marks records
     → RecordsFollow S H (changed (ended_record status) records t)
-records-ended S H marks t status records ended same far = record { each = each; shown = record { each = shown } }
-  where
-    change : Record → Record
-    change = ended_record status
-
-    before : (o : Option Record) (r : Record) → record_at records t ≡ o → option_map change o ≡ Some r → (r' : Record) × (record_at records t ≡ Some r') × (change r' ≡ r)
-    before None r there e = absurd (none-some r e)
-    before (Some r') r there e = (r', there, same_Some (change r') r e)
-
-    own : (u : ℕ) (r : Record) → t ≡ u → record_at (changed change records t) u ≡ Some r → (r' : Record) × (record_at records t ≡ Some r') × (change r' ≡ r)
-    own u r one there = before (record_at records t) r refl (sym (changed-at change records t) ∙ (ap (record_at (changed change records t)) one ∙ there))
-
-    each : (u : ℕ) (r : Record) → record_at (changed change records t) u ≡ Some r → (p : Request) × Tracks S H u r p
-    each u r there = elim (cases_eq t u) [
-      | inr other ↦
-          (let old = far.each u r (sym (changed-other change records t u other) ∙ there) in
-          (old.0, record { named = old.1.named; viewed = old.1.viewed; asked = old.1.asked; begins = old.1.begins; mark = sym (same u other) ∙ old.1.mark; left = old.1.left }))
-      | inl one ↦
-          (let was = own u r one there in
-          let old = far.each t was.0 was.1 in
-          (old.0, subst (λ v. Tracks S H v r old.0) one (subst (λ v. Tracks S H t v old.0) was.2 (far-ended S H marks t status was.0 old.0 ended old.1))))
-    ]
-
-    shown : (u : ℕ) (r : Record) → record_at (changed change records t) u ≡ Some r → IsShown r
-    shown u r there = elim (cases_eq t u) [
-      | inr other ↦ far.shown.each u r (sym (changed-other change records t u other) ∙ there)
-      | inl one ↦ (let was = own u r one there in subst IsShown was.2 (shown-ended status was.0))
-    ]
+records-ended S H marks t status records ended same far = record {
+  each = each-changed (ended_record status) records t (λ u r. (p : Request) × TracksSoFar S H marks u r p) (λ u r. (p : Request) × Tracks S H u r p) far.each
+      (λ u r other old. (old.0, record { named = old.1.named; viewed = old.1.viewed; asked = old.1.asked; begins = old.1.begins; mark = sym (same u other) ∙ old.1.mark; left = old.1.left }))
+      (λ r old. (old.0, far-ended S H marks t status r old.0 ended old.1));
+  shown = record { each = each-changed (ended_record status) records t (λ u r. IsShown r) (λ u r. IsShown r) far.shown.each (λ u r other shown. shown) (λ r shown. shown-ended status r) };
+}
 
 -- what was read stays, where the command is no get
 read-same : (S : Setup) (H : List Entry) (t u x : ℕ) (c : Command) → is_get c ≡ false → bytes_read S (Done t c ∷ H) u x ≡ bytes_read S H u x

@@ -1,28 +1,28 @@
 -- A new disk is sound.
-use Rattle.std.proofs.Common.{◌≡◌, ℕ, suc, ◌+◌, ◌-◌, ◌*◌, ◌^◌, ◌<◌, ◌≤◌, Bool, true, false, List, [], ◌∷◌, length, map, slice_get, Option, None, Some, refl, sym, ◌∙◌, ap, subst, arith, All, option_map, if◌then◌else◌}
+use Rattle.std.proofs.Common.{◌≡◌, ℕ, suc, ◌+◌, ◌-◌, ◌*◌, ◌<◌, ◌≤◌, Bool, true, false, List, [], length, map, slice_get, Option, None, Some, refl, sym, ◌∙◌, ap, subst, arith, option_map, if◌then◌else◌}
 use Rattle.std.specs.Prelude.{vec_capacity}
 use Rattle.std.proofs.lemmas.List.{length-map}
 use Rattle.history_laws.proofs.PendingLemmas.{get-mapped}
 use Rattle.medium.specs.Device.{Device, IsFresh, IsBlockSize}
-use Rattle.drive.specs.Drives.{DriveState, IsDrive, IsPer, most_media, IsFreshDrive, FitTheDrive, devices_of}
+use Rattle.drive.specs.Drives.{DriveState, IsPer, most_media, IsFreshDrive, FitTheDrive, devices_of}
 use Rattle.block_gate.specs.Gates.{Gate, Gates, idle_gates, gate_of, is_lent, is_out, AreSound}
 use Rattle.index_links.specs.Lists.{is_among}
 use Rattle.history.specs.declared.entry.Entry.{Entry}
-use Rattle.history.specs.Setup.{Setup, IsSetup, size_of, first_of, opening_of, opening_bytes}
-use Rattle.history.specs.Eras.{ejects, inserts, media_id_of, is_present, is_protected, era_count}
-use Rattle.history.specs.Tokens.{accepted, request, Request}
+use Rattle.history.specs.Setup.{Setup, size_of, first_of, opening_of, opening_bytes}
+use Rattle.history.specs.Eras.{ejects, inserts, is_protected, era_count}
+use Rattle.history.specs.Tokens.{accepted}
 use Rattle.history.specs.Commands.{has_done, done_commands}
 use Rattle.history.specs.Contents.{pieces_of, patch_all, contents, flushed_contents, kept_contents}
-use Rattle.history.specs.Marks.{Holds, HoldsBy, IsOutstanding, fetches}
+use Rattle.history.specs.Marks.{Holds, IsOutstanding, fetches}
 use Rattle.history.specs.Rules.{IsLegal}
 use Rattle.history.specs.Room.{owed_entries, tokens_owed}
 use Rattle.history_laws.proofs.CountLemmas.{accepted-none}
 use Rattle.disk_core.specs.declared.parts.Core.{Core}
-use Rattle.disk_core.specs.State.{State, Kept, kept_at, opening_from, setup_of}
-use Rattle.disk_core.specs.Facts.{MeetsEra, KeptFollow, GatesFollow, AreFacts}
+use Rattle.disk_core.specs.State.{Kept, kept_at, opening_from, setup_of}
+use Rattle.disk_core.specs.Facts.{MeetsEra, KeptFollow, GatesFollow}
 use Rattle.disk_core.specs.Parts.{state_of, kept_of, holder_of}
 use Rattle.history_laws.specs.Pending.{Ordered}
-use Rattle.disk_core.specs.Inside.{IsEarlier, IsSound, DriveFollows, RecordsFollow, HoldersFollow, AreReady}
+use Rattle.disk_core.specs.Inside.{IsEarlier, DriveFollows, RecordsFollow, HoldersFollow, AreReady}
 use Rattle.history.specs.Tasks.{todo_before, pending}
 use Rattle.token_table.specs.declared.record.Record.{Record}
 use Rattle.token_table.specs.Records.{Records, record_at}

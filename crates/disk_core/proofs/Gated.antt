@@ -1,25 +1,22 @@
 -- A block is held by a gate exactly where the history holds its group, and what a new gate leaves.
-use Rattle.std.proofs.Common.{◌≡◌, ◌≢◌, ℕ, zero, suc, ◌+◌, ◌-◌, ◌*◌, ◌/◌, ◌<◌, ◌≤◌, ◌⊎◌, inl, inr, Bool, true, false, ◌||◌, List, [], ◌∷◌, ◌++◌, length, map, slice_get, Option, None, Some, refl, sym, ◌∙◌, ap, subst, arith, length-append}
-use Rattle.std.specs.Prelude.{nat_eq, vec_capacity, if◌then◌else◌}
+use Rattle.std.proofs.Common.{◌≡◌, ◌≢◌, ℕ, zero, suc, ◌+◌, ◌-◌, ◌<◌, inl, inr, Bool, true, false, ◌||◌, List, [], ◌∷◌, ◌++◌, length, map, slice_get, Option, None, Some, refl, sym, ◌∙◌, ap, subst, arith, length-append}
+use Rattle.std.specs.Prelude.{nat_eq}
 use Rattle.std.specs.List.{find, list_any}
 use Rattle.std.specs.Option.{option_map}
-use Rattle.std.proofs.lemmas.Bool.{cases_Bool, cases_eq, eq-eqb, ne_eqb, eqb-true, false_from_ne_true, or_left}
+use Rattle.std.proofs.lemmas.Bool.{cases_Bool, eq-eqb, ne_eqb, eqb-true, false_from_ne_true, or_left}
 use Rattle.index_links.specs.Lists.{is_among}
-use Rattle.medium.specs.Device.{Device}
-use Rattle.drive.specs.Drives.{DriveState}
-use Rattle.block_gate.specs.Gates.{Gate, Gates, gate_of, is_block_held, is_out, is_lent, holding, lending, AreSound}
-use Rattle.block_gate.proofs.GatesLemmas.{gate-new, gate-of-others, gate-turned, gate-turned-other, gate-ticket, held-by}
-use Rattle.disk_split.specs.Units.{group_start}
+use Rattle.block_gate.specs.Gates.{Gate, Gates, gate_of, is_block_held, is_out, is_lent, holding, lending}
+use Rattle.block_gate.proofs.GatesLemmas.{gate-new, gate-of-others, gate-turned, gate-turned-other}
 use Rattle.history.specs.declared.entry.Entry.{Entry}
 use Rattle.history.specs.Setup.{Setup, IsSetup}
 use Rattle.history.specs.Marks.{is_held, fetches, Holds, HoldsBy}
 use Rattle.history.specs.Rules.{IsLegal}
 use Rattle.history_laws.specs.Pending.{Ordered}
-use Rattle.history_laws.proofs.HolderLemmas.{holder-held, holds-start, held-holder}
+use Rattle.history_laws.proofs.HolderLemmas.{holder-held, holds-start}
 use Rattle.history_laws.proofs.OrderLemmas.{ordered-map, ordered-append}
 use Rattle.history_laws.proofs.TicketLemmas.{holds-by-below}
 use Rattle.disk_core.specs.declared.parts.Holder.{Holder}
-use Rattle.disk_core.specs.Facts.{IsGate, GatesFollow}
+use Rattle.disk_core.specs.Facts.{GatesFollow}
 use Rattle.disk_core.specs.Parts.{holder_of}
 use Rattle.disk_core.specs.Inside.{IsEarlier, HoldersFollow}
 use Rattle.disk_core.proofs.Revoked.{holder-at, turned-long, turned-tickets}

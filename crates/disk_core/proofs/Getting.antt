@@ -1,6 +1,6 @@
 -- The gets of a read.
-use Rattle.std.proofs.Common.{◌≡◌, ◌≢◌, ℕ, zero, suc, ◌+◌, ◌-◌, ◌*◌, ◌^◌, ◌<◌, ◌≤◌, Bool, true, false, List, [], ◌∷◌, length, slice_get, Option, None, Some, refl, sym, ◌∙◌, ap, subst, arith, Result, Ok, Err, OnOk, IsSome, IfSome}
-use Rattle.std.specs.Prelude.{count_by, max, min, slice_set}
+use Rattle.std.proofs.Common.{◌≡◌, ℕ, ◌+◌, ◌-◌, ◌*◌, ◌^◌, ◌<◌, ◌≤◌, Bool, true, false, List, ◌∷◌, length, Option, None, Some, refl, sym, ◌∙◌, ap, subst, arith, Result, Ok, Err, IsSome, IfSome}
+use Rattle.std.specs.Prelude.{count_by, slice_set}
 use Rattle.std.specs.Option.{option_map}
 use Rattle.medium.specs.Device.{Device, IsShaped, IsTransfer, AreToldAt}
 use Rattle.medium.specs.declared.block_failed.BlockFailed.{BlockFailed}
@@ -14,10 +14,10 @@ use Rattle.history.specs.declared.entry.Entry.{Entry}
 use Rattle.history.specs.declared.entry.Entry.TheVariants.{Done, Fault}
 use Rattle.history.specs.Setup.{Setup, size_of}
 use Rattle.history.specs.Eras.{media_id_of}
-use Rattle.history.specs.Tokens.{Request, request, is_flush, changes_bytes, from_of, until_of}
+use Rattle.history.specs.Tokens.{Request, is_flush, changes_bytes, from_of}
 use Rattle.history.specs.Contents.{contents}
-use Rattle.history.specs.Tasks.{Task, Moves, Todo, task_command, span_command}
-use Rattle.history.specs.Next.{Outcome, Made, Failed}
+use Rattle.history.specs.Tasks.{Moves, Todo, task_command, span_command}
+use Rattle.history.specs.Next.{Made}
 use Rattle.history_laws.specs.Left.{task_bytes}
 use Rattle.history_laws.specs.Units.{IsUnitCommand, is_span_command}
 use Rattle.history_laws.proofs.CountLemmas.{fetches-same}
@@ -30,13 +30,13 @@ use Rattle.subtask_queue.specs.Subs.{token_of, is_of}
 use Rattle.disk_core.specs.declared.answers.Step.TheVariants.{Did}
 use Rattle.disk_core.specs.declared.parts.Core.{Core}
 use Rattle.disk_core.specs.declared.reading.Target.{Target}
-use Rattle.disk_core.specs.State.{Kept, kept_at, setup_of}
-use Rattle.disk_core.specs.Facts.{MeetsEra, KeptFollow}
+use Rattle.disk_core.specs.State.{kept_at, setup_of}
+use Rattle.disk_core.specs.Facts.{KeptFollow}
 use Rattle.disk_core.specs.Parts.{kept_from, kept_of, state_of}
 use Rattle.disk_core.specs.Commands.{OnMedium, OfMedium}
 use Rattle.byte_lists.specs.Patching.{patch}
 use Rattle.disk_core.specs.Inside.{RecordsFollow}
-use Rattle.disk_core.specs.Calls.{StepSays, Fills, Gets, command_of, low_in, high_in}
+use Rattle.disk_core.specs.Calls.{StepSays, Fills, command_of}
 use Rattle.disk_core.specs.Moves.{IsDisk, IsFirst, Reaches, HasPlace, HasBytesIn, IsTarget, IsGot, GetsInto, put_into, Finishes, Fails, MayEnter, Settles}
 use Rattle.disk_core.proofs.Buffered.{records-put, kept-put, kept-got}
 use Rattle.disk_core.proofs.Commanded.{entry_for, quiet-era, no-flush}

@@ -1,7 +1,6 @@
 -- Each call lets a disk go on, and what goes on twice goes on.
-use Rattle.std.proofs.Common.{◌≡◌, ◌≢◌, ℕ, zero, suc, ◌+◌, ◌-◌, ◌*◌, ◌<◌, ◌≤◌, min, max, inl, inr, Bool, true, false, List, [], ◌∷◌, ◌++◌, length, slice_get, Option, None, Some, Result, Ok, Err, refl, sym, ◌∙◌, ap, subst, arith}
-use Rattle.std.specs.Prelude.{slice_set, nat_eq, if◌then◌else◌}
-use Rattle.std.proofs.lemmas.Bool.{cases_eq, cases_lt, eq-eqb, ne_eqb, le-leb, ltb-false, or_parts}
+use Rattle.std.proofs.Common.{◌≡◌, ℕ, zero, suc, ◌+◌, ◌-◌, ◌*◌, ◌<◌, ◌≤◌, min, max, inl, inr, true, false, List, [], ◌∷◌, ◌++◌, length, slice_get, Option, None, Some, Ok, Err, refl, sym, ◌∙◌, ap, subst, arith}
+use Rattle.std.proofs.lemmas.Bool.{cases_eq, cases_lt, eq-eqb, le-leb, ltb-false, or_parts}
 use Rattle.std.proofs.lemmas.List.{append_assoc}
 use Rattle.std.proofs.lemmas.Option.{same_Some}
 use Rattle.byte_lists.specs.Patching.{patch}
@@ -27,7 +26,7 @@ use Rattle.disk_core.specs.declared.answers.Stored.TheVariants as stored
 use Rattle.disk_core.specs.declared.answers.HeldStored.TheVariants as held_stored
 use Rattle.disk_core.specs.declared.answers.EjectRefused.TheVariants as eject_refused
 use Rattle.disk_core.specs.State.{State, Kept, kept_at}
-use Rattle.disk_core.specs.Calls.{Gets, Fills, Makes, EndsBy, RefusesFor, SubmitSays, StepSays, StoreSays, HeldStoreSays, RefitSays, CollectSays, EndSays, EjectSays, InsertSays, ProtectSays, asked_of, buffer_of, low_in, high_in}
+use Rattle.disk_core.specs.Calls.{Gets, Fills, Makes, EndsBy, RefusesFor, SubmitSays, StepSays, StoreSays, HeldStoreSays, RefitSays, CollectSays, EndSays, EjectSays, InsertSays, ProtectSays, asked_of, buffer_of}
 use Rattle.disk_core.specs.GoingOn.{IsBufferRest, StaysKept, GoesOn, SubmitGoesOn, StepGoesOn, StoreGoesOn, HeldStoreGoesOn, RefitGoesOn, CollectGoesOn, EndGoesOn, EjectGoesOn, InsertGoesOn, ProtectGoesOn, GoesOnTwice, RestComesBack}
 use Rattle.disk_core.proofs.Accepted.{kept-last}
 use Rattle.disk_core.proofs.Buffered.{at-set, at-other}

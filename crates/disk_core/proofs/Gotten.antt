@@ -1,5 +1,5 @@
 -- The bytes that a read brings go into its token's buffer.
-use Rattle.std.proofs.Common.{◌≡◌, ◌≢◌, ℕ, zero, suc, ◌+◌, ◌-◌, ◌*◌, ◌^◌, ◌<◌, ◌≤◌, Bool, true, false, List, [], ◌∷◌, ◌++◌, length, take, drop, Option, None, Some, refl, sym, ◌∙◌, ap, subst, arith, Result, Ok, Err, OnOk, OnErr, IfSome, slice_get, length-append, length-take, length-drop, append_assoc}
+use Rattle.std.proofs.Common.{◌≡◌, ℕ, zero, suc, ◌+◌, ◌-◌, ◌*◌, ◌≤◌, List, [], ◌∷◌, ◌++◌, length, take, drop, Option, None, Some, refl, sym, ◌∙◌, ap, subst, arith, Result, Ok, Err, IfSome, slice_get, length-take, length-drop}
 use Rattle.std.specs.Prelude.{replicate}
 use Rattle.std.specs.List.{refill}
 use Rattle.std.specs.Option.{option_map}
@@ -10,7 +10,7 @@ use Rattle.byte_lists.proofs.Patches.{same-bytes, part-byte}
 use Rattle.byte_lists.specs.Patching.{patch}
 use Rattle.medium.specs.Device.{Device, IsRead, AreToldAt}
 use Rattle.medium.specs.declared.block_failed.BlockFailed.{BlockFailed}
-use Rattle.drive.specs.Drives.{DriveState, medium_in}
+use Rattle.drive.specs.Drives.{DriveState}
 use Rattle.token_table.specs.declared.record.Record.{Record}
 use Rattle.token_table.specs.declared.record.Request.{Request}
 use Rattle.token_table.specs.Records.{Records, record_at, request_at, changed, fill_record}

@@ -23,7 +23,7 @@ use Rattle.disk_core.specs.Moves.{IsDisk, Reaches, entered, with_spare}
 use Rattle.disk_core.specs.Calls.{ProtectSays}
 use Rattle.disk_core.specs.Closing.{IsClosing, HasToEnd, IsToEnd, HaveEnded, EndsChanges, RoomSoFar}
 use Rattle.disk_core.proofs.Begun.{IsEnding, owed-before}
-use Rattle.disk_core.proofs.Endings.{IsOneMore, ended-no, more-closing, more-to-end, all-ended}
+use Rattle.disk_core.proofs.Endings.{IsOneMore, one-more, ended-no, more-closing, more-to-end, all-ended}
 use Rattle.disk_core.proofs.Walks.{beside-still, revokes-none}
 
 module _ {M : Type 0} (device : M → Device) (prepared : M → ℕ → Type 0) (drive : DriveState M) (c : Core) (tag : ℕ) (on : Bool) (spare : ℕ) (sound : IsDisk device prepared drive c) (places : c.owed + 1 ≤ spare) (few : length c.history.entries + spare < 2 ^ 63) where
@@ -51,20 +51,7 @@ module _ {M : Type 0} (device : M → Device) (prepared : M → ℕ → Type 0) 
   }
 
   protect-more : IsOneMore (Protect tag on) c Entered
-  unfolding entered with_spare
-  protect-more = record {
-    entries = refl;
-    protected_at_first = refl;
-    blocks = refl;
-    accepted_same = refl;
-    fetched = refl;
-    tokens = refl;
-    queue = refl;
-    gates = refl;
-    holders = refl;
-    group = refl;
-    zeros = refl;
-  }
+  protect-more = one-more c (Protect tag on) spare 0
 
   protect-room : RoomSoFar Begin (Protect tag on ∷ Before) (mark_of Begin Before) 0 Entered
   unfolding entered with_spare state_of owed_entries

@@ -1,12 +1,11 @@
 -- A step over the queue: the first unit, or none.
-use Rattle.std.proofs.Common.{◌≡◌, ◌≢◌, ℕ, Bool, true, false, List, [], ◌∷◌, map, Option, None, Some, refl, sym, ◌∙◌, ap, subst, IsSome}
+use Rattle.std.proofs.Common.{◌≡◌, ℕ, List, [], ◌∷◌, map, Option, None, Some, refl, sym, ◌∙◌, ap, IsSome}
 use Rattle.std.specs.Prelude.{nat_lt, find}
 use Rattle.std.specs.Option.{option_map}
 use Rattle.std.proofs.lemmas.Option.{same_Some}
 use Rattle.medium.specs.Device.{Device}
 use Rattle.drive.specs.Drives.{DriveState}
 use Rattle.block_gate.specs.Gates.{is_block_held}
-use Rattle.history.specs.Setup.{size_of}
 use Rattle.history.specs.Tasks.{Todo, pending}
 use Rattle.history.specs.Next.{first_open}
 use Rattle.history_laws.proofs.FinishLemmas.{pending-none, pending-open}

@@ -1,8 +1,8 @@
 -- A token that holds a group is not complete.
-use Rattle.std.proofs.Common.{◌≡◌, ◌≢◌, ℕ, zero, suc, ◌+◌, ◌-◌, ◌*◌, ◌<◌, ◌≤◌, ◌⊎◌, inl, inr, Bool, true, false, not, ◌&&◌, ◌||◌, List, [], ◌∷◌, map, slice_get, Option, None, Some, option_map, refl, sym, ◌∙◌, ap, subst, arith}
-use Rattle.std.specs.Prelude.{nat_eq, if◌then◌else◌}
-use Rattle.std.specs.List.{list_all, list_any}
-use Rattle.std.proofs.lemmas.Bool.{cases_eq, and_left, and_right, and_parts, eq-eqb, ne_eqb, both_ways, or_parts}
+use Rattle.std.proofs.Common.{◌≡◌, ℕ, inl, inr, true, false, ◌||◌, List, [], ◌∷◌, slice_get, None, Some, option_map, refl, sym, ◌∙◌, ap, arith}
+use Rattle.std.specs.Prelude.{nat_eq}
+use Rattle.std.specs.List.{list_any}
+use Rattle.std.proofs.lemmas.Bool.{cases_eq, and_left, and_right, eq-eqb, ne_eqb, both_ways, or_parts}
 use Rattle.std.proofs.lemmas.Option.{slice_get-map}
 use Rattle.efi_status.specs.declared.Status.TheVariants.{Success}
 use Rattle.disk_split.specs.declared.span.Span.{Span}
@@ -15,12 +15,12 @@ use Rattle.history.specs.declared.entry.Command.TheVariants.{Fetch, Store, Put, 
 use Rattle.history.specs.declared.entry.Entry.{Entry}
 use Rattle.history.specs.declared.entry.Entry.TheVariants.{Done}
 use Rattle.history.specs.Setup.{Setup, IsSetup}
-use Rattle.history.specs.Tokens.{Request, request, changes_bytes, is_flush, from_of, until_of}
+use Rattle.history.specs.Tokens.{Request, request, changes_bytes, from_of, until_of}
 use Rattle.history.specs.Commands.{first_block, is_transfer, is_store, is_at, moves, done_commands, has_done, is_moved}
 use Rattle.history.specs.Marks.{mark_of, status_if, Holds, was_stored}
 use Rattle.history.specs.Rules.{HasPart, IsLegal}
-use Rattle.history.specs.Tasks.{Task, Moves, Syncs, tasks_of, is_finished}
-use Rattle.history_laws.specs.Units.{IsUnitCommand, IsTaskCommand, AreTaskCommands, is_span_command}
+use Rattle.history.specs.Tasks.{Moves, tasks_of, is_finished}
+use Rattle.history_laws.specs.Units.{IsTaskCommand, AreTaskCommands, is_span_command}
 use Rattle.history_laws.proofs.EndLemmas.{mark-done, open-request}
 use Rattle.history_laws.proofs.FinishLemmas.{same-low}
 use Rattle.history_laws.proofs.HolderLemmas.{fetched-part, changes-moving}

@@ -1,37 +1,35 @@
 -- What a done command that finishes one unit leaves of its token.
-use Rattle.std.proofs.Common.{◌≡◌, ◌≢◌, ℕ, zero, suc, ◌+◌, ◌-◌, ◌*◌, ◌<◌, ◌≤◌, ◌⊎◌, inl, inr, Bool, true, false, not, ◌&&◌, ◌||◌, List, [], ◌∷◌, length, map, slice_get, Option, None, Some, refl, sym, ◌∙◌, ap, subst, arith}
-use Rattle.std.specs.Prelude.{filter, sum_by, nat_eq, if◌then◌else◌, max}
-use Rattle.std.specs.List.{list_all, list_any}
-use Rattle.std.proofs.lemmas.Bool.{cases_Bool, cases_eq, and_left, and_right, and_from, eq-eqb, ne_eqb, eqb-true, both_ways, or_cases, or_parts, not_from_false}
+use Rattle.std.proofs.Common.{◌≡◌, ◌≢◌, ℕ, zero, suc, ◌+◌, ◌<◌, ◌⊎◌, inl, inr, Bool, true, false, not, ◌&&◌, ◌||◌, List, [], ◌∷◌, slice_get, None, Some, refl, sym, ◌∙◌, ap, subst, arith}
+use Rattle.std.specs.Prelude.{filter, sum_by, nat_eq}
+use Rattle.std.specs.List.{list_all}
+use Rattle.std.proofs.lemmas.Bool.{cases_Bool, cases_eq, and_left, and_right, and_from, eq-eqb, ne_eqb, both_ways}
 use Rattle.std.proofs.lemmas.List.Sums.{sum_by-cons}
 use Rattle.std.proofs.lemmas.Option.{same_Some, none-some}
 use Rattle.efi_status.specs.declared.Status.TheVariants.{Success}
 use Rattle.disk_split.specs.declared.span.Span.{Span}
-use Rattle.disk_split.specs.Units.{IsUnit}
-use Rattle.disk_split.proofs.Shared.{units-same}
 use Rattle.history.specs.declared.entry.Command.{Command}
 use Rattle.history.specs.declared.entry.Command.TheVariants.{Sync}
 use Rattle.history.specs.declared.entry.Entry.{Entry}
 use Rattle.history.specs.declared.entry.Entry.TheVariants.{Done}
-use Rattle.history.specs.Setup.{Setup, IsSetup, size_of}
-use Rattle.history.specs.Tokens.{Request, accepted, request, is_flush, from_of, until_of}
-use Rattle.history.specs.Commands.{is_transfer, is_sync, has_done, is_moved}
+use Rattle.history.specs.Setup.{Setup, IsSetup}
+use Rattle.history.specs.Tokens.{Request, request, is_flush, from_of, until_of}
+use Rattle.history.specs.Commands.{is_transfer, is_sync, is_moved}
 use Rattle.history.specs.Marks.{mark_of, status_if, is_complete, is_outstanding, IsOutstanding}
-use Rattle.history.specs.Rules.{MayCommand, IsLegal}
+use Rattle.history.specs.Rules.{IsLegal}
 use Rattle.history.specs.Tasks.{Task, Moves, Syncs, tasks_of, is_finished, Todo, pending}
 use Rattle.history_laws.specs.Left.{task_bytes, left_of}
-use Rattle.history_laws.specs.Pending.{is_todo, task_low, IsBefore, Ordered}
+use Rattle.history_laws.specs.Pending.{is_todo, task_low, Ordered}
 use Rattle.history_laws.specs.Told.{concerns}
 use Rattle.history_laws.specs.Units.{IsUnitCommand}
 use Rattle.history_laws.proofs.CountLemmas.{accepted-same}
-use Rattle.history_laws.proofs.EndLemmas.{mark-done, command-open}
+use Rattle.history_laws.proofs.EndLemmas.{mark-done}
 use Rattle.history_laws.proofs.FinishLemmas.{same-low}
 use Rattle.history_laws.proofs.NextLemmas.{outstanding-test}
-use Rattle.history_laws.proofs.OrderLemmas.{tasks-ordered, pending-ordered}
-use Rattle.history_laws.proofs.PendingLemmas.{IsPending, filter-everything, filter-alike, pending-is, pending-keeps, todo-stays}
+use Rattle.history_laws.proofs.OrderLemmas.{tasks-ordered}
+use Rattle.history_laws.proofs.PendingLemmas.{IsPending, filter-alike, pending-is, pending-keeps, todo-stays}
 use Rattle.history_laws.proofs.TaskLemmas.{complete-tasks, task-unit, task-sync, task-moving}
 use Rattle.history_laws.proofs.TokenLemmas.{request-same, mark-other, done_commands-other, done-concerns, has_done-done}
-use Rattle.history_laws.proofs.UnitLemmas.{is_within, unit-inside, moved-more}
+use Rattle.history_laws.proofs.UnitLemmas.{unit-inside, moved-more}
 
 -- a done command finishes this unit of its token, and no other
 pub record FinishesTask (S : Setup) (H : List Entry) (t : ℕ) (c : Command) (r : Request) (task : Task) : Type 0 where

@@ -1,12 +1,10 @@
 -- Idle gates, and what becomes of them through a fetch and its store.
-use Rattle.std.proofs.Common.{◌≡◌, ℕ, ◌+◌, ◌-◌, ◌<◌, ◌≤◌, Bool, true, false, eqb, not, cond, List, [], ◌∷◌, ◌++◌, length, Option, None, Some, Result, Ok, Err, refl, sym, ◌∙◌, ap, subst, arith}
-use Rattle.std.specs.List.{find}
+use Rattle.std.proofs.Common.{◌≡◌, ℕ, ◌+◌, ◌-◌, ◌<◌, Bool, true, false, eqb, List, [], ◌∷◌, Some, Result, Ok, Err, refl, sym, ◌∙◌, ap, subst, arith}
 use Rattle.std.proofs.lemmas.Bool.{eq-eqb, or_left, false≢true}
 use Rattle.index_links.specs.Lists.{is_among, without}
 use Rattle.history.specs.declared.entry.View.{View}
 use Rattle.history.specs.Marks.{fetches, Holds}
-use Rattle.block_gate.specs.Works.{Lent}
-use Rattle.block_gate.specs.Gates.{Gate, Gates, gate_of, without_ticket, turned, is_lent, is_out, is_ours, holding, lending, releasing, taking}
+use Rattle.block_gate.specs.Gates.{Gate, Gates, gate_of, without_ticket, turned, is_lent, is_out, holding, lending, releasing, taking}
 use Rattle.token_table.specs.declared.record.Done.{Done}
 use Rattle.token_table.specs.declared.record.NotThere.{NotThere}
 use Rattle.token_table.specs.declared.record.NotThere.TheVariants as not_there
@@ -16,7 +14,7 @@ use Rattle.disk_core.specs.declared.answers.Why.{Why}
 use Rattle.disk_core.specs.declared.answers.Why.TheVariants as why
 use Rattle.disk_core.specs.declared.answers.Token.{Token}
 use Rattle.disk_core.specs.State.{State}
-use Rattle.disk_core.specs.Facts.{AreFacts, IsGate}
+use Rattle.disk_core.specs.Facts.{AreFacts}
 use Rattle.disk_core.specs.Calls.{asked_of, buffer_of, RefusesFor, Revokes, SubmitSays, CollectSays}
 use Rattle.disk_core.specs.Turns.{IsIdle, KeepsGates}
 use Rattle.disk_core.proofs.Fresh.{none-held}

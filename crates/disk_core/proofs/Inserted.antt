@@ -1,22 +1,20 @@
 -- The next medium is put in.
-use Rattle.std.proofs.Common.{◌≡◌, ◌≢◌, ℕ, suc, ◌+◌, ◌-◌, ◌*◌, ◌^◌, ◌<◌, ◌≤◌, ◌⊎◌, inl, inr, Bool, true, false, List, [], ◌∷◌, length, map, Option, None, Some, refl, sym, ◌∙◌, ap, subst, arith, Result, Ok, Err}
+use Rattle.std.proofs.Common.{◌≡◌, ◌≢◌, ℕ, suc, ◌+◌, ◌<◌, ◌≤◌, Bool, true, false, List, ◌∷◌, length, map, Option, refl, sym, ◌∙◌, ap, subst, arith, Result, Ok, Err}
 use Rattle.std.specs.Prelude.{vec_capacity, nat_lt, if◌then◌else◌}
 use Rattle.std.proofs.lemmas.Bool.{eq-eqb, ltb-true, ltb-false}
 use Rattle.drive.specs.declared.answers.InsertFault.{InsertFault}
 use Rattle.drive.specs.declared.answers.InsertFault.TheVariants.{Occupied, NoSpare}
 use Rattle.std.proofs.lemmas.List.{length-map}
 use Rattle.medium.specs.Device.{Device}
-use Rattle.drive.specs.Drives.{DriveState, IsDrive, FitTheDrive, medium_in, insertion}
-use Rattle.block_gate.specs.Gates.{Gate, Gates}
+use Rattle.drive.specs.Drives.{DriveState, insertion}
+use Rattle.block_gate.specs.Gates.{Gates}
 use Rattle.history.specs.declared.entry.Entry.{Entry}
-use Rattle.history.specs.declared.entry.Entry.TheVariants.{Insert, Done}
-use Rattle.history.specs.declared.entry.Command.TheVariants.{Fetch}
+use Rattle.history.specs.declared.entry.Entry.TheVariants.{Insert}
 use Rattle.history.specs.Setup.{Setup, IsSetup, size_of}
-use Rattle.history.specs.Eras.{is_command, ejects, inserts, media_id_of, is_present, is_protected}
-use Rattle.history.specs.Tokens.{Request, accepted, request}
-use Rattle.history.specs.Marks.{mark_of, ending, or_else, IsOutstanding, HoldsBy}
+use Rattle.history.specs.Eras.{ejects, inserts, is_present}
+use Rattle.history.specs.Tokens.{Request}
+use Rattle.history.specs.Marks.{mark_of, ending, IsOutstanding, HoldsBy}
 use Rattle.history.specs.Rules.{MayFollow, IsLegal}
-use Rattle.history.specs.Tasks.{pending}
 use Rattle.history_laws.proofs.TokenLemmas.{or_else-none, request-some, request-same}
 use Rattle.history_laws.proofs.CountLemmas.{accepted-same, fetches-same, inserts-more, ejects-same}
 use Rattle.history_laws.proofs.EraLemmas.{protected-same}
@@ -24,14 +22,13 @@ use Rattle.history_laws.proofs.MediaLemmas.{open-media}
 use Rattle.history_laws.proofs.LengthLemmas.{inserts-after-ejects}
 use Rattle.history_laws.proofs.PendingLemmas.{pending-insert}
 use Rattle.history_laws.proofs.SpareLemmas.{entries-insert}
-use Rattle.history_laws.proofs.TicketLemmas.{holds-by-before}
 use Rattle.subtask_queue.specs.Subs.{sub_of}
 use Rattle.disk_core.specs.declared.parts.Core.{Core}
 use Rattle.disk_core.specs.declared.parts.Holder.{Holder}
 use Rattle.disk_core.specs.State.{setup_of, opening_from}
 use Rattle.disk_core.specs.Facts.{GatesFollow, KeptFollow}
-use Rattle.disk_core.specs.Parts.{state_of, kept_of, holder_of}
-use Rattle.disk_core.specs.Inside.{DriveFollows, HoldersFollow, RecordsFollow, HasRoom, AreReady}
+use Rattle.disk_core.specs.Parts.{state_of, kept_of}
+use Rattle.disk_core.specs.Inside.{DriveFollows, HoldersFollow, HasRoom}
 use Rattle.disk_core.specs.Calls.{InsertSays}
 use Rattle.disk_core.specs.Moves.{IsDisk, Reaches, HasPlace, entered}
 use Rattle.disk_core.specs.State.{Kept}

@@ -1,21 +1,16 @@
 -- A work that comes back late: its ticket holds no gate any more.
 use Rattle.std.proofs.Common.{◌≡◌, ℕ, ◌+◌, ◌≤◌, ◌⊎◌, inl, inr, Bool, true, false, not, ◌||◌, List, [], ◌∷◌, length, None, eqb, refl, sym, ◌∙◌, ap, subst, arith}
-use Rattle.std.specs.Prelude.{vec_capacity, filter, cond}
+use Rattle.std.specs.Prelude.{filter, cond}
 use Rattle.std.specs.List.{list_any}
-use Rattle.std.proofs.lemmas.Bool.{or_cases, and_parts}
+use Rattle.std.proofs.lemmas.Bool.{or_cases, or_left, or_right, and_parts}
 use Rattle.medium.specs.Device.{Device}
 use Rattle.drive.specs.Drives.{DriveState}
 use Rattle.index_links.specs.Lists.{is_among, without}
 use Rattle.block_gate.specs.Works.{Lent}
 use Rattle.block_gate.specs.Gates.{Gates, gate_of, is_lent, is_out, is_ours, taking, turned, AreSound}
-use Rattle.history.specs.declared.entry.Entry.{Entry}
-use Rattle.history.specs.Setup.{Setup}
 use Rattle.disk_core.specs.declared.parts.Core.{Core}
-use Rattle.disk_core.specs.declared.parts.Holder.{Holder}
 use Rattle.disk_core.specs.declared.answers.Stored.TheVariants.{Stale, Foreign}
-use Rattle.disk_core.specs.Facts.{GatesFollow}
 use Rattle.disk_core.specs.Parts.{state_of}
-use Rattle.disk_core.specs.Inside.{HoldersFollow}
 use Rattle.disk_core.specs.Calls.{StoreSays}
 use Rattle.disk_core.specs.Moves.{IsDisk, Reaches}
 
@@ -31,12 +26,12 @@ late-gone s w ours none = by (or_cases (is_among s.gone w.ticket) (is_lent (gate
     by (inl gone) = gone
     by (inr lent) = absurd (clash (sym (ap is_lent none) ∙ lent))
 
--- the gates with the set of a revoked ticket free again
-unfoldable freed : Gates → ℕ → Gates
-freed s k = record { size = s.size; held = s.held; gone = without k s.gone; free = s.free + 1 }
+-- the gates with these revoked tickets and so many free sets
+unfoldable pub with_gone : Gates → List ℕ → ℕ → Gates
+with_gone s gone free = record { size = s.size; held = s.held; gone = gone; free = free }
 
-taking-gone : (s : Gates) (k : ℕ) → is_among s.gone k ≡ true → taking s k ≡ freed s k
-unfolding taking freed
+taking-gone : (s : Gates) (k : ℕ) → is_among s.gone k ≡ true → taking s k ≡ with_gone s (without k s.gone) (s.free + 1)
+unfolding taking with_gone
 taking-gone s k gone = λ i. record {
   size = s.size;
   held = cond (gone i) s.held (turned k false s.held);
@@ -49,22 +44,13 @@ unfolding is_among without
 without-among k x [] is = is
 without-among k x (y ∷ xs) is = by (eqb k y) (without-among k x xs) is
   where
-    later : (b : Bool) → list_any (eqb x) xs ≡ true → (b || list_any (eqb x) xs) ≡ true
-    later true there = refl
-    later false there = there
-
-    either : (b a : Bool) → (b ≡ true) ⊎ (a ≡ true) → (b || a) ≡ true
-    either true a is = refl
-    either false a (inl is) = cc
-    either false a (inr is) = is
-
     first : (list_any (eqb x) (filter (λ z. not (eqb k z)) xs) ≡ true → list_any (eqb x) xs ≡ true) → (eqb x y ≡ true) ⊎ (list_any (eqb x) (filter (λ z. not (eqb k z)) xs) ≡ true)
         → (eqb x y || list_any (eqb x) xs) ≡ true
-    first more (inl is) = either (eqb x y) (list_any (eqb x) xs) (inl is)
-    first more (inr is) = either (eqb x y) (list_any (eqb x) xs) (inr (more is))
+    first more (inl is) = or_left (eqb x y) (list_any (eqb x) xs) is
+    first more (inr is) = or_right (eqb x y) (list_any (eqb x) xs) (more is)
 
     by : (b : Bool) → (list_any (eqb x) (filter (λ z. not (eqb k z)) xs) ≡ true → list_any (eqb x) xs ≡ true) → list_any (eqb x) (cond (not b) (y ∷ filter (λ z. not (eqb k z)) xs) (filter (λ z. not (eqb k z)) xs)) ≡ true → (eqb x y || list_any (eqb x) xs) ≡ true
-    by true more is = later (eqb x y) (more is)
+    by true more is = or_right (eqb x y) (list_any (eqb x) xs) (more is)
     by false more is = first more (or_cases (eqb x y) (list_any (eqb x) (filter (λ z. not (eqb k z)) xs)) is)
 
 pub without-less : (k : ℕ) (xs : List ℕ) → length (without k xs) ≤ length xs
@@ -86,60 +72,49 @@ without-one k (y ∷ xs) is = by (eqb k y) is (without-less k xs) (without-one k
     by true is less more = omega arith
     by false is less more = (let one = more is in omega arith)
 
-out-freed : (s : Gates) (k j : ℕ) → is_out (freed s k) j ≡ true → is_out s j ≡ true
-unfolding is_out freed
-out-freed s k j out = by (or_cases (is_among (without k s.gone) j) (is_lent (gate_of s.held j)) out)
-  where
-    either : (a b : Bool) → (a ≡ true) ⊎ (b ≡ true) → (a || b) ≡ true
-    either true b is = refl
-    either false b (inl is) = cc
-    either false b (inr is) = is
+out-fewer : (s : Gates) (gone : List ℕ) (free k : ℕ) → (is_among gone k ≡ true → is_among s.gone k ≡ true) → is_out (with_gone s gone free) k ≡ true → is_out s k ≡ true
+unfolding is_out with_gone
+out-fewer s gone free k fewer out = elim (or_cases (is_among gone k) (is_lent (gate_of s.held k)) out) [
+  | inl is ↦ or_left (is_among s.gone k) (is_lent (gate_of s.held k)) (fewer is)
+  | inr lent ↦ or_right (is_among s.gone k) (is_lent (gate_of s.held k)) lent
+]
 
-    by : (is_among (without k s.gone) j ≡ true) ⊎ (is_lent (gate_of s.held j) ≡ true) → (is_among s.gone j || is_lent (gate_of s.held j)) ≡ true
-    by (inl gone) = either (is_among s.gone j) (is_lent (gate_of s.held j)) (inl (without-among k j s.gone gone))
-    by (inr lent) = either (is_among s.gone j) (is_lent (gate_of s.held j)) (inr lent)
-
-gates-freed : (S : Setup) (H : List Entry) (s : Gates) (k : ℕ) → GatesFollow S H s → GatesFollow S H (freed s k)
-unfolding freed
-gates-freed S H s k follow = record {
-  sized = follow.sized;
-  each = follow.each;
-  all = follow.all;
-  below = λ j out. follow.below j (out-freed s k j out);
-}
-
-holders-freed : (S : Setup) (H : List Entry) (s : Gates) (k : ℕ) (holders : List Holder) (places : ℕ) → is_among s.gone k ≡ true → AreSound (freed s k) → HoldersFollow S H s holders places → HoldersFollow S H (freed s k) holders places
-unfolding freed
-holders-freed S H s k holders places gone apart follow = record {
-  each = follow.each;
-  only = follow.only;
-  apart = apart;
-  paired = follow.paired;
-  rising = follow.rising;
-  fits = (let fits = follow.fits in let one = without-one k s.gone gone in omega arith);
+-- the disk stays one where no revoked ticket is new, and no more sets are kept than before
+pub gone-sound : {M : Type 0} (device : M → Device) (prepared : M → ℕ → Type 0) (drive : DriveState M) (c : Core) (gone : List ℕ) (free : ℕ) → IsDisk device prepared drive c
+    → ((k : ℕ) → is_among gone k ≡ true → is_among c.gates.gone k ≡ true) → length gone + free ≤ length c.gates.gone + c.gates.free → AreSound (with_gone c.gates gone free)
+    → IsDisk device prepared drive (record c { gates = with_gone c.gates gone free })
+unfolding state_of with_gone
+gone-sound device prepared drive c gone free sound fewer few apart = record {
+  setup = refl;
+  geometry = sound.geometry;
+  facts = record {
+    legal = sound.facts.legal;
+    media = sound.facts.media;
+    tokens = sound.facts.tokens;
+    gates = (let follow = sound.facts.gates in record {
+      sized = follow.sized;
+      each = follow.each;
+      all = follow.all;
+      below = λ k out. follow.below k (out-fewer c.gates gone free k (fewer k) out);
+    });
+  };
+  drive_follows = sound.drive_follows;
+  records = sound.records;
+  queue = sound.queue;
+  holders = (let follow = sound.holders in record {
+    each = follow.each;
+    only = follow.only;
+    apart = apart;
+    paired = follow.paired;
+    rising = follow.rising;
+    fits = (let fits = follow.fits in omega arith);
+  });
+  room = record { owed = sound.room.owed; places = sound.room.places; few = sound.room.few };
+  ready = sound.ready;
+  fitted = record { blocks = sound.fitted.blocks; accepts = sound.fitted.accepts; fetches_are = sound.fitted.fetches_are; group = sound.fitted.group; zeros = sound.fitted.zeros };
 }
 
 module _ {M : Type 0} (device : M → Device) (prepared : M → ℕ → Type 0) (drive : DriveState M) (c : Core) (sound : IsDisk device prepared drive c) where
-  freed-sound : (k : ℕ) → is_among c.gates.gone k ≡ true → AreSound (freed c.gates k) → IsDisk device prepared drive (record c { gates = freed c.gates k })
-  unfolding state_of
-  freed-sound k gone apart = record {
-    setup = refl;
-    geometry = sound.geometry;
-    facts = record {
-      legal = sound.facts.legal;
-      media = sound.facts.media;
-      tokens = sound.facts.tokens;
-      gates = gates-freed _ _ c.gates k sound.facts.gates;
-    };
-    drive_follows = sound.drive_follows;
-    records = sound.records;
-    queue = sound.queue;
-    holders = holders-freed _ _ c.gates k c.holders.items (vec_capacity c.holders) gone apart sound.holders;
-    room = record { owed = sound.room.owed; places = sound.room.places; few = sound.room.few };
-    ready = sound.ready;
-    fitted = record { blocks = sound.fitted.blocks; accepts = sound.fitted.accepts; fetches_are = sound.fitted.fetches_are; group = sound.fitted.group; zeros = sound.fitted.zeros };
-  }
-
   -- the buffers of a late work are taken back
   pub late-reaches : (w : Lent) (s : Gates) → gate_of c.gates.held w.ticket ≡ None → is_ours c.gates w ≡ true → s ≡ taking c.gates w.ticket → AreSound s
       → Reaches device prepared drive c drive (record c { gates = s }) (λ old new. StoreSays old w Stale new)
@@ -148,7 +123,8 @@ module _ {M : Type 0} (device : M → Device) (prepared : M → ℕ → Type 0) 
       let gone = late-gone c.gates w ours none in
       let same = is ∙ taking-gone c.gates w.ticket gone in
       record {
-        sound = subst (λ g. IsDisk device prepared drive (record c { gates = g })) (sym same) (freed-sound w.ticket gone (subst AreSound same apart));
+        sound = subst (λ g. IsDisk device prepared drive (record c { gates = g })) (sym same)
+            (gone-sound device prepared drive c (without w.ticket c.gates.gone) (c.gates.free + 1) sound (λ k. without-among w.ticket k c.gates.gone) (let one = without-one w.ticket c.gates.gone gone in omega arith) (subst AreSound same apart));
         says = (ours, none, ap (λ g. record (state_of device drive c) { gates = g }) is);
       }
 

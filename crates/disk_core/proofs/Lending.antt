@@ -1,28 +1,27 @@
 -- The links of the parts after a done fetch, whose group is held and lent.
-use Rattle.std.proofs.Common.{◌≡◌, ◌≢◌, ℕ, zero, suc, ◌+◌, ◌-◌, ◌*◌, ◌^◌, ◌<◌, ◌≤◌, ◌⊎◌, inl, inr, Bool, true, false, not, ◌||◌, List, [], ◌∷◌, ◌++◌, length, map, slice_get, Option, None, Some, refl, sym, ◌∙◌, ap, subst, arith}
+use Rattle.std.proofs.Common.{◌≡◌, ℕ, ◌-◌, ◌*◌, ◌<◌, ◌≤◌, inl, inr, true, false, not, List, [], ◌∷◌, ◌++◌, length, map, None, Some, refl, sym, ◌∙◌, ap, subst, arith}
 use Rattle.std.specs.Prelude.{filter, sum_by, vec_capacity, nat_eq}
 use Rattle.history_laws.specs.Gates.{is_store_of}
 use Rattle.std.proofs.lemmas.Bool.{cases_eq, and_right}
 use Rattle.medium.specs.Device.{AreToldAt}
-use Rattle.disk_split.specs.Units.{group_size}
 use Rattle.block_gate.specs.Gates.{Gate, Gates, gate_of, is_out, holding, lending, AreSound}
 use Rattle.history.specs.declared.entry.Command.TheVariants.{Fetch}
 use Rattle.history.specs.declared.entry.Entry.{Entry}
 use Rattle.history.specs.declared.entry.Entry.TheVariants.{Done}
-use Rattle.history.specs.Setup.{Setup, IsSetup, size_of}
+use Rattle.history.specs.Setup.{Setup, size_of}
 use Rattle.history.specs.Eras.{media_id_of}
-use Rattle.history.specs.Tokens.{Request, request, is_flush, changes_bytes}
+use Rattle.history.specs.Tokens.{Request, request, is_flush}
 use Rattle.history.specs.Commands.{is_sync}
 use Rattle.history.specs.Contents.{contents}
 use Rattle.history.specs.Marks.{mark_of, fetches, IsOutstanding, HoldsBy}
 use Rattle.history.specs.Rules.{MayCommand, MayFollow, IsLegal}
-use Rattle.history.specs.Tasks.{Task, Moves, Syncs, tasks_of, is_finished, pending}
+use Rattle.history.specs.Tasks.{Task, Moves, Syncs, tasks_of, is_finished}
 use Rattle.history.specs.Room.{owed_entries}
 use Rattle.history_laws.specs.Left.{task_bytes, left_of}
 use Rattle.history_laws.specs.Ranges.{AreToldWhole}
 use Rattle.history_laws.proofs.ContentLemmas.{contents-same, piece-unchanged}
 use Rattle.history_laws.proofs.CountLemmas.{fetches-more}
-use Rattle.history_laws.proofs.HolderLemmas.{still-open, fetch-unheld}
+use Rattle.history_laws.proofs.HolderLemmas.{still-open}
 use Rattle.history_laws.proofs.MediaLemmas.{media-id-same}
 use Rattle.history_laws.proofs.PendingLemmas.{pending-fetch}
 use Rattle.history_laws.proofs.SpareLemmas.{entries-done}
@@ -30,13 +29,12 @@ use Rattle.history_laws.proofs.TicketLemmas.{holds-by-before, holds-by-stays, ho
 use Rattle.history_laws.proofs.TokenLemmas.{request-stays, mark-other, done-concerns, has_done-done}
 use Rattle.history_laws.proofs.UnitLemmas.{moved-same}
 use Rattle.token_table.specs.declared.record.Record.{Record}
-use Rattle.token_table.specs.Records.{record_at}
 use Rattle.subtask_queue.specs.Subs.{sub_of}
 use Rattle.disk_core.specs.declared.parts.Core.{Core}
 use Rattle.disk_core.specs.declared.parts.Holder.{Holder}
 use Rattle.disk_core.specs.Facts.{IsGate, KeptFollow, GatesFollow}
 use Rattle.disk_core.specs.Parts.{kept_of, holder_of}
-use Rattle.disk_core.specs.Inside.{IsEarlier, Tracks, RecordsFollow, HoldersFollow, HasRoom}
+use Rattle.disk_core.specs.Inside.{Tracks, RecordsFollow, HoldersFollow}
 use Rattle.disk_core.proofs.Finished.{left-other, kept-done}
 use Rattle.disk_core.proofs.Gated.{ticket-new, holder-new, holders-below, new-gate, other-gate, new-tickets, new-count, new-gone, new-free, new-out, new-holder, other-holder, new-rising}
 use Rattle.disk_core.proofs.Links.{AreClosed}

@@ -1,6 +1,6 @@
 -- The records and the queue where a unit was finished.
-use Rattle.std.proofs.Common.{◌≡◌, ℕ, zero, suc, ◌+◌, ◌-◌, ◌<◌, ◌≤◌, Bool, true, false, List, [], ◌∷◌, Option, None, Some, refl, sym, ◌∙◌, ap, subst, arith}
-use Rattle.std.specs.Prelude.{slice_set, slice_index_or, count_by, if◌then◌else◌}
+use Rattle.std.proofs.Common.{◌≡◌, ℕ, zero, suc, ◌≤◌, Bool, true, false, List, [], ◌∷◌, Option, None, Some, refl, ◌∙◌, ap, arith}
+use Rattle.std.specs.Prelude.{count_by, if◌then◌else◌}
 use Rattle.std.specs.Option.{option_map}
 use Rattle.efi_status.specs.declared.Status.{Status}
 use Rattle.history_laws.proofs.CountLemmas.{count-more, count-same}
@@ -8,7 +8,7 @@ use Rattle.token_table.specs.declared.record.Record.{Record}
 use Rattle.token_table.specs.declared.record.Mark.{Mark}
 use Rattle.token_table.specs.Records.{Records, record_at, changed, lower_record, mark_at, mark_of_record, mark_of_end}
 use Rattle.subtask_queue.specs.declared.sub.Sub.{Sub}
-use Rattle.subtask_queue.specs.Subs.{is_of, without_first}
+use Rattle.subtask_queue.specs.Subs.{without_first}
 
 pub record-changed : (change : Record → Record) (records : Records) (t : ℕ) (r : Record) → record_at records t ≡ Some r → record_at (changed change records t) t ≡ Some (change r)
 unfolding record_at changed

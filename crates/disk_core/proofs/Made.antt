@@ -1,8 +1,8 @@
 -- The parts after a done command that finished a unit, and after the end of its token where it was the last one.
-use Rattle.std.proofs.Common.{◌≡◌, ◌≢◌, ℕ, zero, suc, ◌+◌, ◌-◌, ◌*◌, ◌^◌, ◌<◌, ◌≤◌, ◌⊎◌, inl, inr, Bool, true, false, not, List, [], ◌∷◌, length, map, slice_get, Option, None, Some, refl, sym, ◌∙◌, ap, subst, arith}
-use Rattle.std.specs.Prelude.{filter, nat_eq, vec_capacity, if◌then◌else◌}
+use Rattle.std.proofs.Common.{◌≡◌, ◌≢◌, ℕ, suc, ◌+◌, ◌^◌, ◌<◌, ◌≤◌, inl, inr, Bool, true, false, not, List, [], ◌∷◌, length, map, slice_get, Option, None, Some, refl, sym, ◌∙◌, ap, subst, arith}
+use Rattle.std.specs.Prelude.{nat_eq, vec_capacity}
 use Rattle.std.specs.Option.{option_map}
-use Rattle.std.proofs.lemmas.Bool.{cases_Bool, cases_eq, ne_eqb}
+use Rattle.std.proofs.lemmas.Bool.{cases_eq, ne_eqb}
 use Rattle.efi_status.specs.declared.Status.{Status}
 use Rattle.efi_status.specs.declared.Status.TheVariants.{Success}
 use Rattle.block_gate.specs.Gates.{Gates}
@@ -10,28 +10,29 @@ use Rattle.history.specs.declared.entry.Command.{Command}
 use Rattle.history.specs.declared.entry.Entry.{Entry}
 use Rattle.history.specs.declared.entry.Entry.TheVariants.{Done}
 use Rattle.history.specs.Setup.{Setup, IsSetup, size_of}
-use Rattle.history.specs.Tokens.{Request, accepted, request}
-use Rattle.history.specs.Marks.{mark_of, status_if, IsOutstanding, HoldsBy}
+use Rattle.history.specs.Tokens.{Request}
+use Rattle.history.specs.Marks.{mark_of, status_if, IsOutstanding}
 use Rattle.history.specs.Rules.{MayCommand, MayFollow, IsLegal}
-use Rattle.history.specs.Tasks.{Task, Todo, pending}
+use Rattle.history.specs.Tasks.{Task, pending}
 use Rattle.history.specs.Room.{owed_entries}
 use Rattle.history_laws.specs.Left.{task_bytes, left_of}
 use Rattle.history_laws.proofs.EndLemmas.{command-open}
-use Rattle.history_laws.proofs.PendingLemmas.{IsPending, filter-everything, pending-is, get-mapped}
+use Rattle.history_laws.proofs.PendingLemmas.{filter-everything, pending-is, get-mapped}
 use Rattle.history_laws.proofs.SpareLemmas.{entries-done, entries-done-end}
 use Rattle.history_laws.proofs.TokenLemmas.{mark-other, done-concerns}
 use Rattle.token_table.specs.declared.record.Record.{Record}
-use Rattle.token_table.specs.Records.{Records, record_at, request_at, changed, lower_record, ended_record}
+use Rattle.token_table.specs.Records.{record_at, request_at, changed, lower_record, ended_record}
 use Rattle.subtask_queue.specs.declared.sub.Sub.{Sub}
 use Rattle.subtask_queue.specs.Subs.{token_of, block_of, is_of, is_unit, sub_of, without_first, without_token}
 use Rattle.disk_core.specs.declared.parts.Core.{Core}
 use Rattle.disk_core.specs.declared.parts.Holder.{Holder}
 use Rattle.disk_core.specs.Facts.{KeptFollow, GatesFollow}
-use Rattle.disk_core.specs.Parts.{kept_from, kept_of, holder_of}
+use Rattle.disk_core.specs.Parts.{kept_of}
 use Rattle.disk_core.specs.Inside.{RecordsFollow, HoldersFollow, HasRoom}
 use Rattle.disk_core.specs.Closing.{RecordsSoFar}
-use Rattle.disk_core.specs.Moves.{entered, finished, left_in, others, revoked, revoked_one, StaysBeside, Ends, EndsIf, Finishes}
-use Rattle.disk_core.proofs.Finished.{kept-changed, kept-lowered, kept-ended, records-lowered, records-follow, records-ended}
+use Rattle.disk_core.specs.Moves.{entered, finished, left_in, revoked, revoked_one, Ends, EndsIf, Finishes}
+use Rattle.disk_core.proofs.Kept.{kept-changed}
+use Rattle.disk_core.proofs.Finished.{kept-lowered, kept-ended, records-lowered, records-follow, records-ended}
 use Rattle.disk_core.proofs.HistoryUnits.{FinishesTask, mark-finished}
 use Rattle.disk_core.proofs.Links.{AreClosed}
 use Rattle.disk_core.proofs.Revoked.{holder-at}

@@ -1,6 +1,5 @@
 -- A unit that moves bytes: its request, its blocks, and what the disk has for its command.
-use Rattle.std.proofs.Common.{◌≡◌, ◌≢◌, ℕ, zero, suc, ◌+◌, ◌-◌, ◌*◌, ◌^◌, ◌<◌, ◌≤◌, Bool, true, false, List, [], ◌∷◌, length, slice_get, Option, None, Some, refl, sym, ◌∙◌, ap, subst, arith, IsSome, IfSome}
-use Rattle.std.specs.Prelude.{count_by, max, min}
+use Rattle.std.proofs.Common.{◌≡◌, ℕ, ◌+◌, ◌-◌, ◌*◌, ◌^◌, ◌<◌, ◌≤◌, true, false, List, slice_get, Some, sym, ◌∙◌, ap, subst, arith, IsSome, IfSome}
 use Rattle.std.specs.Option.{option_map}
 use Rattle.medium.specs.Device.{Device, IsShaped, IsTransfer}
 use Rattle.drive.specs.Drives.{DriveState, medium_in}
@@ -14,29 +13,25 @@ use Rattle.history.specs.Eras.{inserts, media_id_of}
 use Rattle.history.specs.Tokens.{Request, request, is_flush, from_of, until_of}
 use Rattle.history.specs.Commands.{is_transfer}
 use Rattle.history.specs.Marks.{IsOutstanding}
-use Rattle.history.specs.Tasks.{Task, Moves, Todo, tasks_of, is_finished}
+use Rattle.history.specs.Tasks.{Moves, Todo, tasks_of, is_finished}
 use Rattle.history_laws.specs.Units.{IsUnitCommand}
-use Rattle.history_laws.proofs.PendingLemmas.{IsPending}
 use Rattle.history_laws.proofs.TaskLemmas.{task-unit, task-moving}
 use Rattle.token_table.specs.declared.record.Record.{Record}
-use Rattle.token_table.specs.declared.record.Request.{Request as Asked}
-use Rattle.token_table.specs.declared.record.Mark.{Mark}
-use Rattle.token_table.specs.Records.{record_at, request_at, mark_at}
+use Rattle.token_table.specs.Records.{record_at, request_at}
 use Rattle.subtask_queue.specs.declared.sub.Sub.{Sub}
-use Rattle.subtask_queue.specs.Subs.{token_of, is_of}
 use Rattle.disk_core.specs.declared.parts.Core.{Core}
 use Rattle.disk_core.specs.State.{setup_of}
 use Rattle.disk_core.specs.Facts.{MeetsEra, IsBuffer}
 use Rattle.disk_core.specs.Parts.{kept_from, state_of}
 use Rattle.disk_core.specs.Commands.{OfMedium}
 use Rattle.disk_core.specs.Inside.{Tracks}
-use Rattle.disk_core.specs.Moves.{IsDisk, IsFirst, HasPlace, HasBytesIn}
+use Rattle.disk_core.specs.Moves.{IsDisk, IsFirst, HasBytesIn}
 use Rattle.disk_core.proofs.Driven.{device-in}
 use Rattle.disk_core.proofs.HistoryUnits.{FinishesTask, unit-finishes}
 use Rattle.disk_core.proofs.Kept.{kept-record}
-use Rattle.disk_core.proofs.Opened.{IsOpenRecord, open-record}
+use Rattle.disk_core.proofs.Opened.{open-record}
 use Rattle.disk_core.proofs.Ranged.{UnitFits, open-fits}
-use Rattle.disk_core.proofs.Upcoming.{next-is, is-present, may-fail, may-lower, unit-token, legal-in}
+use Rattle.disk_core.proofs.Upcoming.{next-is, is-present, may-lower, legal-in}
 
 -- a unit that moves bytes, with its request and its record
 pub record IsMoving (S : Setup) (H : List Entry) (c : Core) (t place : ℕ) (r : Request) (u : Span) (own : Record) : Type 0 where

@@ -1,12 +1,11 @@
 -- The units of tokens as the queue keeps them.
-use Rattle.std.proofs.Common.{◌≡◌, ◌≢◌, ◌⊎◌, ℕ, ◌+◌, ◌≤◌, inl, inr, Bool, true, false, not, nat_eq, ◌&&◌, List, [], ◌∷◌, map, refl, sym, ◌∙◌, ap, subst, arith}
+use Rattle.std.proofs.Common.{◌≡◌, ◌≢◌, ◌⊎◌, ℕ, ◌≤◌, inl, inr, Bool, true, false, not, nat_eq, ◌&&◌, List, [], ◌∷◌, map, refl, sym, ◌∙◌, ap, subst, arith}
 use Rattle.std.specs.Prelude.{filter, count_by}
 use Rattle.std.proofs.lemmas.Bool.{cases_Bool, cases_eq, eq-eqb, ne_eqb, and_right}
 use Rattle.disk_split.specs.declared.span.Span.{Span}
 use Rattle.history.specs.Tasks.{Task, Moves, Syncs, Todo}
 use Rattle.history_laws.proofs.CountLemmas.{count-more, count-same}
 use Rattle.history_laws.proofs.PendingLemmas.{filter-everything, filter-alike}
-use Rattle.subtask_queue.specs.declared.sub.Sub.{Sub}
 use Rattle.subtask_queue.specs.Subs.{token_of, is_of, sub_of, without_token}
 use Rattle.disk_core.proofs.Revoked.{filter-mapped, filter-twice}
 

@@ -1,23 +1,18 @@
 -- A refused request leaves its entry alone.
-use Rattle.std.proofs.Common.{◌≡◌, ◌≢◌, ℕ, suc, ◌+◌, ◌-◌, ◌*◌, ◌^◌, ◌<◌, ◌≤◌, Bool, true, false, List, [], ◌∷◌, length, map, Option, None, Some, refl, sym, ◌∙◌, ap, subst, arith}
+use Rattle.std.proofs.Common.{◌≡◌, ℕ, suc, ◌+◌, ◌^◌, ◌<◌, ◌≤◌, List, ◌∷◌, length, map, Option, Some, refl, sym, ◌∙◌, ap, subst, arith}
 use Rattle.std.specs.Prelude.{vec_capacity}
 use Rattle.efi_status.specs.declared.Status.{Status}
 use Rattle.medium.specs.Device.{Device}
 use Rattle.drive.specs.Drives.{DriveState}
 use Rattle.history.specs.declared.entry.View.{View}
 use Rattle.history.specs.declared.entry.Asked.{Asked}
-use Rattle.history.specs.declared.entry.Entry.{Entry}
 use Rattle.history.specs.declared.entry.Entry.TheVariants.{Refuse}
-use Rattle.history.specs.Setup.{Setup, IsSetup, size_of}
-use Rattle.history.specs.Tokens.{Request, accepted, was_collected}
+use Rattle.history.specs.Setup.{size_of}
 use Rattle.history.specs.Marks.{ending}
 use Rattle.history.specs.Rules.{refusal_of, IsWellAsked, MayFollow, IsLegal}
-use Rattle.history.specs.Tasks.{pending}
-use Rattle.history.specs.Room.{owed_entries}
 use Rattle.history_laws.proofs.TokenLemmas.{collected-same}
 use Rattle.history_laws.proofs.PendingLemmas.{pending-refuse}
 use Rattle.history_laws.proofs.SpareLemmas.{entries-refuse}
-use Rattle.token_table.specs.Records.{record_at}
 use Rattle.subtask_queue.specs.Subs.{sub_of}
 use Rattle.disk_core.specs.declared.parts.Core.{Core}
 use Rattle.disk_core.specs.State.{Kept, setup_of}

@@ -1,13 +1,11 @@
 -- The setup of a disk over its drive.
-use Rattle.std.proofs.Common.{◌≡◌, ℕ, zero, suc, ◌+◌, ◌-◌, ◌%◌, ◌<◌, ◌≤◌, ◌⊎◌, inl, inr, Bool, true, ◌||◌, List, [], ◌∷◌, length, map, slice_get, get_or, Option, None, Some, option_map, nat_eq, refl, sym, ◌∙◌, ap, subst, arith, All}
+use Rattle.std.proofs.Common.{◌≡◌, ℕ, zero, suc, ◌%◌, ◌≤◌, ◌⊎◌, inl, inr, Bool, true, ◌||◌, List, slice_get, Option, None, Some, option_map, nat_eq, refl, ◌∙◌, ap, subst, arith, All}
 use Rattle.std.specs.Prelude.{◌==◌}
 use Rattle.std.proofs.lemmas.Bool.{or_cases, eqb-true}
 use Rattle.std.proofs.lemmas.Option.{slice_get-map, slice_get_within, get_or_from_slice_get}
-use Rattle.medium.specs.Device.{Device, IsShaped, is_block_size, IsBlockSize}
+use Rattle.medium.specs.Device.{Device, is_block_size, IsBlockSize}
 use Rattle.drive.specs.Drives.{DriveState, IsPer, FitTheDrive}
-use Rattle.disk_split.specs.declared.geometry.Geometry.{Geometry}
-use Rattle.disk_split.specs.Units.{IsGeometry}
-use Rattle.history.specs.Setup.{Setup, Opening, size_of, per_of, opening_of, opening_blocks, blocks_of, IsSetup}
+use Rattle.history.specs.Setup.{opening_of, opening_blocks, blocks_of, IsSetup}
 use Rattle.disk_core.specs.State.{opening_from, setup_of}
 
 -- the sizes of blocks

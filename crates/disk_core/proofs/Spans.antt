@@ -1,26 +1,21 @@
 -- The run and the part of a read.
-use Rattle.std.proofs.Common.{◌≡◌, ◌≢◌, ℕ, zero, suc, ◌+◌, ◌-◌, ◌*◌, ◌^◌, ◌<◌, ◌≤◌, Bool, true, false, length, Option, None, Some, refl, sym, ◌∙◌, ap, subst, arith, IsSome, IfSome}
-use Rattle.std.specs.Prelude.{max, min}
+use Rattle.std.proofs.Common.{◌≡◌, ℕ, ◌+◌, ◌*◌, ◌^◌, ◌<◌, ◌≤◌, Bool, true, false, length, refl, sym, ◌∙◌, ap, arith}
 use Rattle.std.proofs.Math.Nat.{mul_comm}
 use Rattle.medium.specs.Device.{Device, IsShaped, IsTransfer}
-use Rattle.drive.specs.Drives.{DriveState, medium_in}
+use Rattle.drive.specs.Drives.{DriveState}
 use Rattle.disk_split.specs.declared.span.Span.{Span}
-use Rattle.disk_split.specs.Units.{group_size, IsUnit, IsKind}
 use Rattle.history.specs.Setup.{Setup, size_of, per_of}
-use Rattle.history.specs.Eras.{media_id_of}
-use Rattle.history.specs.Tokens.{changes_bytes, from_of, until_of}
-use Rattle.history.specs.Tasks.{Task, Moves, Todo}
+use Rattle.history.specs.Tokens.{changes_bytes}
+use Rattle.history.specs.Tasks.{Moves, Todo}
 use Rattle.history_laws.proofs.PieceLemmas.{run-low, run-high}
-use Rattle.token_table.specs.Records.{request_at}
 use Rattle.subtask_queue.specs.declared.sub.Sub.{Sub}
 use Rattle.subtask_queue.specs.declared.sub.Sub.TheVariants as sub
-use Rattle.subtask_queue.specs.Subs.{token_of}
 use Rattle.disk_core.specs.declared.parts.Core.{Core}
 use Rattle.disk_core.specs.declared.reading.Target.{Target}
 use Rattle.disk_core.specs.State.{setup_of}
 use Rattle.disk_core.specs.Commands.{OfMedium}
-use Rattle.disk_core.specs.Moves.{IsDisk, IsFirst, IsTarget}
-use Rattle.disk_core.proofs.Getting.{GoesTo, r, own, moving, get-transfer, get-has, get-request, goes-to}
+use Rattle.disk_core.specs.Moves.{IsDisk, IsFirst}
+use Rattle.disk_core.proofs.Getting.{GoesTo, moving, get-transfer, get-has}
 use Rattle.disk_core.proofs.Moving.{unit-moving, medium-meets}
 use Rattle.disk_core.proofs.Ranged.{run-kept, part-kept}
 

@@ -1,26 +1,25 @@
 -- The disk after the command of the first unit, done or failed.
-use Rattle.std.proofs.Common.{◌≡◌, ◌≢◌, ℕ, zero, suc, ◌+◌, ◌-◌, ◌*◌, ◌^◌, ◌<◌, ◌≤◌, inl, inr, Bool, true, false, ◌&&◌, List, [], ◌∷◌, length, slice_get, Option, None, Some, refl, sym, ◌∙◌, ap, subst, arith, Result, Ok, Err}
+use Rattle.std.proofs.Common.{◌≡◌, ℕ, inl, inr, false, List, ◌∷◌, length, None, Some, refl, sym, ◌∙◌, ap, subst, arith, Result, Ok, Err}
 use Rattle.std.specs.Prelude.{nat_eq, vec_capacity}
-use Rattle.std.proofs.lemmas.Bool.{cases_eq, and_left, and_right}
-use Rattle.medium.specs.Device.{Device, IsShaped, IsCommand, IsSame}
+use Rattle.std.proofs.lemmas.Bool.{cases_eq, and_right}
+use Rattle.medium.specs.Device.{Device, IsShaped, IsCommand}
 use Rattle.medium.specs.declared.block_failed.BlockFailed.{BlockFailed}
-use Rattle.drive.specs.Drives.{DriveState, medium_in, with_medium, devices_of}
+use Rattle.drive.specs.Drives.{DriveState, with_medium, devices_of}
 use Rattle.block_gate.specs.Gates.{Gates}
 use Rattle.history.specs.declared.entry.Command.{Command}
 use Rattle.history.specs.declared.entry.Command.TheVariants.{Fetch, Store, Put, Get, Wipe, Sync}
 use Rattle.history.specs.declared.entry.Entry.{Entry}
 use Rattle.history.specs.declared.entry.Entry.TheVariants.{Done, Fault}
-use Rattle.history.specs.Setup.{Setup, IsSetup, size_of}
+use Rattle.history.specs.Setup.{Setup}
 use Rattle.history.specs.Eras.{media_id_of}
 use Rattle.history.specs.Tokens.{Request, accepted}
 use Rattle.history.specs.Commands.{is_fetch, is_store, is_at}
-use Rattle.history.specs.Marks.{mark_of, is_fetch_entry, fetches, HoldsBy}
+use Rattle.history.specs.Marks.{mark_of, fetches, HoldsBy}
 use Rattle.history.specs.Rules.{MayCommand, MayFollow, StopsAt, IsLegal}
-use Rattle.history.specs.Tasks.{Task, Todo}
-use Rattle.history.specs.Next.{Outcome, Made, Failed, entry_of}
+use Rattle.history.specs.Tasks.{Todo}
+use Rattle.history.specs.Next.{Made, Failed}
 use Rattle.history_laws.specs.Gates.{is_store_at, is_store_of}
 use Rattle.history_laws.specs.Left.{task_bytes}
-use Rattle.history_laws.specs.Ranges.{AreToldWhole}
 use Rattle.history_laws.proofs.CountLemmas.{accepted-same, fetches-same}
 use Rattle.history_laws.proofs.TokenLemmas.{mark-other, done-concerns}
 use Rattle.token_table.specs.declared.record.Record.{Record}
@@ -28,23 +27,22 @@ use Rattle.token_table.specs.Records.{record_at}
 use Rattle.subtask_queue.specs.declared.sub.Sub.{Sub}
 use Rattle.disk_core.specs.declared.answers.Step.TheVariants.{Did}
 use Rattle.disk_core.specs.declared.parts.Core.{Core}
-use Rattle.disk_core.specs.State.{State, setup_of}
+use Rattle.disk_core.specs.State.{setup_of}
 use Rattle.disk_core.specs.Commands.{OnMedium}
-use Rattle.disk_core.specs.Facts.{MeetsEra, KeptFollow, GatesFollow}
+use Rattle.disk_core.specs.Facts.{MeetsEra, KeptFollow}
 use Rattle.disk_core.specs.Parts.{kept_of, state_of}
-use Rattle.disk_core.specs.Inside.{AreFitted, RecordsFollow, HoldersFollow}
+use Rattle.disk_core.specs.Inside.{AreFitted, RecordsFollow}
 use Rattle.disk_core.specs.Calls.{StepSays, Makes, Fills, IsCommanded, Revokes, command_of, is_fetched}
 use Rattle.disk_core.specs.Moves.{IsDisk, IsFirst, Reaches, Fails, Finishes, entered}
-use Rattle.disk_core.proofs.Commanded.{outcome_of, entry_for}
-use Rattle.disk_core.proofs.Driven.{IsMakingEntry, Meets, device-in, setup-driven, media-driven, follows-driven, ready-driven, commanded-driven}
+use Rattle.disk_core.proofs.Commanded.{outcome_of}
+use Rattle.disk_core.proofs.Driven.{IsMakingEntry, device-in, setup-driven, media-driven, follows-driven, ready-driven, commanded-driven}
 use Rattle.disk_core.proofs.Failed.{failed-sound, failed-revokes}
 use Rattle.disk_core.proofs.HistoryHeld.{held-open}
 use Rattle.disk_core.proofs.HistoryUnits.{FinishesTask}
-use Rattle.disk_core.proofs.Links.{AreClosed, StandsBeside, links-disk}
-use Rattle.disk_core.proofs.Made.{MayFinish, HasClosed, StaysFitted, finishes-closed}
+use Rattle.disk_core.proofs.Links.{StandsBeside, links-disk}
+use Rattle.disk_core.proofs.Made.{MayFinish, finishes-closed}
 use Rattle.disk_core.proofs.Untouched.{gates-stay, holders-stay}
 use Rattle.disk_core.proofs.Upcoming.{next-is, legal-in, whole-in, unit-token, unit-block}
-use Rattle.subtask_queue.specs.Subs.{token_of, block_of}
 
 pub done-entry : (t : ℕ) (command : Command) → IsMakingEntry (Done t command)
 done-entry t command = record { adds_none = refl; stays_in = refl; puts_none = refl; keeps_protection = refl }

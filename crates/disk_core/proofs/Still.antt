@@ -1,20 +1,18 @@
 -- What an entry leaves that makes no command, accepts and ends nothing, and changes no medium and no protection.
-use Rattle.std.proofs.Common.{◌≡◌, ◌≢◌, ℕ, ◌+◌, ◌-◌, ◌*◌, ◌<◌, ◌≤◌, ◌⊎◌, inl, inr, Bool, false, not, List, [], ◌∷◌, map, Option, None, Some, refl, sym, ◌∙◌, ap, subst, arith}
+use Rattle.std.proofs.Common.{◌≡◌, ℕ, ◌*◌, ◌<◌, inl, inr, false, not, List, ◌∷◌, None, refl, sym, ◌∙◌, ap, subst}
 use Rattle.std.specs.Prelude.{filter, sum_by}
 use Rattle.medium.specs.Device.{Device, AreToldAt}
 use Rattle.drive.specs.Drives.{DriveState}
-use Rattle.block_gate.specs.Gates.{Gate, Gates, gate_of, is_out}
-use Rattle.history.specs.declared.entry.Command.TheVariants.{Fetch}
+use Rattle.block_gate.specs.Gates.{Gates}
 use Rattle.history.specs.declared.entry.Entry.{Entry}
-use Rattle.history.specs.declared.entry.Entry.TheVariants.{Accept, Refuse, Done, Fault, Collect, Cancel, Reset, Eject, Insert, Protect}
+use Rattle.history.specs.declared.entry.Entry.TheVariants.{Done, Fault}
 use Rattle.history.specs.Setup.{Setup, IsSetup, size_of}
 use Rattle.history.specs.Eras.{is_command, is_eject, is_insert, media_id_of}
-use Rattle.history.specs.Tokens.{Request, accepted, request, is_accept}
+use Rattle.history.specs.Tokens.{Request, accepted, is_accept}
 use Rattle.history.specs.Contents.{contents, bytes_read}
-use Rattle.history.specs.Commands.{done_commands}
 use Rattle.history.specs.Marks.{mark_of, ending, or_else, IsOutstanding, HoldsBy, is_fetch_entry, fetches}
 use Rattle.history.specs.Rules.{MayFollow, IsLegal}
-use Rattle.history.specs.Tasks.{tasks_of, is_finished}
+use Rattle.history.specs.Tasks.{tasks_of}
 use Rattle.history_laws.specs.Gates.{is_store_of}
 use Rattle.history_laws.specs.Left.{task_bytes, left_of}
 use Rattle.history_laws.specs.Told.{is_done}
@@ -26,11 +24,9 @@ use Rattle.history_laws.proofs.MediaLemmas.{media-id-same, present-same}
 use Rattle.history_laws.proofs.PendingLemmas.{finished-same}
 use Rattle.history_laws.proofs.TicketLemmas.{holds-by-before, holds-by-stays}
 use Rattle.token_table.specs.declared.record.Record.{Record}
-use Rattle.token_table.specs.Records.{Records, record_at}
 use Rattle.disk_core.specs.declared.parts.Holder.{Holder}
-use Rattle.disk_core.specs.Facts.{IsBuffer, IsGate, GatesFollow}
-use Rattle.disk_core.specs.Parts.{holder_of}
-use Rattle.disk_core.specs.Inside.{DriveFollows, Tracks, RecordsFollow, HoldersFollow, AreReady}
+use Rattle.disk_core.specs.Facts.{IsBuffer, GatesFollow}
+use Rattle.disk_core.specs.Inside.{DriveFollows, Tracks, HoldersFollow, AreReady}
 use Rattle.disk_core.proofs.Plain.{clash}
 
 pub record IsStill (S : Setup) (H : List Entry) (e : Entry) : Type 0 where

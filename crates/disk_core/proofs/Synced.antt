@@ -1,32 +1,27 @@
 -- The sync of a flush.
-use Rattle.std.proofs.Common.{◌≡◌, ◌≢◌, ℕ, zero, suc, ◌+◌, ◌-◌, ◌*◌, ◌^◌, ◌<◌, ◌≤◌, Bool, true, false, List, [], ◌∷◌, length, slice_get, Option, None, Some, refl, sym, ◌∙◌, ap, subst, arith, Result, Ok, Err, OnOk, IsSome}
-use Rattle.std.specs.Prelude.{count_by, nat_lt, if◌then◌else◌, IfSome}
+use Rattle.std.proofs.Common.{◌≡◌, ℕ, ◌+◌, ◌-◌, ◌*◌, ◌^◌, ◌<◌, ◌≤◌, Bool, true, false, List, length, Some, refl, sym, ◌∙◌, ap, subst, arith, Result, Ok, Err, OnOk, IsSome}
+use Rattle.std.specs.Prelude.{count_by, if◌then◌else◌, IfSome}
 use Rattle.medium.specs.Device.{Device, IsShaped, IsSync}
 use Rattle.medium.specs.declared.block_failed.BlockFailed.{BlockFailed}
 use Rattle.drive.specs.Drives.{DriveState, medium_in}
-use Rattle.disk_split.specs.declared.span.Span.{Span}
-use Rattle.history.specs.declared.entry.Command.{Command}
 use Rattle.history.specs.declared.entry.Command.TheVariants.{Sync}
 use Rattle.history.specs.declared.entry.Entry.{Entry}
-use Rattle.history.specs.declared.entry.Entry.TheVariants.{Done, Fault}
+use Rattle.history.specs.declared.entry.Entry.TheVariants.{Fault}
 use Rattle.history.specs.Setup.{Setup}
-use Rattle.history.specs.Eras.{media_id_of}
 use Rattle.history.specs.Tokens.{Request, changes_bytes}
 use Rattle.history.specs.Marks.{IsOutstanding}
 use Rattle.history.specs.Tasks.{Task, Moves, Syncs, Todo, is_finished, task_command}
 use Rattle.history_laws.specs.Left.{task_bytes}
 use Rattle.history_laws.proofs.CountLemmas.{fetches-same}
-use Rattle.history_laws.proofs.PendingLemmas.{IsPending}
 use Rattle.token_table.specs.declared.record.Mark.{Mark}
 use Rattle.token_table.specs.Records.{request_at, mark_at}
 use Rattle.subtask_queue.specs.declared.sub.Sub.{Sub}
 use Rattle.subtask_queue.specs.declared.sub.Sub.TheVariants as sub
-use Rattle.subtask_queue.specs.Subs.{token_of, is_of, sub_of_span, sub_of_task, sub_of}
+use Rattle.subtask_queue.specs.Subs.{token_of, is_of, sub_of_task}
 use Rattle.disk_core.specs.declared.answers.Step.TheVariants.{Did}
 use Rattle.disk_core.specs.declared.parts.Core.{Core}
 use Rattle.disk_core.specs.State.{setup_of}
 use Rattle.disk_core.specs.Commands.{OnMedium}
-use Rattle.disk_core.specs.Facts.{MeetsEra}
 use Rattle.disk_core.specs.Parts.{kept_of, state_of}
 use Rattle.disk_core.specs.Calls.{StepSays, command_of}
 use Rattle.disk_core.specs.Moves.{IsDisk, IsFirst, Reaches, HasPlace, Finishes, Fails, MayEnter, Settles}
@@ -35,7 +30,7 @@ use Rattle.disk_core.proofs.Finished.{kept-done}
 use Rattle.disk_core.proofs.HistoryUnits.{FinishesTask, sync-finishes}
 use Rattle.disk_core.proofs.Opened.{open-record}
 use Rattle.disk_core.proofs.Stepped.{Follows, did-done, did-failed}
-use Rattle.disk_core.proofs.Upcoming.{IsNext, next-is, is-present, may-fail, may-lower, unit-token}
+use Rattle.disk_core.proofs.Upcoming.{next-is, is-present, may-fail, may-lower, unit-token}
 
 -- a unit that the queue keeps as a sync is one
 sync-task : (size token t : ℕ) (write : Bool) (task : Task) → sub_of_task size token write task ≡ sub.Sync t → task ≡ Syncs

@@ -1,21 +1,14 @@
 -- The steps of a disk that holds no block are the turns of the plain schedule.
-use Rattle.std.proofs.Common.{◌≡◌, ℕ, ◌<◌, Bool, true, false, nat_lt, not, ◌⊎◌, [], ◌∷◌, Option, None, Some, IsSome, option_map, refl, sym, ◌∙◌, ap, subst, arith, nat_eq, if◌then◌else◌}
-use Rattle.std.proofs.lemmas.Bool.{false_from_ne_true, lt-ltb, or_left, both_ways}
+use Rattle.std.proofs.Common.{◌≡◌, ℕ, ◌<◌, true, false, nat_lt, [], Option, None, Some, IsSome, option_map, refl, sym, ◌∙◌, ap, subst}
+use Rattle.std.proofs.lemmas.Bool.{false_from_ne_true, lt-ltb}
 use Rattle.disk_split.specs.Units.{group_start}
-use Rattle.disk_split.specs.declared.span.Span.{Span}
-use Rattle.history.specs.declared.entry.Kind.{Kind}
-use Rattle.history.specs.declared.entry.Kind.TheVariants.{Read, Write, Flush, Erase}
-use Rattle.history.specs.declared.entry.Command.{Command}
-use Rattle.history.specs.declared.entry.Command.TheVariants.{Fetch, Store, Put, Get, Wipe, Sync}
-use Rattle.history.specs.Setup.{Setup, IsSetup}
-use Rattle.history.specs.Marks.{Holds, HoldsBy, is_held}
-use Rattle.history.specs.Rules.{MayCommand, IsLegal}
-use Rattle.history.specs.Tasks.{Task, Moves, Syncs, Todo, pending, is_runnable, first_runnable, span_command, task_command}
+use Rattle.history.specs.Setup.{IsSetup}
+use Rattle.history.specs.Marks.{Holds, is_held}
+use Rattle.history.specs.Tasks.{Todo, first_runnable, task_command}
 use Rattle.history.specs.Next.{Turn, next_turn, first_open, Outcome, Made}
 use Rattle.history_laws.specs.Turns.{turn_of_todo}
 use Rattle.history_laws.proofs.HolderLemmas.{held-holder}
 use Rattle.history_laws.proofs.NextLemmas.{first-open-some, next-turn-is, next-turn-none}
-use Rattle.history_laws.proofs.PendingLemmas.{pending-fetch}
 use Rattle.history_laws.proofs.RunnableLemmas.{open-unfinished, next-runnable}
 use Rattle.history_laws.proofs.TokenLemmas.{request-some}
 use Rattle.block_gate.specs.Gates.{Gate, gate_of}
@@ -23,7 +16,7 @@ use Rattle.disk_core.specs.declared.answers.Step.{Step}
 use Rattle.disk_core.specs.declared.answers.Step.TheVariants as step
 use Rattle.disk_core.specs.State.{State}
 use Rattle.disk_core.specs.Facts.{AreFacts}
-use Rattle.disk_core.specs.Calls.{StepSays, MakesFirst, is_fetched, first_of, command_of}
+use Rattle.disk_core.specs.Calls.{StepSays, MakesFirst, is_fetched, first_of}
 use Rattle.disk_core.specs.Turns.{TakesTurn, StepTurns}
 use Rattle.disk_core.proofs.Found.{fetched-ticket}
 

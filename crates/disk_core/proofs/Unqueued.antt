@@ -1,10 +1,9 @@
 -- The queue without the unit that was finished.
-use Rattle.std.proofs.Common.{◌≡◌, ◌≢◌, ℕ, zero, suc, ◌+◌, ◌-◌, ◌*◌, ◌<◌, ◌≤◌, ◌⊎◌, inl, inr, Bool, true, false, not, ◌&&◌, List, [], ◌∷◌, map, slice_get, Option, None, Some, refl, sym, ◌∙◌, ap, subst, arith}
+use Rattle.std.proofs.Common.{◌≡◌, ℕ, suc, ◌-◌, ◌*◌, inl, inr, Bool, true, false, not, ◌&&◌, List, [], ◌∷◌, map, slice_get, Some, refl, sym, ◌∙◌, ap, subst, arith}
 use Rattle.std.specs.Prelude.{filter, nat_eq, if◌then◌else◌, max}
 use Rattle.std.proofs.lemmas.Bool.{cases_Bool, cases_eq, and_left, and_right, and_parts, eq-eqb, ne_eqb, eqb-true, both_ways}
 use Rattle.std.proofs.lemmas.Option.{same_Some}
 use Rattle.disk_split.specs.declared.span.Span.{Span}
-use Rattle.disk_split.specs.Units.{IsUnit}
 use Rattle.disk_split.proofs.Shared.{units-same}
 use Rattle.history.specs.declared.entry.Command.{Command}
 use Rattle.history.specs.declared.entry.Entry.{Entry}
@@ -20,7 +19,7 @@ use Rattle.history_laws.proofs.PendingLemmas.{IsPending, filter-everything, pend
 use Rattle.history_laws.proofs.TaskLemmas.{task-unit, task-sync, task-moving}
 use Rattle.subtask_queue.specs.declared.sub.Sub.{Sub}
 use Rattle.subtask_queue.specs.declared.sub.Sub.TheVariants.{Part, Run}
-use Rattle.subtask_queue.specs.Subs.{token_of, block_of, is_of, has_block, is_unit, sub_of_span, sub_of_task, sub_of, without_first}
+use Rattle.subtask_queue.specs.Subs.{token_of, block_of, is_of, has_block, is_unit, sub_of_task, sub_of, without_first}
 use Rattle.disk_core.proofs.HistoryUnits.{FinishesTask, is_here, pending-finished}
 use Rattle.disk_core.proofs.Queued.{sub-token}
 

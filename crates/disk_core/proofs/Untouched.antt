@@ -1,30 +1,24 @@
 -- Gates and holders through an entry that touches none of them.
-use Rattle.std.proofs.Common.{◌≡◌, ◌≢◌, ℕ, zero, suc, ◌+◌, ◌-◌, ◌*◌, ◌<◌, ◌≤◌, ◌⊎◌, inl, inr, Bool, false, ◌&&◌, List, [], ◌∷◌, length, map, take, drop, slice_get, Option, None, Some, option_map, refl, sym, ◌∙◌, ap, subst, arith}
-use Rattle.std.specs.Prelude.{vec_capacity}
+use Rattle.std.proofs.Common.{◌≡◌, ℕ, zero, suc, ◌*◌, ◌<◌, inl, inr, Bool, false, List, ◌∷◌, length, map, slice_get, Option, None, Some, option_map, refl, sym, ◌∙◌, ap, subst, arith}
 use Rattle.std.proofs.lemmas.Option.{slice_get-map, same_Some}
-use Rattle.byte_lists.proofs.Patches.{get-drop}
 use Rattle.medium.specs.Device.{Device, IsShaped, IsTold, AreToldAt}
 use Rattle.drive.specs.Drives.{DriveState, FitTheDrive}
-use Rattle.block_gate.specs.Gates.{Gate, Gates, gate_of, is_out, AreSound}
+use Rattle.block_gate.specs.Gates.{Gate, Gates, AreSound}
 use Rattle.disk_split.specs.Units.{group_size}
-use Rattle.history.specs.declared.entry.Command.TheVariants.{Fetch}
 use Rattle.history.specs.declared.entry.Entry.{Entry}
-use Rattle.history.specs.declared.entry.Entry.TheVariants.{Done}
-use Rattle.history.specs.Setup.{Setup, Opening, IsSetup, size_of, per_of, first_of, opening_of, opening_bytes, opening_blocks, blocks_of}
+use Rattle.history.specs.Setup.{Setup, IsSetup, size_of, opening_bytes, opening_blocks}
 use Rattle.history.specs.Eras.{media_id_of, is_insert}
-use Rattle.history.specs.Contents.{contents, patch_all, pieces_of, byte_at}
-use Rattle.history.specs.Marks.{mark_of, is_fetch_entry, fetches, HoldsBy}
+use Rattle.history.specs.Contents.{contents}
+use Rattle.history.specs.Marks.{mark_of, is_fetch_entry, HoldsBy}
 use Rattle.history.specs.Rules.{MayFollow, IsLegal}
 use Rattle.history_laws.specs.Gates.{is_store_of}
 use Rattle.history_laws.specs.Ranges.{AreToldWhole}
 use Rattle.history_laws.proofs.CountLemmas.{fetches-same}
-use Rattle.history_laws.proofs.GateLemmas.{held-byte}
 use Rattle.history_laws.proofs.MediaLemmas.{media-id-same}
 use Rattle.history_laws.proofs.TicketLemmas.{holds-by-before, holds-by-stays}
 use Rattle.disk_core.specs.declared.parts.Holder.{Holder}
 use Rattle.disk_core.specs.State.{opening_from, setup_of}
 use Rattle.disk_core.specs.Facts.{IsGate, GatesFollow}
-use Rattle.disk_core.specs.Parts.{holder_of}
 use Rattle.disk_core.specs.Inside.{HoldersFollow}
 use Rattle.disk_core.proofs.HistoryCopies.{copy-stays}
 use Rattle.disk_core.proofs.Setups.{all-at}

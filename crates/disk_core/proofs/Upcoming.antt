@@ -1,28 +1,26 @@
 -- The unit that comes next, and what the disk has for its command.
-use Rattle.std.proofs.Common.{◌≡◌, ◌≢◌, ℕ, zero, suc, ◌+◌, ◌-◌, ◌*◌, ◌<◌, ◌≤◌, Bool, true, false, List, [], ◌∷◌, length, slice_get, Option, None, Some, refl, sym, ◌∙◌, ap, subst, arith, IsSome}
+use Rattle.std.proofs.Common.{◌≡◌, ℕ, zero, suc, ◌+◌, ◌-◌, ◌<◌, ◌≤◌, Bool, true, List, [], ◌∷◌, length, slice_get, None, Some, refl, sym, ◌∙◌, ap, subst, arith, IsSome}
 use Rattle.std.specs.Prelude.{count_by, nat_lt, if◌then◌else◌, IfSome}
 use Rattle.std.specs.Option.{option_map}
 use Rattle.medium.specs.Device.{Device, IsShaped}
 use Rattle.drive.specs.Drives.{DriveState, medium_in}
 use Rattle.history.specs.declared.entry.Command.{Command}
 use Rattle.history.specs.declared.entry.Entry.{Entry}
-use Rattle.history.specs.Setup.{Setup, IsSetup, size_of}
-use Rattle.history.specs.Eras.{media_id_of}
+use Rattle.history.specs.Setup.{Setup}
 use Rattle.history.specs.Tokens.{Request, request}
 use Rattle.history.specs.Marks.{is_held, IsOutstanding}
 use Rattle.history.specs.Rules.{MayCommand, IsLegal}
 use Rattle.history.specs.Tasks.{Task, Todo, pending, is_runnable, first_runnable, task_command}
 use Rattle.history_laws.specs.Left.{task_bytes, left_of}
 use Rattle.history_laws.specs.Ranges.{AreToldWhole}
-use Rattle.history_laws.proofs.EndLemmas.{command-open}
 use Rattle.history_laws.proofs.MayLemmas.{left-may}
 use Rattle.history_laws.proofs.MediaLemmas.{open-media}
 use Rattle.history_laws.proofs.NextLemmas.{find-some}
 use Rattle.history_laws.proofs.PendingLemmas.{IsPending, pending-is}
 use Rattle.token_table.specs.declared.record.Mark.{Mark}
-use Rattle.token_table.specs.Records.{record_at, request_at, mark_at}
+use Rattle.token_table.specs.Records.{request_at, mark_at}
 use Rattle.subtask_queue.specs.declared.sub.Sub.{Sub}
-use Rattle.subtask_queue.specs.Subs.{token_of, block_of, is_of, sub_of}
+use Rattle.subtask_queue.specs.Subs.{token_of, block_of, is_of}
 use Rattle.disk_core.specs.declared.parts.Core.{Core}
 use Rattle.disk_core.specs.State.{setup_of}
 use Rattle.disk_core.specs.Parts.{state_of}

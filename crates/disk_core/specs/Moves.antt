@@ -1,5 +1,5 @@
 -- What the functions over the parts of a disk leave (own profile).
-use Rattle.std.specs.Prelude.{◌≡◌, ℕ, ◌+◌, ◌-◌, ◌*◌, ◌/◌, ◌^◌, ◌<◌, ◌≤◌, min, max, Bool, true, false, not, nat_eq, nat_lt, ◌&&◌, ◌||◌, if◌then◌else◌, List, [], ◌∷◌, ◌++◌, take, drop, position, length, replicate, filter, count_by, Option, None, Some, is_some, vec_capacity, Result, OnOk, OnErr, IfErr, Ok, Err, IfSome, IsSome}
+use Rattle.std.specs.Prelude.{◌≡◌, ℕ, ◌+◌, ◌-◌, ◌*◌, ◌^◌, ◌<◌, ◌≤◌, min, max, Bool, true, false, not, nat_eq, nat_lt, ◌&&◌, ◌||◌, if◌then◌else◌, List, [], ◌∷◌, ◌++◌, take, drop, position, length, replicate, filter, count_by, Option, None, Some, is_some, vec_capacity, Result, OnOk, OnErr, IfErr, Ok, Err, IfSome, IsSome}
 use Rattle.byte_lists.specs.Patching.{patch}
 use Rattle.efi_status.specs.declared.Status.{Status}
 use Rattle.efi_status.specs.declared.Status.TheVariants.{Success, DeviceError, WriteProtected, BadBufferSize, InvalidParameter}

@@ -1,5 +1,5 @@
 -- What a disk does that holds no block: its steps are the turns of the plain schedule, and a work that is merged is written at once (own profile).
-use Rattle.std.specs.Prelude.{◌≡◌, ℕ, ◌<◌, true, false, [], ◌∷◌, None, Some, Result}
+use Rattle.std.specs.Prelude.{◌≡◌, ℕ, ◌<◌, true, false, [], None, Some, Result}
 use Rattle.byte_lists.specs.Patching.{patch}
 use Rattle.history.specs.declared.entry.View.{View}
 use Rattle.history.specs.Setup.{IsSetup}

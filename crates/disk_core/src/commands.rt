@@ -16,7 +16,8 @@ pub fn read_from<M: Medium>(
 ) -> Result<(), BlockFailed>
     requires present { IsSome (medium_in drive.old) }
     requires transfer { OfMedium drive.old (λ m. IsTransfer (M.device m) lba (length out.old)) }
-    ensures { OnMedium M.device M.prepared drive.old drive.new (λ d d'. IsRead d lba result d' out.old out.new) }
+    ensures { OnMedium M.device M.prepared drive.old drive.new
+        (λ d d'. IsRead d lba result d' out.old out.new) }
 {
     let Some(medium) = drive.medium() else {
         unreachable!()
@@ -28,8 +29,11 @@ pub fn read_from<M: Medium>(
 pub fn write_to<M: Medium>(drive: &mut Drive<M>, lba: u64, bytes: &[u8]) -> Result<(), BlockFailed>
     requires present { IsSome (medium_in drive.old) }
     requires transfer { OfMedium drive.old (λ m. IsTransfer (M.device m) lba (length bytes.now)) }
-    requires ready { OfMedium drive.old (λ m. (b : ℕ) → lba ≤ b → b * (M.device m).size < lba * (M.device m).size + length bytes.now → M.prepared m b) }
-    ensures { OnMedium M.device M.prepared drive.old drive.new (λ d d'. IsWrite d lba bytes.now result d') }
+    requires ready { OfMedium drive.old
+        (λ m. (b : ℕ) → lba ≤ b → b * (M.device m).size < lba * (M.device m).size + length bytes.now
+        → M.prepared m b) }
+    ensures { OnMedium M.device M.prepared drive.old drive.new
+        (λ d d'. IsWrite d lba bytes.now result d') }
 {
     let Some(medium) = drive.medium() else {
         unreachable!()
@@ -58,7 +62,8 @@ pub fn prepare_in<M: Medium>(
     requires present { IsSome (medium_in drive.old) }
     requires there { OfMedium drive.old (λ m. lba + count ≤ (M.device m).blocks) }
     ensures same { OnMedium M.device M.prepared drive.old drive.new (λ d d'. d' ≡ d) }
-    ensures ready { OnOk result (OfMedium drive.new (λ m. (b : ℕ) → lba ≤ b → b < lba + count → M.prepared m b)) }
+    ensures ready { OnOk result
+        (OfMedium drive.new (λ m. (b : ℕ) → lba ≤ b → b < lba + count → M.prepared m b)) }
 {
     let Some(medium) = drive.medium() else {
         unreachable!()

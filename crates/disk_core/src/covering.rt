@@ -28,7 +28,9 @@ fn write_run<M: Medium>(
     count: u32,
 ) -> Result<(), BlockFailed>
     requires { (q : Kept) × MayPut M.device M.prepared drive.old core.now token block count q }
-    ensures { IfSome (request_at core.now.tokens token) (λ q. OnMedium M.device M.prepared drive.old drive.new (λ d d'. IsWrite d block (blocks_bytes q block count core.now.blocks.size) result d')) }
+    ensures { IfSome (request_at core.now.tokens token)
+        (λ q. OnMedium M.device M.prepared drive.old drive.new
+        (λ d d'. IsWrite d block (blocks_bytes q block count core.now.blocks.size) result d')) }
 {
     let Some(request) = core.tokens.find(token) else {
         unreachable!()
@@ -41,7 +43,8 @@ fn write_run<M: Medium>(
 // The command that writes whole blocks for a token.
 fn command_for(core: &Core, token: u64, block: u64, count: u32) -> Command
     requires { IsSome (request_at core.now.tokens token) }
-    ensures { IfSome (request_at core.now.tokens token) (λ q. result ≡ cover_by q.asked.kind block count) }
+    ensures { IfSome (request_at core.now.tokens token)
+        (λ q. result ≡ cover_by q.asked.kind block count) }
 {
     let Some(request) = core.tokens.find(token) else {
         unreachable!()
@@ -65,7 +68,8 @@ pub fn cover<M: Medium>(
     requires sound { IsDisk M.device M.prepared drive.old core.old }
     requires next { (todo : Todo) × IsFirst M.device drive.old core.old unit.now todo }
     requires run { (token : ℕ) × (unit.now ≡ RunOf token block count true) }
-    ensures { Reaches M.device M.prepared drive.old core.old drive.new core.new (λ s s'. StepSays s result s') }
+    ensures { Reaches M.device M.prepared drive.old core.old drive.new core.new
+        (λ s s'. StepSays s result s') }
 {
     let token = unit.token();
     let command = command_for(core, token, block, count);

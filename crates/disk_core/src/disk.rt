@@ -109,7 +109,8 @@ impl<M: Medium> Disk<M> {
         ensures setup { IfOk result (λ disk. disk.setup ≡ setup_of M.device drive drive.protected) }
         ensures entries { IfOk result (λ disk. disk.entries ≡ []) }
         ensures kept { IfOk result (λ disk. disk.kept ≡ []) }
-        ensures gates { IfOk result (λ disk. disk.gates ≡ idle_gates sets (drive.size * drive.per)) }
+        ensures gates { IfOk result
+            (λ disk. disk.gates ≡ idle_gates sets (drive.size * drive.per)) }
         ensures devices { IfOk result (λ disk. disk.devices ≡ devices_of M.device drive) }
         ensures back { IfErr result (λ back. back.drive ≡ drive) }
     {

@@ -194,7 +194,8 @@ pub fn release(core: &mut Core, ticket: u64)
     requires { is_some (gate_of core.old.gates.held ticket) ≡ true }
     ensures gates { core.new.gates ≡ releasing core.old.gates ticket }
     ensures holders { core.new.holders.items ≡ without_ticket_of ticket core.old.holders.items }
-    ensures rest { core.new ≡ record core.old { gates = core.new.gates; holders = core.new.holders } }
+    ensures rest { core.new
+        ≡ record core.old { gates = core.new.gates; holders = core.new.holders } }
     ensures places { vec_capacity core.new.holders ≡ vec_capacity core.old.holders }
 {
     forget_ticket(&mut core.holders, ticket);

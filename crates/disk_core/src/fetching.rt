@@ -22,9 +22,11 @@ use medium::Medium;
 fn hold(core: &mut Core, token: u64, block: u64, ticket: u64)
     requires { MayHold core.old block ticket }
     ensures gates { core.new.gates ≡ holding core.old.gates block ticket core.old.group.items }
-    ensures holders { core.new.holders.items ≡ core.old.holders.items ++ record { ticket = ticket; token = token } ∷ [] }
+    ensures holders { core.new.holders.items
+        ≡ core.old.holders.items ++ record { ticket = ticket; token = token } ∷ [] }
     ensures places { vec_capacity core.new.holders ≡ vec_capacity core.old.holders }
-    ensures rest { core.new ≡ record core.old { gates = core.new.gates; holders = core.new.holders } }
+    ensures rest { core.new
+        ≡ record core.old { gates = core.new.gates; holders = core.new.holders } }
 {
     core.gates.hold(block, ticket).copy_from_slice(&core.group);
     core.holders.push_reserved(Holder { ticket, token });
@@ -35,7 +37,9 @@ fn lend(core: &mut Core, token: u64, block: u64, ticket: u64) -> Work
     requires { (q : Kept) × MayLend core.old token block ticket q }
     ensures core { core.new ≡ record core.old { gates = lending core.old.gates ticket } }
     ensures sound { AreSound core.new.gates }
-    ensures work { (g : Gate) → gate_of core.old.gates.held ticket ≡ Some g → IfSome (request_at core.old.tokens token) (λ q. result ≡ lent_of q g block core.old.blocks ticket) }
+    ensures work { (g : Gate) → gate_of core.old.gates.held ticket ≡ Some g
+        → IfSome (request_at core.old.tokens token)
+        (λ q. result ≡ lent_of q g block core.old.blocks ticket) }
 {
     let Some(request) = core.tokens.find(token) else {
         unreachable!()
@@ -49,8 +53,10 @@ fn lend(core: &mut Core, token: u64, block: u64, ticket: u64) -> Work
 /// Fetches the group of a part of a write or an erase.
 pub fn fetch<M: Medium>(drive: &mut Drive<M>, core: &mut Core, token: u64, block: u64) -> Step
     requires sound { IsDisk M.device M.prepared drive.old core.old }
-    requires next { (todo : Todo) × (low : ℕ) × (count : ℕ) × IsFirst M.device drive.old core.old (PartOf token block low count true) todo }
-    ensures { Reaches M.device M.prepared drive.old core.old drive.new core.new (λ s s'. StepSays s result s') }
+    requires next { (todo : Todo) × (low : ℕ) × (count : ℕ)
+        × IsFirst M.device drive.old core.old (PartOf token block low count true) todo }
+    ensures { Reaches M.device M.prepared drive.old core.old drive.new core.new
+        (λ s s'. StepSays s result s') }
 {
     let ticket = core.fetched;
     core.fetched += 1;

@@ -18,7 +18,9 @@ const COMMAND_BLOCKS: usize = 64;
 pub fn new_core<M: Medium>(alloc: Global, drive: &Drive<M>, sets: u32) -> Result<Core, AllocError>
     requires some { 0 < sets }
     requires few { sets ≤ 64 }
-    ensures { IfOk result (λ core. IsNewCore core drive.now.protected drive.now.size drive.now.per (length drive.now.media) sets) }
+    ensures { IfOk result
+        (λ core. IsNewCore core drive.now.protected drive.now.size drive.now.per
+        (length drive.now.media) sets) }
 {
     let size = drive.size();
     let per = drive.per();

@@ -22,7 +22,8 @@ pub fn range_in(request: &Request, block: u64, count: u32, blocks: Geometry) -> 
     requires sized { 0 < blocks.size }
     requires fits { (block + count) * blocks.size < 2 ^ 64 }
     ensures low { result.low ≡ max request.now.at (block * blocks.size) }
-    ensures high { result.high ≡ min (request.now.at + request.now.asked.length) ((block + count) * blocks.size) }
+    ensures high { result.high ≡ min (request.now.at + request.now.asked.length)
+        ((block + count) * blocks.size) }
 {
     let size = u64::from(blocks.size);
     let first = block * size;
@@ -39,7 +40,8 @@ pub fn bytes_at<'a>(request: &'a Request, zeros: &'a [u8], range: Range) -> &'a 
     requires begins { request.now.at ≤ range.low }
     requires order { range.low ≤ range.high }
     requires inside { range.high ≤ request.now.at + request.now.asked.length }
-    requires buffer { request.now.asked.kind ≡ Write → length request.now.buffer ≡ request.now.asked.length }
+    requires buffer { request.now.asked.kind ≡ Write
+        → length request.now.buffer ≡ request.now.asked.length }
     requires zeros { (n : ℕ) × (zeros.now ≡ replicate n 0) × (range.high - range.low ≤ n) }
     ensures { result.now ≡ bytes_in request.now range.low range.high }
 {

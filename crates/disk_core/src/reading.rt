@@ -34,8 +34,10 @@ struct Target {
 
 // Where the bytes of a read's unit lie, and where they go.
 fn target_of(tokens: &Tokens, token: u64, block: u64, count: u32, blocks: Geometry) -> Target
-    requires { (q : Kept) × (request_at tokens.now token ≡ Some q) × HasBytesIn q block count blocks.size }
-    ensures { IfSome (request_at tokens.now token) (λ q. IsTarget q block count blocks.size result) }
+    requires { (q : Kept) × (request_at tokens.now token ≡ Some q)
+        × HasBytesIn q block count blocks.size }
+    ensures { IfSome (request_at tokens.now token)
+        (λ q. IsTarget q block count blocks.size result) }
 {
     let Some(request) = tokens.find(token) else {
         unreachable!()
@@ -60,7 +62,8 @@ fn read_run<M: Medium>(
     requires transfer { OfMedium drive.old (λ m. IsTransfer (M.device m) block target.now.count) }
     requires begins { OfMedium drive.old (λ m. target.now.range.low ≡ block * (M.device m).size) }
     requires outstanding { mark_at core.old.tokens token ≡ Mark.Outstanding }
-    requires fits { IfSome (request_at core.old.tokens token) (λ q. target.now.place + target.now.count ≤ length q.buffer) }
+    requires fits { IfSome (request_at core.old.tokens token)
+        (λ q. target.now.place + target.now.count ≤ length q.buffer) }
     ensures { GetsInto M.device M.prepared drive.old drive.new core.old core.new token target.now.range.low target.now.place target.now.count result }
 {
     let buffer = core.tokens.buffer_mut(token);
@@ -72,8 +75,14 @@ fn read_run<M: Medium>(
 fn copy_out(core: &mut Core, token: u64, skip: usize, target: &Target)
     requires outstanding { mark_at core.old.tokens token ≡ Mark.Outstanding }
     requires inside { skip + target.now.count ≤ length core.old.group.items }
-    requires fits { IfSome (request_at core.old.tokens token) (λ q. target.now.place + target.now.count ≤ length q.buffer) }
-    ensures { core.new ≡ record core.old { tokens = changed (put_into target.now.place (take target.now.count (drop skip core.old.group.items))) core.old.tokens token } }
+    requires fits { IfSome (request_at core.old.tokens token)
+        (λ q. target.now.place + target.now.count ≤ length q.buffer) }
+    ensures { core.new
+        ≡ record core.old {
+          tokens = changed
+              (put_into target.now.place
+              (take target.now.count (drop skip core.old.group.items))) core.old.tokens token;
+        } }
 {
     let buffer = core.tokens.buffer_mut(token);
     let place = target.place;
@@ -89,13 +98,15 @@ fn read_part<M: Medium>(
     target: &Target,
 ) -> Result<(), BlockFailed>
     requires present { IsSome (medium_in drive.old) }
-    requires transfer { OfMedium drive.old (λ m. IsTransfer (M.device m) block (length core.old.group.items)) }
+    requires transfer { OfMedium drive.old
+        (λ m. IsTransfer (M.device m) block (length core.old.group.items)) }
     requires sized { OfMedium drive.old (λ m. core.old.blocks.size ≡ (M.device m).size) }
     requires begins { block * core.old.blocks.size ≤ target.now.range.low }
     requires ends { target.now.range.low + target.now.count ≤ block * core.old.blocks.size + length core.old.group.items }
     requires bounded { block * core.old.blocks.size < 2 ^ 64 }
     requires outstanding { mark_at core.old.tokens token ≡ Mark.Outstanding }
-    requires fits { IfSome (request_at core.old.tokens token) (λ q. target.now.place + target.now.count ≤ length q.buffer) }
+    requires fits { IfSome (request_at core.old.tokens token)
+        (λ q. target.now.place + target.now.count ≤ length q.buffer) }
     ensures { GetsInto M.device M.prepared drive.old drive.new core.old core.new token target.now.range.low target.now.place target.now.count result }
 {
     let skip = (target.range.low - block * u64::from(core.blocks.size)) as usize;
@@ -119,7 +130,8 @@ pub fn get_run<M: Medium>(
     requires sound { IsDisk M.device M.prepared drive.old core.old }
     requires next { (todo : Todo) × IsFirst M.device drive.old core.old unit.now todo }
     requires run { (token : ℕ) × (unit.now ≡ RunOf token block count false) }
-    ensures { Reaches M.device M.prepared drive.old core.old drive.new core.new (λ s s'. StepSays s result s') }
+    ensures { Reaches M.device M.prepared drive.old core.old drive.new core.new
+        (λ s s'. StepSays s result s') }
 {
     let token = unit.token();
     let command = Command::Get { block, count };
@@ -133,8 +145,10 @@ pub fn get_run<M: Medium>(
 pub fn get_part<M: Medium>(drive: &mut Drive<M>, core: &mut Core, unit: &Sub, block: u64) -> Step
     requires sound { IsDisk M.device M.prepared drive.old core.old }
     requires next { (todo : Todo) × IsFirst M.device drive.old core.old unit.now todo }
-    requires part { (token : ℕ) × (low : ℕ) × (count : ℕ) × (unit.now ≡ PartOf token block low count false) }
-    ensures { Reaches M.device M.prepared drive.old core.old drive.new core.new (λ s s'. StepSays s result s') }
+    requires part { (token : ℕ) × (low : ℕ) × (count : ℕ)
+        × (unit.now ≡ PartOf token block low count false) }
+    ensures { Reaches M.device M.prepared drive.old core.old drive.new core.new
+        (λ s s'. StepSays s result s') }
 {
     let token = unit.token();
     let count = core.blocks.per;

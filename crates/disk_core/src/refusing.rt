@@ -70,7 +70,8 @@ pub fn is_change(kind: Kind) -> bool
 // How many bytes the medium with this id has, and 0 where there is none.
 fn bytes_of<M: Medium>(drive: &Drive<M>, media_id: u32) -> u64
     requires { FitTheDrive M.device drive.now }
-    ensures { (m : M) → medium_with drive.now media_id ≡ Some m → result ≡ (M.device m).blocks * drive.now.size }
+    ensures { (m : M) → medium_with drive.now media_id ≡ Some m
+        → result ≡ (M.device m).blocks * drive.now.size }
 {
     match drive.blocks_of(media_id) {
         Some(blocks) => blocks * u64::from(drive.size()),
@@ -82,7 +83,9 @@ fn bytes_of<M: Medium>(drive: &Drive<M>, media_id: u32) -> u64
 fn range_refusal<M: Medium>(drive: &Drive<M>, view: &View, asked: Asked) -> Option<Status>
     requires sized { 0 < drive.now.size }
     requires fit { FitTheDrive M.device drive.now }
-    ensures { (m : M) → medium_with drive.now drive.now.media_id ≡ Some m → result ≡ range_refusal_by drive.now.protected drive.now.size ((M.device m).blocks * drive.now.size) view.now asked }
+    ensures { (m : M) → medium_with drive.now drive.now.media_id ≡ Some m
+        → result ≡ range_refusal_by drive.now.protected drive.now.size
+        ((M.device m).blocks * drive.now.size) view.now asked }
 {
     let size = u64::from(drive.size());
     if is_change(asked.kind) && drive.read_only() {
@@ -134,7 +137,9 @@ pub fn refuse<M: Medium>(
     requires sound { IsDisk M.device M.prepared drive.now core.old }
     requires refused { refusal_of (setup_of M.device drive.now core.old.protected_at_first) core.old.history.entries view.now asked media_id ≡ Some status }
     requires well_asked { IsWellAsked asked }
-    ensures { (bytes : List ℕ) → Reaches M.device M.prepared drive.now core.old drive.now core.new (λ s s'. SubmitsAsked s tag view.now media_id asked bytes buffer.items result s') }
+    ensures { (bytes : List ℕ)
+        → Reaches M.device M.prepared drive.now core.old drive.now core.new
+        (λ s s'. SubmitsAsked s tag view.now media_id asked bytes buffer.items result s') }
 {
     match make_room(core, 1) {
         Ok(()) => {

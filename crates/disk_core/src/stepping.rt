@@ -22,7 +22,8 @@ fn sync<M: Medium>(drive: &mut Drive<M>, core: &mut Core, unit: &Sub) -> Step
     requires sound { IsDisk M.device M.prepared drive.old core.old }
     requires next { (todo : Todo) × IsFirst M.device drive.old core.old unit.now todo }
     requires sync { (token : ℕ) × (unit.now ≡ SyncOf token) }
-    ensures { Reaches M.device M.prepared drive.old core.old drive.new core.new (λ s s'. StepSays s result s') }
+    ensures { Reaches M.device M.prepared drive.old core.old drive.new core.new
+        (λ s s'. StepSays s result s') }
 {
     let answer = sync_in(drive);
     settle(core, unit, Command::Sync, 1, answer);
@@ -33,7 +34,8 @@ fn sync<M: Medium>(drive: &mut Drive<M>, core: &mut Core, unit: &Sub) -> Step
 fn step_unit<M: Medium>(drive: &mut Drive<M>, core: &mut Core, unit: &Sub) -> Step
     requires sound { IsDisk M.device M.prepared drive.old core.old }
     requires next { (todo : Todo) × IsFirst M.device drive.old core.old unit.now todo }
-    ensures { Reaches M.device M.prepared drive.old core.old drive.new core.new (λ s s'. StepSays s result s') }
+    ensures { Reaches M.device M.prepared drive.old core.old drive.new core.new
+        (λ s s'. StepSays s result s') }
 {
     match unit {
         Sub::Part {
@@ -77,7 +79,8 @@ fn rest(core: &Core) -> Step
 /// Makes the command of the first unit that may run.
 pub fn step_first<M: Medium>(drive: &mut Drive<M>, core: &mut Core) -> Step
     requires { IsDisk M.device M.prepared drive.old core.old }
-    ensures { Reaches M.device M.prepared drive.old core.old drive.new core.new (λ s s'. StepSays s result s') }
+    ensures { Reaches M.device M.prepared drive.old core.old drive.new core.new
+        (λ s s'. StepSays s result s') }
 {
     match core.queue.next_runnable(&core.gates) {
         Some(unit) => step_unit(drive, core, &unit),

@@ -1,4 +1,4 @@
-use Rattle.std.proofs.Common.{◌≡◌, ◌-◌, ◌∷◌, ap, arith}
+use Rattle.std.proofs.Common.{◌≡◌, ◌-◌, arith}
 use Rattle.disk_core.specs.Moves.{entered}
 use Rattle.disk_core.proofs.entering.enter.Goals as goal
 

@@ -1,4 +1,4 @@
-use Rattle.std.proofs.Common.{◌≡◌, sym, ◌∙◌, arith}
+use Rattle.std.proofs.Common.{sym, ◌∙◌, arith}
 use Rattle.disk_core.proofs.Holders.{passing-over}
 use Rattle.disk_core.proofs.entering.forget.Goals as goal
 

@@ -1,4 +1,4 @@
-use Rattle.std.proofs.Common.{◌≡◌, ◌+◌, ◌-◌, ◌≤◌, length}
+use Rattle.std.proofs.Common.{◌≡◌, ◌+◌, ◌-◌, length}
 use Rattle.std.specs.Prelude.{vec_capacity}
 use Rattle.disk_core.specs.Moves.{others, passing}
 use Rattle.disk_core.proofs.entering.forget.Given as goal

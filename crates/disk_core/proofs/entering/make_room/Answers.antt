@@ -1,4 +1,3 @@
-use Rattle.std.proofs.Common.{◌≡◌}
 use Rattle.disk_core.specs.Moves.{with_spare}
 use Rattle.disk_core.proofs.entering.make_room.Goals as goal
 

@@ -1,5 +1,4 @@
-use Rattle.std.proofs.Common.{◌≡◌, sym, ◌∙◌, drop}
-use Rattle.disk_core.specs.Moves.{revoked}
+use Rattle.std.proofs.Common.{sym, ◌∙◌}
 use Rattle.disk_core.proofs.Holders.{revoked-next, revoked-over}
 use Rattle.disk_core.proofs.entering.revoke_of.Goals as goal
 

@@ -1,7 +1,6 @@
-use Rattle.std.proofs.Common.{subst, sym, ap, refl, arith, ◌∙◌, ◌≡◌, ◌+◌, ◌-◌, ◌≤◌, length}
+use Rattle.std.proofs.Common.{subst, sym, ap, arith, ◌∙◌, length}
 use Rattle.std.specs.Vec.{with_items}
-use Rattle.medium.specs.Device.{IsTransfer, IsRead}
-use Rattle.disk_core.specs.Moves.{entered}
+use Rattle.medium.specs.Device.{IsTransfer}
 use Rattle.disk_core.proofs.Chained.{enter-gates, enter-holders, enter-group, hold-tokens, hold-blocks, hold-zeros, hold-gates, lend-beside, lend-links}
 use Rattle.disk_core.proofs.Fetched.{own, fetch-few, fetch-present, fetch-transfer, fetch-may, fetch-hold, fetch-lend, fetch-work, fetch-failed, fetch-lent}
 use Rattle.disk_core.proofs.Gotten.{items-with}

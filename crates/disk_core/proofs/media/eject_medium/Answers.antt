@@ -1,4 +1,4 @@
-use Rattle.std.proofs.Common.{◌≡◌, subst, sym}
+use Rattle.std.proofs.Common.{subst, sym}
 use Rattle.efi_status.specs.declared.Status.TheVariants.{NoMedia}
 use Rattle.disk_core.specs.declared.ending.Meant.TheVariants.{All}
 use Rattle.disk_core.specs.Closing.{HasToEnd}

@@ -1,4 +1,4 @@
-use Rattle.std.proofs.Common.{◌≡◌, take, drop, refl, ap, ◌∙◌}
+use Rattle.std.proofs.Common.{take, drop, refl, ap, ◌∙◌}
 use Rattle.token_table.specs.Records.{request_at, changed}
 use Rattle.disk_core.specs.Moves.{put_into}
 use Rattle.disk_core.proofs.Gotten.{whole-tokens, fits-lent, part-long}

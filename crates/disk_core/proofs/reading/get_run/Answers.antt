@@ -1,4 +1,4 @@
-use Rattle.std.proofs.Common.{subst, sym, ap, refl, ◌∙◌, ◌≡◌, ◌+◌, ◌≤◌, IfSome, length, false}
+use Rattle.std.proofs.Common.{subst, sym, ap, ◌∙◌, ◌+◌, ◌≤◌, IfSome, length, false}
 use Rattle.token_table.specs.Records.{request_at, mark_at}
 use Rattle.disk_core.specs.Moves.{IsTarget, GetsInto}
 use Rattle.disk_core.proofs.Getting.{own, get-present, get-may, get-has, get-request, goes-to, get-enter, get-settled}

@@ -1,4 +1,3 @@
-use Rattle.std.proofs.Common.{arith}
 use Rattle.disk_core.proofs.Refusals.{refuse-done}
 use Rattle.disk_core.proofs.refusing.refuse.Goals as goal
 

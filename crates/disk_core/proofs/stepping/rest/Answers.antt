@@ -1,4 +1,4 @@
-use Rattle.std.proofs.Common.{◌≡◌, ap, sym}
+use Rattle.std.proofs.Common.{ap, sym}
 use Rattle.disk_core.specs.Moves.{rest_of}
 use Rattle.disk_core.proofs.Rested.{queue-empty}
 use Rattle.disk_core.proofs.stepping.rest.Goals as goal

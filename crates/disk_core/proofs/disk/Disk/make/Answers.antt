@@ -1,7 +1,4 @@
 use Rattle.disk_core.proofs.Fresh.{fresh-sound}
-use Rattle.disk_core.proofs.Following.{era-still}
-use Rattle.disk_core.proofs.Still.{gates-still}
-use Rattle.disk_core.proofs.Kept.{kept-record}
 use Rattle.disk_core.proofs.disk.Disk.make.Goals as goal
 
 pub invariant_of-result : goal.invariant_of-result

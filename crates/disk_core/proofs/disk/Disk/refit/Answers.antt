@@ -2,7 +2,6 @@ use Rattle.std.proofs.Common.{subst}
 use Rattle.disk_core.specs.Calls.{RefitSays}
 use Rattle.disk_core.specs.Parts.{state_of}
 use Rattle.disk_core.proofs.Refit.{refit-reaches}
-use Rattle.disk_core.proofs.Inserted.{none-open}
 use Rattle.disk_core.proofs.disk.Disk.refit.Goals as goal
 
 pub invariant_of-self : goal.invariant_of-self
