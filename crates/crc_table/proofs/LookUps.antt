@@ -13,7 +13,7 @@ use Rattle.std.proofs.lemmas.Nat.{xor_shr, xor_mod, xor_comm, xor_block, shr_spl
 use Rattle.crc_table.specs.Division.{add}
 use Rattle.crc_table.specs.declared.tables.TheConstants.{TABLES}
 use Rattle.crc_table.specs.Crc32.{polynomial}
-use Rattle.crc_table.specs.Registers.{shifted, shifted_by, after}
+use Rattle.crc_table.specs.Registers.{shifted, shifted_by, register_after}
 use Rattle.crc_table.proofs.Registers.{odd-xor, after-append}
 
 -- ---- a sum of registers
@@ -133,8 +133,8 @@ abbrev joined : List ℕ → ℕ
 joined [] = 0
 joined (byte ∷ bytes) = joined bytes * 256 + byte % 256
 
-after-joined : (bytes : List ℕ) (c : ℕ) → after c bytes ≡ shifted_by (8 * length bytes) (bit_xor c (joined bytes))
-unfolding shifted_by after
+after-joined : (bytes : List ℕ) (c : ℕ) → register_after c bytes ≡ shifted_by (8 * length bytes) (bit_xor c (joined bytes))
+unfolding shifted_by register_after
 after-joined [] c = sym (xor_zero_r c)
 after-joined (byte ∷ bytes) c =
     let low = byte % 256 in
@@ -149,12 +149,12 @@ after-joined (byte ∷ bytes) c =
     ∙ sym (ap (λ n. shifted_by n (bit_xor c (high + low))) count ∙ ap (shifted_by (8 + 8 * length bytes)) parts ∙ shifted_by-add 8 (8 * length bytes) (bit_xor (bit_xor c low) high))
 
 -- a register after one more of these bytes
-pub after-take : (start : ℕ) (bytes : List ℕ) (i register byte : ℕ) → i < length bytes → byte ≡ get_or bytes i 0 → byte < 256 → register ≡ after start (take i bytes)
-    → bit_xor (get_or (get_or TABLES 7 []) (bit_and (bit_xor register byte) 255) 0) (bit_xor register byte / 256) ≡ after start (take (i + 1) bytes)
-unfolding shifted_by after
+pub after-take : (start : ℕ) (bytes : List ℕ) (i register byte : ℕ) → i < length bytes → byte ≡ get_or bytes i 0 → byte < 256 → register ≡ register_after start (take i bytes)
+    → bit_xor (get_or (get_or TABLES 7 []) (bit_and (bit_xor register byte) 255) 0) (bit_xor register byte / 256) ≡ register_after start (take (i + 1) bytes)
+unfolding shifted_by register_after
 after-take start bytes i register byte within is small so_far =
     let low : byte ≡ get_or bytes i 0 % 256 = omega arith in
-    sym (ap (after start) (take_more bytes i 0 within) ∙ after-append (take i bytes) (get_or bytes i 0 ∷ []) start
+    sym (ap (register_after start) (take_more bytes i 0 within) ∙ after-append (take i bytes) (get_or bytes i 0 ∷ []) start
     ∙ ap (λ r. shifted_by 8 (bit_xor r (get_or bytes i 0 % 256))) (sym so_far) ∙ ap (λ b. shifted_by 8 (bit_xor register b)) (sym low)
     ∙ shifted_by-table 7 (bit_xor register byte) (omega arith))
 
@@ -194,18 +194,18 @@ joined-eight (a ∷ b ∷ c ∷ d ∷ e ∷ f ∷ g ∷ h ∷ []) eight small =
 joined-eight bytes eight small = absurd (omega arith)
 
 pub after-eight : (register n : ℕ) (bytes : List ℕ) → length bytes ≡ 8 → ((i : ℕ) → get_or bytes i 0 < 256) → n ≡ from_le_bytes w64 bytes
-    → shifted_by 64 (bit_xor n register) ≡ after register bytes
+    → shifted_by 64 (bit_xor n register) ≡ register_after register bytes
 after-eight register n bytes eight small is =
     sym (after-joined bytes register ∙ ap (λ k. shifted_by (8 * k) (bit_xor register (joined bytes))) eight
     ∙ ap (shifted_by 64) (ap (bit_xor register) (joined-eight bytes eight small ∙ sym is) ∙ xor_comm register n))
 
-pub after-eights : (start : ℕ) (eights : List (List ℕ)) (i register : ℕ) → i < length eights → register ≡ after start (concat (take i eights))
-    → after register (get_or eights i []) ≡ after start (concat (take (i + 1) eights))
+pub after-eights : (start : ℕ) (eights : List (List ℕ)) (i register : ℕ) → i < length eights → register ≡ register_after start (concat (take i eights))
+    → register_after register (get_or eights i []) ≡ register_after start (concat (take (i + 1) eights))
 after-eights start eights i register within so_far =
     let eight = get_or eights i [] in
-    sym (ap (λ l. after start (concat l)) (take_more eights i [] within) ∙ ap (after start) (concat-append (take i eights) (eight ∷ []))
+    sym (ap (λ l. register_after start (concat l)) (take_more eights i [] within) ∙ ap (register_after start) (concat-append (take i eights) (eight ∷ []))
     ∙ after-append (concat (take i eights)) (eight ++ []) start
-    ∙ ap (λ r. after r (eight ++ [])) (sym so_far) ∙ ap (after register) (append-nil eight))
+    ∙ ap (λ r. register_after r (eight ++ [])) (sym so_far) ∙ ap (register_after register) (append-nil eight))
 
 -- the eights of some bytes and the bytes after them
 concat-chunks : (k : ℕ) (bytes : List ℕ) → concat (first_chunks 8 k bytes) ++ drop (k * 8) bytes ≡ bytes
@@ -215,7 +215,7 @@ concat-chunks (suc k) bytes =
     ∙ ap (λ l. take 8 bytes ++ (concat (first_chunks 8 k (drop 8 bytes)) ++ l)) (ap (λ n. drop n bytes) (omega arith) ∙ sym (drop-drop (k * 8) 8 bytes))
     ∙ ap (λ l. take 8 bytes ++ l) (concat-chunks k (drop 8 bytes)) ∙ take-append-drop 8 bytes
 
-pub after-chunks : (register : ℕ) (bytes : List ℕ) → after (after register (concat (first_chunks 8 (length bytes / 8) bytes))) (drop (length bytes / 8 * 8) bytes) ≡ after register bytes
+pub after-chunks : (register : ℕ) (bytes : List ℕ) → register_after (register_after register (concat (first_chunks 8 (length bytes / 8) bytes))) (drop (length bytes / 8 * 8) bytes) ≡ register_after register bytes
 after-chunks register bytes =
     let chunks = concat (first_chunks 8 (length bytes / 8) bytes) in
-    sym (after-append chunks (drop (length bytes / 8 * 8) bytes) register) ∙ ap (after register) (concat-chunks (length bytes / 8) bytes)
+    sym (after-append chunks (drop (length bytes / 8 * 8) bytes) register) ∙ ap (register_after register) (concat-chunks (length bytes / 8) bytes)

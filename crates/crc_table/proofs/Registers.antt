@@ -5,9 +5,9 @@ use Rattle.std.proofs.Math.Numerals.{suc-eq-add-one}
 use Rattle.std.proofs.Math.Pow.{mod-mod-pow}
 use Rattle.std.proofs.Math.Nat.{pow-suc, zero-add, suc-add}
 use Rattle.std.proofs.lemmas.Nat.{xor_shr, xor_mod, xor_lt, field_of}
-use Rattle.crc_table.specs.Division.{add, plus, scaled, zeros, divided, HasOneRest}
-use Rattle.crc_table.specs.Crc32.{bits_of, number_of, message_bits, dividend, polynomial, divisor_tail, divisor, rest_of, crc32_of, Holds}
-use Rattle.crc_table.specs.Registers.{shifted, shifted_by, after}
+use Rattle.crc_table.specs.Division.{add, plus, scaled, zero_bits, divided, HasOneRest}
+use Rattle.crc_table.specs.Crc32.{bits_of, bits_number, message_bits, dividend, polynomial, divisor_tail, divisor, remainder_of, crc32_of, HasTaken}
+use Rattle.crc_table.specs.Registers.{shifted, shifted_by, register_after}
 use Rattle.crc_table.proofs.Rests.{plus_comm, plus_assoc, plus-zeros, length-plus, divided-HasOneRest}
 
 -- ---- the bits of a number
@@ -34,7 +34,7 @@ bits_of-xor (suc n) a b =
     ap (bits_of n) (xor_shr a b 1) ∙ bits_of-xor n (a / 2) (b / 2) in
     cc
 
-bits_of-zero : (n : ℕ) → bits_of n 0 ≡ zeros n
+bits_of-zero : (n : ℕ) → bits_of n 0 ≡ zero_bits n
 unfolding bits_of
 bits_of-zero zero = refl
 bits_of-zero (suc n) = ap (λ l. false ∷ l) (bits_of-zero n)
@@ -52,13 +52,13 @@ scaled-true : (l : List Bool) → scaled true l ≡ l
 scaled-true [] = refl
 scaled-true (x ∷ xs) = ap (λ l. x ∷ l) (scaled-true xs)
 
-scaled-false : (l : List Bool) → scaled false l ≡ zeros (length l)
+scaled-false : (l : List Bool) → scaled false l ≡ zero_bits (length l)
 scaled-false [] = refl
 scaled-false (x ∷ xs) = ap (λ l. false ∷ l) (scaled-false xs)
 
 bits_of-if : (n c : ℕ) (x : Bool) → bits_of n (if x then c else 0) ≡ scaled x (bits_of n c)
 bits_of-if n c true = sym (scaled-true (bits_of n c))
-bits_of-if n c false = bits_of-zero n ∙ ap zeros (sym (length-bits_of n c)) ∙ sym (scaled-false (bits_of n c))
+bits_of-if n c false = bits_of-zero n ∙ ap zero_bits (sym (length-bits_of n c)) ∙ sym (scaled-false (bits_of n c))
 
 halves : (n c : ℕ) → c < 2 ^ suc n → c / 2 < 2 ^ n
 halves n c small = omega (arith, pow-suc 2 n)
@@ -110,59 +110,59 @@ unfolding shifted_by
 shifted_by_lt zero c small = small
 shifted_by_lt (suc k) c small = shifted_by_lt k (shifted c) (shifted_lt c small)
 
-length-wide : (k : ℕ) (l : List Bool) → length l ≤ length (zeros k ++ l)
-length-wide k l = omega (arith, length-append (zeros k) l)
+length-wide : (k : ℕ) (l : List Bool) → length l ≤ length (zero_bits k ++ l)
+length-wide k l = omega (arith, length-append (zero_bits k) l)
 
 divided_shifts : (k n c : ℕ) (l : List Bool) → c < 2 ^ 32 → 32 ≤ length l
-    → divided (k + n) divisor_tail (plus (bits_of 32 c) (zeros k ++ l)) ≡ divided n divisor_tail (plus (bits_of 32 (shifted_by k c)) l)
+    → divided (k + n) divisor_tail (plus (bits_of 32 c) (zero_bits k ++ l)) ≡ divided n divisor_tail (plus (bits_of 32 (shifted_by k c)) l)
 unfolding divisor_tail shifted_by
 divided_shifts zero n c l small within = ap (λ j. divided j divisor_tail (plus (bits_of 32 c) l)) (zero-add n)
 divided_shifts (suc k) n c l small within =
-    ap (λ j. divided j divisor_tail (plus (bits_of 32 c) (false ∷ (zeros k ++ l)))) (suc-add k n)
-    ∙ divided_shift 31 (k + n) c (zeros k ++ l) small (omega (arith, length-wide k l))
+    ap (λ j. divided j divisor_tail (plus (bits_of 32 c) (false ∷ (zero_bits k ++ l)))) (suc-add k n)
+    ∙ divided_shift 31 (k + n) c (zero_bits k ++ l) small (omega (arith, length-wide k l))
     ∙ divided_shifts k n (shifted c) l (shifted_lt c small) within
 
-plus-padded : (a l : List Bool) → plus a (zeros (length a) ++ l) ≡ a ++ l
+plus-padded : (a l : List Bool) → plus a (zero_bits (length a) ++ l) ≡ a ++ l
 unfolding plus
 plus-padded [] l = refl
 plus-padded (x ∷ xs) l = cc (add_false x, plus-padded xs l)
 
 -- a byte added to the register is added to the first eight bits that are left
 plus-byte : (c byte : ℕ) (l : List Bool) → 32 ≤ length l
-    → plus (bits_of 32 c) (bits_of 8 byte ++ l) ≡ plus (bits_of 32 (bit_xor c (byte % 256))) (zeros 8 ++ l)
+    → plus (bits_of 32 c) (bits_of 8 byte ++ l) ≡ plus (bits_of 32 (bit_xor c (byte % 256))) (zero_bits 8 ++ l)
 plus-byte c byte l within =
     let low = byte % 256 in
-    let eight : plus (bits_of 8 low) (zeros 8 ++ l) ≡ bits_of 8 low ++ l =
-    ap (λ k. plus (bits_of 8 low) (zeros k ++ l)) (sym (length-bits_of 8 low)) ∙ plus-padded (bits_of 8 low) l in
-    let wide : plus (bits_of 32 low) (zeros 8 ++ l) ≡ bits_of 8 byte ++ l =
-    plus-bits_of 8 32 low (zeros 8 ++ l) (omega arith) (omega arith) (omega (arith, length-wide 8 l))
+    let eight : plus (bits_of 8 low) (zero_bits 8 ++ l) ≡ bits_of 8 low ++ l =
+    ap (λ k. plus (bits_of 8 low) (zero_bits k ++ l)) (sym (length-bits_of 8 low)) ∙ plus-padded (bits_of 8 low) l in
+    let wide : plus (bits_of 32 low) (zero_bits 8 ++ l) ≡ bits_of 8 byte ++ l =
+    plus-bits_of 8 32 low (zero_bits 8 ++ l) (omega arith) (omega arith) (omega (arith, length-wide 8 l))
     ∙ eight ∙ ap (λ b. b ++ l) (bits_of-mod 8 byte) in
-    ap (plus (bits_of 32 c)) (sym wide) ∙ sym (plus_assoc (bits_of 32 c) (bits_of 32 low) (zeros 8 ++ l))
-    ∙ ap (λ b. plus b (zeros 8 ++ l)) (sym (bits_of-xor 32 c low))
+    ap (plus (bits_of 32 c)) (sym wide) ∙ sym (plus_assoc (bits_of 32 c) (bits_of 32 low) (zero_bits 8 ++ l))
+    ∙ ap (λ b. plus b (zero_bits 8 ++ l)) (sym (bits_of-xor 32 c low))
 
 xor-byte_lt : (c byte : ℕ) → c < 2 ^ 32 → bit_xor c (byte % 256) < 2 ^ 32
 xor-byte_lt c byte small = xor_lt 32 c (byte % 256) small (omega arith)
 
-pub after_lt : (bytes : List ℕ) (c : ℕ) → c < 2 ^ 32 → after c bytes < 2 ^ 32
-unfolding after
+pub after_lt : (bytes : List ℕ) (c : ℕ) → c < 2 ^ 32 → register_after c bytes < 2 ^ 32
+unfolding register_after
 after_lt [] c small = small
 after_lt (byte ∷ bytes) c small = after_lt bytes _ (shifted_by_lt 8 _ (xor-byte_lt c byte small))
 
 divided_message : (bytes : List ℕ) (c : ℕ) → c < 2 ^ 32
-    → divided (length (message_bits bytes)) divisor_tail (plus (bits_of 32 c) (message_bits bytes ++ zeros 32)) ≡ bits_of 32 (after c bytes)
-unfolding divided message_bits after
-divided_message [] c small = plus_comm (bits_of 32 c) (zeros 32) ∙ plus-zeros 32 (bits_of 32 c) (omega (arith, length-bits_of 32 c))
+    → divided (length (message_bits bytes)) divisor_tail (plus (bits_of 32 c) (message_bits bytes ++ zero_bits 32)) ≡ bits_of 32 (register_after c bytes)
+unfolding divided message_bits register_after
+divided_message [] c small = plus_comm (bits_of 32 c) (zero_bits 32) ∙ plus-zeros 32 (bits_of 32 c) (omega (arith, length-bits_of 32 c))
 divided_message (byte ∷ bytes) c small =
     let later = message_bits bytes in
     let next = bit_xor c (byte % 256) in
-    let within : 32 ≤ length (later ++ zeros 32) = omega (arith, length-append later (zeros 32)) in
+    let within : 32 ≤ length (later ++ zero_bits 32) = omega (arith, length-append later (zero_bits 32)) in
     let count : length (bits_of 8 byte ++ later) ≡ 8 + length later =
     length-append (bits_of 8 byte) later ∙ ap (λ k. k + length later) (length-bits_of 8 byte) in
-    let left : plus (bits_of 32 c) ((bits_of 8 byte ++ later) ++ zeros 32) ≡ plus (bits_of 32 next) (zeros 8 ++ (later ++ zeros 32)) =
-    ap (plus (bits_of 32 c)) (append_assoc (bits_of 8 byte) later (zeros 32)) ∙ plus-byte c byte (later ++ zeros 32) within in
-    ap (λ k. divided k divisor_tail (plus (bits_of 32 c) ((bits_of 8 byte ++ later) ++ zeros 32))) count
+    let left : plus (bits_of 32 c) ((bits_of 8 byte ++ later) ++ zero_bits 32) ≡ plus (bits_of 32 next) (zero_bits 8 ++ (later ++ zero_bits 32)) =
+    ap (plus (bits_of 32 c)) (append_assoc (bits_of 8 byte) later (zero_bits 32)) ∙ plus-byte c byte (later ++ zero_bits 32) within in
+    ap (λ k. divided k divisor_tail (plus (bits_of 32 c) ((bits_of 8 byte ++ later) ++ zero_bits 32))) count
     ∙ ap (divided (8 + length later) divisor_tail) left
-    ∙ divided_shifts 8 (length later) next (later ++ zeros 32) (xor-byte_lt c byte small) within
+    ∙ divided_shifts 8 (length later) next (later ++ zero_bits 32) (xor-byte_lt c byte small) within
     ∙ divided_message bytes (shifted_by 8 next) (shifted_by_lt 8 next (xor-byte_lt c byte small))
 
 -- ---- the first 32 bits inverted, and the rest inverted
@@ -177,29 +177,29 @@ all_ones : bits_of 32 0xFFFFFFFF ≡ replicate 32 true
 unfolding bits_of
 all_ones = refl
 
-dividend-plus : (bytes : List ℕ) → dividend bytes ≡ plus (bits_of 32 0xFFFFFFFF) (message_bits bytes ++ zeros 32)
+dividend-plus : (bytes : List ℕ) → dividend bytes ≡ plus (bits_of 32 0xFFFFFFFF) (message_bits bytes ++ zero_bits 32)
 unfolding dividend
 dividend-plus bytes =
-    let all = message_bits bytes ++ zeros 32 in
-    sym (ap (λ b. plus b all) all_ones ∙ plus-ones 32 all (omega (arith, length-append (message_bits bytes) (zeros 32))))
+    let all = message_bits bytes ++ zero_bits 32 in
+    sym (ap (λ b. plus b all) all_ones ∙ plus-ones 32 all (omega (arith, length-append (message_bits bytes) (zero_bits 32))))
 
-rest_of-after : (bytes : List ℕ) → rest_of bytes ≡ bits_of 32 (after 0xFFFFFFFF bytes)
-unfolding rest_of
+rest_of-after : (bytes : List ℕ) → remainder_of bytes ≡ bits_of 32 (register_after 0xFFFFFFFF bytes)
+unfolding remainder_of
 rest_of-after bytes =
     ap (divided (length (message_bits bytes)) divisor_tail) (dividend-plus bytes) ∙ divided_message bytes 0xFFFFFFFF (omega arith)
 
 -- `rest_of` is the rest of the division, and the only one
-pub rest_of-HasOneRest : (bytes : List ℕ) → HasOneRest (dividend bytes) divisor (rest_of bytes)
-unfolding rest_of divisor divisor_tail
+pub rest_of-HasOneRest : (bytes : List ℕ) → HasOneRest (dividend bytes) divisor (remainder_of bytes)
+unfolding remainder_of divisor divisor_tail
 rest_of-HasOneRest bytes =
-    let all = message_bits bytes ++ zeros 32 in
-    let padded = length-append (message_bits bytes) (zeros 32) in
+    let all = message_bits bytes ++ zero_bits 32 in
+    let padded = length-append (message_bits bytes) (zero_bits 32) in
     let long : length (dividend bytes) ≡ length all =
     ap length (dividend-plus bytes) ∙ length-plus (bits_of 32 0xFFFFFFFF) all (omega (arith, length-bits_of 32 0xFFFFFFFF, padded)) in
     divided-HasOneRest (length (message_bits bytes)) divisor_tail (dividend bytes) (omega (arith, long, padded, length-bits_of 32 polynomial))
 
-number_of-not : (n c : ℕ) → c < 2 ^ n → number_of (map not (bits_of n c)) + c + 1 ≡ 2 ^ n
-unfolding bits_of number_of
+number_of-not : (n c : ℕ) → c < 2 ^ n → bits_number (map not (bits_of n c)) + c + 1 ≡ 2 ^ n
+unfolding bits_of bits_number
 number_of-not zero c small = omega arith
 number_of-not (suc n) c small =
     let digit : (k : ℕ) → k < 2 → (if not (k == 1) then 1 else 0) + k ≡ 1 = one_digit in
@@ -211,26 +211,26 @@ number_of-not (suc n) c small =
     one_digit (suc (suc k)) p = absurd (omega arith)
 
 -- the CRC32 and the register are each other's inverse
-pub crc32_of-after : (bytes : List ℕ) → crc32_of bytes + after 0xFFFFFFFF bytes + 1 ≡ 2 ^ 32
+pub crc32_of-after : (bytes : List ℕ) → crc32_of bytes + register_after 0xFFFFFFFF bytes + 1 ≡ 2 ^ 32
 unfolding crc32_of
 crc32_of-after bytes =
-    ap (λ l. number_of (map not l) + after 0xFFFFFFFF bytes + 1) (rest_of-after bytes)
-    ∙ number_of-not 32 (after 0xFFFFFFFF bytes) (after_lt bytes 0xFFFFFFFF (omega arith))
+    ap (λ l. bits_number (map not l) + register_after 0xFFFFFFFF bytes + 1) (rest_of-after bytes)
+    ∙ number_of-not 32 (register_after 0xFFFFFFFF bytes) (after_lt bytes 0xFFFFFFFF (omega arith))
 
-pub after-append : (a b : List ℕ) (c : ℕ) → after c (a ++ b) ≡ after (after c a) b
-unfolding after
+pub after-append : (a b : List ℕ) (c : ℕ) → register_after c (a ++ b) ≡ register_after (register_after c a) b
+unfolding register_after
 after-append [] b c = refl
 after-append (byte ∷ bytes) b c = after-append bytes b (shifted_by 8 (bit_xor c (byte % 256)))
 
 -- the register inverted, after more bytes
-pub Holds-append : (crc register : ℕ) (before bytes : List ℕ) → register ≡ after (2 ^ 32 - 1 - crc) bytes → Holds crc before
-    → Holds (2 ^ 32 - 1 - register) (before ++ bytes)
+pub Holds-append : (crc register : ℕ) (before bytes : List ℕ) → register ≡ register_after (2 ^ 32 - 1 - crc) bytes → HasTaken crc before
+    → HasTaken (2 ^ 32 - 1 - register) (before ++ bytes)
 Holds-append crc register before bytes is holds =
-    let start : 2 ^ 32 - 1 - crc ≡ after 0xFFFFFFFF before = omega (arith, crc32_of-after before, holds) in
-    let same : register ≡ after 0xFFFFFFFF (before ++ bytes) =
-    is ∙ ap (λ r. after r bytes) start ∙ sym (after-append before bytes 0xFFFFFFFF) in
+    let start : 2 ^ 32 - 1 - crc ≡ register_after 0xFFFFFFFF before = omega (arith, crc32_of-after before, holds) in
+    let same : register ≡ register_after 0xFFFFFFFF (before ++ bytes) =
+    is ∙ ap (λ r. register_after r bytes) start ∙ sym (after-append before bytes 0xFFFFFFFF) in
     omega (arith, crc32_of-after (before ++ bytes), same)
 
-pub Holds-none : Holds 0 []
-unfolding after
+pub Holds-none : HasTaken 0 []
+unfolding register_after
 Holds-none = omega (arith, crc32_of-after [])

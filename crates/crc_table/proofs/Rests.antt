@@ -1,7 +1,7 @@
 -- Sums of polynomials, and the rest of a division: long division finds one, and there is no other.
 use Rattle.std.proofs.Common.{◌≡◌, ℕ, zero, suc, ◌+◌, ◌≤◌, Bool, true, false, ◌&&◌, List, [], ◌∷◌, ◌++◌, length, refl, sym, ap, ◌∙◌, arith, length-append}
 use Rattle.std.proofs.lemmas.List.{length-map, length-replicate}
-use Rattle.crc_table.specs.Division.{add, plus, scaled, zeros, times, IsRest, HasOneRest, divided}
+use Rattle.crc_table.specs.Division.{add, plus, scaled, zero_bits, times, IsRest, HasOneRest, divided}
 
 add_comm : (x y : Bool) → add x y ≡ add y x
 add_comm false false = refl
@@ -37,12 +37,12 @@ plus_assoc (x ∷ xs) [] c = refl
 plus_assoc (x ∷ xs) (y ∷ ys) [] = refl
 plus_assoc (x ∷ xs) (y ∷ ys) (z ∷ zs) = cc (add_assoc x y z, plus_assoc xs ys zs)
 
-plus_self : (a : List Bool) → plus a a ≡ zeros (length a)
+plus_self : (a : List Bool) → plus a a ≡ zero_bits (length a)
 unfolding plus
 plus_self [] = refl
 plus_self (x ∷ xs) = cc (add_self x, plus_self xs)
 
-pub plus-zeros : (n : ℕ) (a : List Bool) → n ≤ length a → plus (zeros n) a ≡ a
+pub plus-zeros : (n : ℕ) (a : List Bool) → n ≤ length a → plus (zero_bits n) a ≡ a
 unfolding plus
 plus-zeros zero a within = refl
 plus-zeros (suc n) [] within = absurd (omega arith)
@@ -57,10 +57,10 @@ length-plus (x ∷ xs) (y ∷ ys) within = ap suc (length-plus xs ys (omega arit
 -- what is added twice is gone
 plus_twice : (a b : List Bool) → length b ≤ length a → plus (plus a b) b ≡ a
 plus_twice a b within =
-    plus_assoc a b b ∙ ap (plus a) (plus_self b) ∙ plus_comm a (zeros (length b)) ∙ plus-zeros (length b) a within
+    plus_assoc a b b ∙ ap (plus a) (plus_self b) ∙ plus_comm a (zero_bits (length b)) ∙ plus-zeros (length b) a within
 
-length-padded : (n : ℕ) (r : List Bool) → length (zeros n ++ r) ≡ n + length r
-length-padded n r = length-append (zeros n) r ∙ ap (λ k. k + length r) (length-replicate n false)
+length-padded : (n : ℕ) (r : List Bool) → length (zero_bits n ++ r) ≡ n + length r
+length-padded n r = length-append (zero_bits n) r ∙ ap (λ k. k + length r) (length-replicate n false)
 
 length-times : (q t : List Bool) → length (times q (true ∷ t)) ≡ length q + length t
 unfolding times
@@ -71,11 +71,11 @@ length-times (x ∷ q) t =
 
 -- the quotient times x^k + t, where t has k coefficients, plus the rest
 abbrev value : List Bool → List Bool → List Bool → List Bool
-value q t r = plus (times q (true ∷ t)) (zeros (length q) ++ r)
+value q t r = plus (times q (true ∷ t)) (zero_bits (length q) ++ r)
 
 length-value : (q t r : List Bool) → length r ≡ length t → length (value q t r) ≡ length q + length t
 length-value q t r short =
-    length-plus (times q (true ∷ t)) (zeros (length q) ++ r) (omega (arith, length-times q t, length-padded (length q) r))
+    length-plus (times q (true ∷ t)) (zero_bits (length q) ++ r) (omega (arith, length-times q t, length-padded (length q) r))
     ∙ omega (arith, length-padded (length q) r)
 
 -- one more coefficient of the quotient
@@ -83,7 +83,7 @@ value-cons : (x : Bool) (q t r : List Bool) → value (x ∷ q) t r ≡ x ∷ pl
 unfolding plus times
 value-cons x q t r =
     let product = times q (true ∷ t) in
-    let padded = zeros (length q) ++ r in
+    let padded = zero_bits (length q) ++ r in
     cc (add_product x, plus_assoc (scaled x t) product padded, plus_comm (scaled x t) (plus product padded))
 
 length-scaled : (x : Bool) (t : List Bool) → length (scaled x t) ≡ length t

@@ -17,12 +17,12 @@ plus (x ∷ xs) (y ∷ ys) = add x y ∷ plus xs ys
 abbrev pub scaled : Bool → List Bool → List Bool
 scaled x ys = map (λ y. x && y) ys
 
-abbrev pub zeros : ℕ → List Bool
-zeros n = replicate n false
+abbrev pub zero_bits : ℕ → List Bool
+zero_bits n = replicate n false
 
 -- the product of two polynomials: the sum of each coefficient of the first, in its place, times the second
 unfoldable pub times : List Bool → List Bool → List Bool
-times [] ys = zeros (length ys - 1)
+times [] ys = zero_bits (length ys - 1)
 times (x ∷ xs) ys = plus (scaled x ys) (false ∷ times xs ys)
 
 -- `rest` is a rest of the division: the dividend is a quotient times the divisor, plus the rest, and the rest has one
@@ -30,7 +30,7 @@ times (x ∷ xs) ys = plus (scaled x ys) (false ∷ times xs ys)
 pub record IsRest (dividend divisor rest : List Bool) : Type 0 where
   pub quotient : List Bool
   pub short : length rest + 1 ≡ length divisor
-  pub sum : dividend ≡ plus (times quotient divisor) (zeros (length quotient) ++ rest)
+  pub sum : dividend ≡ plus (times quotient divisor) (zero_bits (length quotient) ++ rest)
 
 -- the division has this rest, and no other
 abbrev pub HasOneRest : List Bool → List Bool → List Bool → Type 0

@@ -13,6 +13,6 @@ shifted_by zero register = register
 shifted_by (suc count) register = shifted_by count (shifted register)
 
 -- after these bytes, of each of which the eight lowest bits count
-unfoldable pub after : ℕ → List ℕ → ℕ
-after register [] = register
-after register (byte ∷ bytes) = after (shifted_by 8 (bit_xor register (byte % 256))) bytes
+unfoldable pub register_after : ℕ → List ℕ → ℕ
+register_after register [] = register
+register_after register (byte ∷ bytes) = register_after (shifted_by 8 (bit_xor register (byte % 256))) bytes

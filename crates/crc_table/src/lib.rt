@@ -3,7 +3,7 @@
 
 ghost use Rattle.std.specs.Prelude.{◌≡◌, ℕ, ◌↔◌, List, [], ◌++◌};
 ghost use Rattle.crc_table.specs.Division.{HasOneRest};
-ghost use Rattle.crc_table.specs.Crc32.{dividend, divisor, rest_of, crc32_of, Holds};
+ghost use Rattle.crc_table.specs.Crc32.{dividend, divisor, remainder_of, crc32_of, HasTaken};
 
 use register::{after_bytes, after_eights};
 use std::marker::Model;
@@ -30,14 +30,14 @@ impl Model for Crc {
 impl Crc {
     /// Of no bytes yet.
     pub fn new() -> Crc
-        ensures { Holds result [] }
+        ensures { HasTaken result [] }
     {
         Crc { value: 0 }
     }
 
     /// Adds `bytes`, of any length, after the bytes so far.
     pub fn update(&mut self, bytes: &[u8])
-        ensures { (before : List ℕ) → Holds self.old before → Holds self.new (before ++ bytes.now) }
+        ensures { (before : List ℕ) → HasTaken self.old before → HasTaken self.new (before ++ bytes.now) }
     {
         let (eights, rest) = bytes.as_chunks::<8>();
         let register = after_bytes(after_eights(!self.value, eights), rest);
@@ -46,7 +46,7 @@ impl Crc {
 
     /// The CRC32 of all bytes so far.
     pub fn value(&self) -> u32
-        ensures { (bytes : List ℕ) → Holds self.now bytes → result ≡ crc32_of bytes }
+        ensures { (bytes : List ℕ) → HasTaken self.now bytes → result ≡ crc32_of bytes }
     {
         self.value
     }
@@ -57,7 +57,7 @@ pub fn crc32(bytes: &[u8]) -> u32
     ensures value { result ≡ crc32_of bytes.now }
 
     // The rest that the definition takes is the only one that the division has.
-    ensures rest { HasOneRest (dividend bytes.now) divisor (rest_of bytes.now) }
+    ensures rest { HasOneRest (dividend bytes.now) divisor (remainder_of bytes.now) }
 {
     let mut crc = Crc::new();
     crc.update(bytes);

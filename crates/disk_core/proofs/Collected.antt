@@ -19,7 +19,7 @@ use Rattle.history_laws.proofs.SpareLemmas.{entries-collect}
 use Rattle.token_table.specs.declared.record.Record.{Record}
 use Rattle.token_table.specs.declared.record.Done.{Done}
 use Rattle.token_table.specs.declared.record.NotThere.{NotThere}
-use Rattle.token_table.specs.Records.{Records, record_at, without_record, done_at, done_of, done_by, mark_at, mark_of_record, mark_of_end}
+use Rattle.token_table.specs.Records.{Records, record_at, without_record, done_at, done_or_fault, done_by, mark_at, mark_of_record, mark_of_end}
 use Rattle.subtask_queue.specs.Subs.{sub_of}
 use Rattle.disk_core.specs.declared.parts.Core.{Core}
 use Rattle.disk_core.specs.State.{Kept, kept_at, setup_of}
@@ -145,7 +145,7 @@ module _ {M : Type 0} (device : M → Device) (prepared : M → ℕ → Type 0) 
       ends r None is ended = tt
       ends r (Some status) is ended = may-place (record-may r status is ended)
 
-      by : (m : Option Record) → record_at c.tokens n ≡ m → OnOk (done_of m) (HasPlace c × (0 < c.owed))
+      by : (m : Option Record) → record_at c.tokens n ≡ m → OnOk (done_or_fault m) (HasPlace c × (0 < c.owed))
       by None is = tt
       by (Some r) is = ends r r.ended is refl
 
@@ -218,7 +218,7 @@ module _ {M : Type 0} (device : M → Device) (prepared : M → ℕ → Type 0) 
         says = collects r status is ended;
       })
 
-  record-reaches : (m : Option Record) → record_at c.tokens n ≡ m → Goal (done_of m)
+  record-reaches : (m : Option Record) → record_at c.tokens n ≡ m → Goal (done_or_fault m)
   unfolding CollectSays
   record-reaches None is c' ok err =
       subst (λ d. Reaches device prepared drive c drive d (λ s s'. CollectSays s tag n (Err NotThere.Unknown) s')) (sym err) (record { sound = sound; says = (unknown-from is, refl) })

@@ -4,21 +4,21 @@ use Rattle.efi_status.specs.declared.Status.{Status}
 use Rattle.efi_status.specs.declared.Status.TheVariants.{Success, InvalidParameter, BadBufferSize, DeviceError, WriteProtected, OutOfResources, NoMedia, MediaChanged, Aborted}
 
 -- the number of a status in the table, without the bit of an error
-abbrev pub number_of : Status → ℕ
-number_of Success = 0
-number_of InvalidParameter = 2
-number_of BadBufferSize = 4
-number_of DeviceError = 7
-number_of WriteProtected = 8
-number_of OutOfResources = 9
-number_of NoMedia = 12
-number_of MediaChanged = 13
-number_of Aborted = 21
+abbrev pub table_number : Status → ℕ
+table_number Success = 0
+table_number InvalidParameter = 2
+table_number BadBufferSize = 4
+table_number DeviceError = 7
+table_number WriteProtected = 8
+table_number OutOfResources = 9
+table_number NoMedia = 12
+table_number MediaChanged = 13
+table_number Aborted = 21
 
 -- the number as it is passed: bit 63 marks an error
 abbrev pub code_of : Status → ℕ
 code_of Success = 0
-code_of status = 2 ^ 63 + number_of status
+code_of status = 2 ^ 63 + table_number status
 
 -- no status has this code
 abbrev pub IsNoCode : ℕ → Type 0

@@ -5,7 +5,7 @@ use Rattle.std.proofs.lemmas.Grind.{common_steps}
 use Rattle.std.proofs.lemmas.List.FromFn.{fill_by_all}
 use Rattle.byteorder.specs.Endian.{IsRead, little_number}
 use Rattle.gpt_headers.specs.Fields.{number_at}
-use Rattle.gpt_headers.specs.Name.{units_of}
+use Rattle.gpt_headers.specs.Name.{name_units}
 
 -- one more of the elements with their places
 map-enumerate_more : {X Y : Type 0} (f : ℕ × X → Y) (n i : ℕ) (xs : List X) (d : X) → i < length xs
@@ -28,7 +28,7 @@ unit_is : (k : ℕ) (bytes : List ℕ) → little_number 2 (drop (2 * k) bytes) 
 unit_is k bytes = grind (arith, common_steps)
 
 -- units that were read one by one
-pub units_read : (bytes units : List ℕ) → length units ≡ 36 → IsRead (λ n xs. little_number n xs) 2 bytes units → units ≡ units_of bytes
-unfolding units_of
+pub units_read : (bytes units : List ℕ) → length units ≡ 36 → IsRead (λ n xs. little_number n xs) 2 bytes units → units ≡ name_units bytes
+unfolding name_units
 units_read bytes units long read =
     fill_by_all (λ k. number_at (2 * k) 2 bytes) units 36 0 long (λ k h. read k (omega arith) ∙ unit_is k bytes)

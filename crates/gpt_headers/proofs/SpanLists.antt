@@ -13,7 +13,7 @@ use Rattle.std.proofs.lemmas.Grind.{get_or-set_at}
 use Rattle.gpt_headers.specs.declared.entry.GptEntry.{GptEntry}
 use Rattle.gpt_headers.specs.declared.spans.Span.{Span}
 use Rattle.gpt_headers.specs.Entry.{has_blocks, is_used, overlaps_another, shares_block}
-use Rattle.gpt_headers.specs.Spans.{crowd, is_lone, is_lone_entry, flags_after, meets, span_of, spans_of}
+use Rattle.gpt_headers.specs.Spans.{crowd, is_lone, is_lone_entry, flags_after, meets, span_of, entry_spans}
 use Rattle.gpt_headers.proofs.Sweep.{any_from_count}
 
 -- the entries with their places, as the spans keep them
@@ -148,7 +148,7 @@ own_block e h = grind (arith, nat_tests)
 
 -- an entry that has blocks is lone among the spans where it overlaps no other
 lone_entry : (entries : List GptEntry) (i : ℕ) (d : GptEntry) → i < length entries → has_blocks (get_or entries i d) ≡ true
-    → is_lone (spans_of entries) (span_of (i, get_or entries i d)) ≡ not (overlaps_another entries i (get_or entries i d))
+    → is_lone (entry_spans entries) (span_of (i, get_or entries i d)) ≡ not (overlaps_another entries i (get_or entries i d))
 lone_entry entries i d h has =
     let e = get_or entries i d in
     let count = sum_by (λ f. cond (is_used f && shares_block e f) 1 0) entries in
@@ -161,11 +161,11 @@ lone_entry entries i d h has =
     twice a b h = grind arith
 
 -- what the sweep over the spans in some order notes at an entry's place
-pub lone_noted : (entries : List GptEntry) (sorted : List Span) (i : ℕ) (d : GptEntry) → IsPermutation (spans_of entries) sorted → i < length entries
+pub lone_noted : (entries : List GptEntry) (sorted : List Span) (i : ℕ) (d : GptEntry) → IsPermutation (entry_spans entries) sorted → i < length entries
     → get_or (flags_after sorted sorted (replicate (length entries) false)) i false ≡ is_lone_entry entries i (get_or entries i d)
 lone_noted entries sorted i d moved h =
     let e = get_or entries i d in
-    let spans = spans_of entries in
+    let spans = entry_spans entries in
     let v = is_lone spans (span_of (i, e)) in
     let same : All (λ s. s.place ≡ i → is_lone sorted s ≡ v) sorted =
     All-permutation (λ s. s.place ≡ i → is_lone sorted s ≡ v) spans sorted moved
@@ -175,10 +175,10 @@ lone_noted entries sorted i d moved h =
     noted v i sorted sorted (replicate (length entries) false) (omega (arith, length-replicate (length entries) false)) same
     ∙ choice (list_any (λ s. s.place == i) sorted) (has_blocks e) v _ _ there (get_or-replicate (length entries) i false false h) (lone_entry entries i d h)
   where
-    lone_there : (s : Span) → s ≡ span_of (0 + i, get_or entries i d) → is_lone sorted s ≡ is_lone (spans_of entries) (span_of (i, get_or entries i d))
+    lone_there : (s : Span) → s ≡ span_of (0 + i, get_or entries i d) → is_lone sorted s ≡ is_lone (entry_spans entries) (span_of (i, get_or entries i d))
     lone_there s tells =
-        ap (λ n. nat_lt n 2) (sum_by-IsPermutation (λ t. cond (meets s t) 1 0) (spans_of entries) sorted moved)
-        ∙ ap (is_lone (spans_of entries)) (tells ∙ ap (λ j. span_of (j, get_or entries i d)) (zero-add i))
+        ap (λ n. nat_lt n 2) (sum_by-IsPermutation (λ t. cond (meets s t) 1 0) (entry_spans entries) sorted moved)
+        ∙ ap (is_lone (entry_spans entries)) (tells ∙ ap (λ j. span_of (j, get_or entries i d)) (zero-add i))
 
     choice : (b c v w old : Bool) → b ≡ c → old ≡ false → (c ≡ true → v ≡ w) → (if b then v else old) ≡ (c && w)
     choice b c v w old is none chosen = grind arith

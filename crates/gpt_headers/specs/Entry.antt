@@ -4,17 +4,17 @@ use Rattle.std.specs.List.{enumerate_from, list_any}
 use Rattle.uuid.specs.Parts.{is_nil_bytes}
 use Rattle.gpt_headers.specs.declared.entry.GptEntry.{GptEntry}
 use Rattle.gpt_headers.specs.Fields.{HeaderFields, guid_at, number_at}
-use Rattle.gpt_headers.specs.Name.{units_of}
+use Rattle.gpt_headers.specs.Name.{name_units}
 
 -- the entry in these 128 bytes
-unfoldable pub entry_of : List ℕ → GptEntry
-entry_of bytes = record {
+unfoldable pub entry_in : List ℕ → GptEntry
+entry_in bytes = record {
   kind = guid_at 0 bytes;
   unique = guid_at 16 bytes;
   first = number_at 32 8 bytes;
   last = number_at 40 8 bytes;
   attributes = number_at 48 8 bytes;
-  name = units_of (slice_range bytes 56 128);
+  name = name_units (slice_range bytes 56 128);
 }
 
 -- its type is not zero

@@ -26,12 +26,12 @@ unfoldable pub has_signature : List ℕ → Bool
 has_signature block = starts_with nat_eq block (codes "EFI PART")
 
 -- how many bytes the header says that it has
-abbrev pub size_of : List ℕ → ℕ
-size_of block = number_at 12 4 block
+abbrev pub header_size : List ℕ → ℕ
+header_size block = number_at 12 4 block
 
 -- these are at least 92, and no more than the block's
 unfoldable pub has_size : List ℕ → Bool
-has_size block = nat_le least_header (size_of block) && nat_le (size_of block) (length block)
+has_size block = nat_le least_header (header_size block) && nat_le (header_size block) (length block)
 
 -- the CRC32 of the first bytes, with those from 16 to 19 as zero
 abbrev pub crc_of : ℕ → List ℕ → ℕ
@@ -39,7 +39,7 @@ crc_of size block = crc32_of (take 16 block ++ replicate 4 0 ++ slice_range bloc
 
 -- the header has the CRC32 that it tells
 unfoldable pub has_crc : List ℕ → Bool
-has_crc block = crc_of (size_of block) block == number_at 16 4 block
+has_crc block = crc_of (header_size block) block == number_at 16 4 block
 
 -- MyLBA is the block that was read
 unfoldable pub has_place : ℕ → List ℕ → Bool

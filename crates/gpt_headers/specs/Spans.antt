@@ -10,8 +10,8 @@ abbrev pub span_of : ℕ × GptEntry → Span
 span_of (i, e) = record { first = e.first; last = e.last; place = i }
 
 -- the spans of the entries that have blocks
-abbrev pub spans_of : List GptEntry → List Span
-spans_of entries = map span_of (filter (λ (i, e). has_blocks e) (enumerate_from 0 entries))
+abbrev pub entry_spans : List GptEntry → List Span
+entry_spans entries = map span_of (filter (λ (i, e). has_blocks e) (enumerate_from 0 entries))
 
 -- some block is one of both spans
 abbrev pub meets : Span → Span → Bool

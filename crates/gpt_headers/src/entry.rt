@@ -1,5 +1,5 @@
 ghost use Rattle.std.specs.Prelude.{◌≡◌, ◌≤◌, ◌↔◌, ℕ, length, IsTrue};
-ghost use Rattle.gpt_headers.specs.Name.{units_of};
+ghost use Rattle.gpt_headers.specs.Name.{name_units};
 
 use crate::guid::read_guid;
 use byteorder::{ByteOrder, LittleEndian};
@@ -27,13 +27,13 @@ pub struct GptEntry {
 
 impl GptEntry {
     ghost use Rattle.std.specs.Int.{IsBitSet};
-    ghost use Rattle.gpt_headers.specs.Entry.{entry_of, has_blocks, is_hidden, is_used};
+    ghost use Rattle.gpt_headers.specs.Entry.{entry_in, has_blocks, is_hidden, is_used};
 
     /// The entry in the first 128 bytes (UEFI 2.10, 5.3.3).
-    #[tactic(auto, unfolding(crate::specs::Entry::entry_of))]
+    #[tactic(auto, unfolding(crate::specs::Entry::entry_in))]
     pub fn read(b: &[u8]) -> GptEntry
         requires { 128 ≤ length b.now }
-        ensures { result ≡ entry_of b.now }
+        ensures { result ≡ entry_in b.now }
     {
         GptEntry {
             kind: read_guid(&b[0..16]),
@@ -71,7 +71,7 @@ impl GptEntry {
 /// The 36 units of UTF-16 in these 72 bytes (UEFI 2.10, 5.3.3).
 fn read_name(bytes: &[u8]) -> [u16; 36]
     requires { length bytes.now ≡ 72 }
-    ensures { result ≡ units_of bytes.now }
+    ensures { result ≡ name_units bytes.now }
 {
     let mut name = [0; 36];
     LittleEndian::read_u16_into(bytes, &mut name);

@@ -2,7 +2,7 @@ ghost use Rattle.std.specs.Prelude.{◌≡◌, ◌≤◌, ◌*◌, ◌^◌, ◌�
 ghost use Rattle.std.specs.Result.{result_err};
 ghost use Rattle.gpt_headers.specs.Array.{array_length};
 ghost use Rattle.gpt_headers.specs.Limits.{least_entry, least_header, most_array};
-ghost use Rattle.gpt_headers.specs.Header.{crc_of, fault_of, fields_of, has_crc, has_entry_size, has_place, has_signature, has_size, has_small_array, is_entry_size, size_of};
+ghost use Rattle.gpt_headers.specs.Header.{crc_of, fault_of, fields_of, has_crc, has_entry_size, has_place, has_signature, has_size, has_small_array, is_entry_size, header_size};
 
 use crate::guid::read_guid;
 use byteorder::{ByteOrder, LittleEndian};
@@ -209,7 +209,7 @@ fn has_signature(block: &[u8]) -> bool
 /// How many bytes the header says that it has.
 fn size(block: &[u8]) -> usize
     requires { least_header ≤ length block.now }
-    ensures { result ≡ size_of block.now }
+    ensures { result ≡ header_size block.now }
 {
     LittleEndian::read_u32(&block[12..16]) as usize
 }

@@ -1,7 +1,7 @@
 ghost use Rattle.std.specs.Prelude.{ℕ, ◌≡◌, ◌<◌, ◌≤◌, ◌+◌, ◌&&◌, All, IfOk, false, length, nat_le, nat_lt, not, slice_get, slice_index_or};
 ghost use Rattle.std.specs.Option.{option_map_or};
 ghost use Rattle.std.specs.List.Sorted.{IsNonDecreasingBy};
-ghost use Rattle.gpt_headers.specs.Spans.{is_lone_entry, flags_after, spans_of};
+ghost use Rattle.gpt_headers.specs.Spans.{is_lone_entry, flags_after, entry_spans};
 
 use crate::entry::GptEntry;
 use std::alloc::{AllocError, Global};
@@ -30,7 +30,7 @@ pub(crate) fn lone_entries(alloc: Global, entries: &[GptEntry]) -> Result<Vec<bo
 
 /// The spans of the entries that are used and have some blocks.
 fn spans_of(alloc: Global, entries: &[GptEntry]) -> Result<Vec<Span>, AllocError>
-    ensures { IfOk result (λ spans. spans.items ≡ spans_of entries.now) }
+    ensures { IfOk result (λ spans. spans.items ≡ entry_spans entries.now) }
 {
     entries
         .iter()

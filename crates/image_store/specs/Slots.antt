@@ -12,14 +12,14 @@ use Rattle.image_store.specs.declared.slot.Stored.{Stored}
 use Rattle.image_store.specs.declared.slot.Stored.TheVariants.{Gone, Whole, Tail}
 
 -- where an image in memory is
-abbrev pub place_of : Stored → Place
-place_of Gone = Missing
-place_of (Whole bytes) = Here bytes.items
-place_of (Tail bytes) = Taken (Some bytes.items)
+abbrev pub stored_place : Stored → Place
+stored_place Gone = Missing
+stored_place (Whole bytes) = Here bytes.items
+stored_place (Tail bytes) = Taken (Some bytes.items)
 
 -- what a name's slot says
 abbrev pub image_of : Slot → Image
-image_of slot = record { place = place_of slot.stored; faults = slot.faults; worn = slot.worn }
+image_of slot = record { place = stored_place slot.stored; faults = slot.faults; worn = slot.worn }
 
 -- a name that was never used
 abbrev pub unused : Image

@@ -32,7 +32,7 @@ pub struct Slot {
 }
 
 impl Slot {
-    ghost use Rattle.image_store.specs.Slots.{place_of};
+    ghost use Rattle.image_store.specs.Slots.{stored_place};
 
     /// A name with no image.
     pub fn new(alloc: Global) -> Slot
@@ -80,18 +80,18 @@ impl Slot {
         fails: bool,
     ) -> Result<Faulty<Volatile<MemMedium>>, TakeFault>
         requires size { IsBlockSize size }
-        requires free { IsFree (place_of self.old.stored) }
-        ensures taken { IfOk result (λ medium. IsTaking (place_of self.old.stored) (place_of self.new.stored) size cached (⟦<Faulty<Volatile<MemMedium>> as Medium>⟧.device medium)) }
-        ensures stays { OnErr result (place_of self.new.stored ≡ place_of self.old.stored) }
-        ensures missing { place_of self.old.stored ≡ Missing → IsErr result }
-        ensures short_only { IsShort (place_of self.old.stored) size → IsErr result }
-        ensures short { IsErrOf result TakeFault.Short → MayBeShort (place_of self.old.stored) size }
+        requires free { IsFree (stored_place self.old.stored) }
+        ensures taken { IfOk result (λ medium. IsTaking (stored_place self.old.stored) (stored_place self.new.stored) size cached (⟦<Faulty<Volatile<MemMedium>> as Medium>⟧.device medium)) }
+        ensures stays { OnErr result (stored_place self.new.stored ≡ stored_place self.old.stored) }
+        ensures missing { stored_place self.old.stored ≡ Missing → IsErr result }
+        ensures short_only { IsShort (stored_place self.old.stored) size → IsErr result }
+        ensures short { IsErrOf result TakeFault.Short → MayBeShort (stored_place self.old.stored) size }
         ensures cause { HasCauseOf TakeFault.Failed self.old.faults self.new.faults result }
         ensures worn { self.new.worn ≡ self.old.worn }
         ensures planned { IfOk result (λ medium. plan_of medium ≡ self.old.plan.items) }
         ensures plan { self.new.plan ≡ self.old.plan }
         ensures failing { IsTrue fails → result ≡ Err TakeFault.Failed }
-        ensures failed { result ≡ Err TakeFault.Failed → IsTrue fails ⊎ (place_of self.old.stored ≡ Missing) }
+        ensures failed { result ≡ Err TakeFault.Failed → IsTrue fails ⊎ (stored_place self.old.stored ≡ Missing) }
     {
         let Stored::Whole(bytes) = &self.stored else {
             self.faults = self.faults.saturating_add(1);
@@ -116,9 +116,9 @@ impl Slot {
         medium: Faulty<Volatile<MemMedium>>,
         fails: bool,
     ) -> Result<(), PutFault>
-        requires taken { IsTaken (place_of self.old.stored) }
-        ensures free { IsFree (place_of self.new.stored) }
-        ensures place { place_of self.new.stored ≡ put_place (place_of self.old.stored) (⟦<Faulty<Volatile<MemMedium>> as Medium>⟧.device medium).kept result }
+        requires taken { IsTaken (stored_place self.old.stored) }
+        ensures free { IsFree (stored_place self.new.stored) }
+        ensures place { stored_place self.new.stored ≡ put_place (stored_place self.old.stored) (⟦<Faulty<Volatile<MemMedium>> as Medium>⟧.device medium).kept result }
         ensures cause { HasCauseOf PutFault.Failed self.old.faults self.new.faults result }
         ensures plan { self.new.plan ≡ self.old.plan }
         ensures failing { IsTrue fails ↔ (result ≡ Err PutFault.Failed) }

@@ -4,13 +4,13 @@ use Rattle.std.specs.Prelude.{filter_map, ◌==◌}
 use Rattle.std.specs.List.{list_any}
 use Rattle.std.proofs.lemmas.Bool.Decides.{nat_tests}
 use Rattle.std.proofs.lemmas.Grind.{common_steps}
-use Rattle.mbr_records.specs.Chain.{Trail, count_of, is_inside, may_visit, names, place_of}
+use Rattle.mbr_records.specs.Chain.{Trail, count_of, is_inside, may_visit, names, linked_block}
 
 equal_places : (start x place : ℕ) → (start + x == start + place) ≡ (x == place)
 equal_places start x place = grind (arith, nat_tests)
 
 -- a link names the block whose place it is
-pub visited_place : (t : Trail) (place : ℕ) (links : List (Option ℕ)) → list_any (λ v. v == t.start + place) (filter_map (place_of t) links) ≡ list_any (names place) links
+pub visited_place : (t : Trail) (place : ℕ) (links : List (Option ℕ)) → list_any (λ v. v == t.start + place) (filter_map (linked_block t) links) ≡ list_any (names place) links
 visited_place t place [] = refl
 visited_place t place (None ∷ links) = visited_place t place links
 visited_place t place (Some x ∷ links) = rw (equal_places t.start x place, visited_place t place links) refl

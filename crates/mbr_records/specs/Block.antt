@@ -15,20 +15,20 @@ abbrev pub is_marked : List ℕ → Bool
 is_marked block = slice_index block 510 == 0x55 && slice_index block 511 == 0xAA
 
 -- the four records, from byte 446 on (UEFI 2.10, 5.2.1)
-abbrev pub records_of : List ℕ → List MbrRecord
-records_of block = map (λ i. record_of (slice_range block (446 + 16 * i) (462 + 16 * i))) (0 ∷ 1 ∷ 2 ∷ 3 ∷ [])
+abbrev pub four_records : List ℕ → List MbrRecord
+four_records block = map (λ i. record_of (slice_range block (446 + 16 * i) (462 + 16 * i))) (0 ∷ 1 ∷ 2 ∷ 3 ∷ [])
 
 -- the fields of the block: the disk signature is at byte 440 (UEFI 2.10, 5.2.1)
 abbrev pub fields_of : List ℕ → Fields
-fields_of block = record { signature = number_at 440 block; records = records_of block }
+fields_of block = record { signature = number_at 440 block; records = four_records block }
 
 -- the master boot record in the block, where it is marked
 abbrev pub mbr_of : List ℕ → Option Fields
 mbr_of block = if is_marked block then Some (fields_of block) else None
 
 -- the record at place i, of the four from 0 on
-abbrev pub record_at : ℕ → Fields → MbrRecord
-record_at i mbr = slice_index_or mbr.records i (record { boot = 0; os_type = 0; start = 0; size = 0 })
+abbrev pub numbered_record : ℕ → Fields → MbrRecord
+numbered_record i mbr = slice_index_or mbr.records i (record { boot = 0; os_type = 0; start = 0; size = 0 })
 
 -- the record at place i shares a block with another used record
 abbrev pub overlaps_another : List MbrRecord → ℕ → MbrRecord → Bool

@@ -4,7 +4,7 @@ use Rattle.std.specs.List.{list_any}
 use Rattle.std.specs.Option.{option_map_or}
 use Rattle.mbr_records.specs.declared.partition_record.MbrRecord.{MbrRecord}
 use Rattle.mbr_records.specs.Record.{is_data, is_extended}
-use Rattle.mbr_records.specs.Block.{mbr_of, record_at}
+use Rattle.mbr_records.specs.Block.{mbr_of, numbered_record}
 
 -- What a chain was begun with, and what named its blocks so far, in order: the extended partition its own first block, and then
 -- each extended boot record that was fed the next one, or none. Each is counted from the start of the extended partition.
@@ -23,27 +23,27 @@ link_at r = if is_extended r then Some r.start else None
 
 -- What a block names as the next extended boot record. It is read as a master boot record; one without 55 AA names none.
 abbrev pub link_of : List ℕ → Option ℕ
-link_of block = option_and_then (λ ebr. link_at (record_at 1 ebr)) (mbr_of block)
+link_of block = option_and_then (λ ebr. link_at (numbered_record 1 ebr)) (mbr_of block)
 
 -- the chain over an extended partition, after these blocks were fed
 abbrev pub trail_of : ℕ → ℕ → List (List ℕ) → Trail
 trail_of start size fed = record { start = start; size = size; named = Some 0 ∷ map link_of fed }
 
 -- the chain after one more block
-abbrev pub after : Trail → List ℕ → Trail
-after t block = record t { named = t.named ++ link_of block ∷ [] }
+abbrev pub trail_after : Trail → List ℕ → Trail
+trail_after t block = record t { named = t.named ++ link_of block ∷ [] }
 
 -- how many extended boot records were fed
 abbrev pub count_of : Trail → ℕ
 count_of t = length t.named - 1
 
 -- a named block, as a block of the medium
-abbrev pub place_of : Trail → Option ℕ → Option ℕ
-place_of t link = option_map (λ x. t.start + x) link
+abbrev pub linked_block : Trail → Option ℕ → Option ℕ
+linked_block t link = option_map (λ x. t.start + x) link
 
 -- the blocks of the extended boot records that were fed, in order
 abbrev pub visited_of : Trail → List ℕ
-visited_of t = filter_map (place_of t) (take (count_of t) t.named)
+visited_of t = filter_map (linked_block t) (take (count_of t) t.named)
 
 -- so many blocks from the first on lie in the extended partition
 abbrev pub is_inside : Trail → ℕ → ℕ → Bool
@@ -54,8 +54,8 @@ abbrev pub may_visit : Trail → ℕ → Bool
 may_visit t block = is_inside t block 1 && not (list_any (λ v. v == block) (visited_of t)) && nat_lt (count_of t) most_read
 
 -- the block of the next extended boot record, the last that was named; none where the chain has ended
-abbrev pub next_of : Trail → Option ℕ
-next_of t = option_and_then (λ block. if may_visit t block then Some block else None) (place_of t (slice_index_or t.named (count_of t) None))
+abbrev pub next_record_block : Trail → Option ℕ
+next_record_block t = option_and_then (λ block. if may_visit t block then Some block else None) (linked_block t (slice_index_or t.named (count_of t) None))
 
 -- The first block and the number of blocks of the logical partition that a first record gives, in the extended boot record at the
 -- block own. It is counted from that block on, starts behind it, and lies in the extended partition.
@@ -65,7 +65,7 @@ logical_at t own r =
 
 -- The logical partition that a block gives, as the next extended boot record of the chain. One without 55 AA gives none.
 abbrev pub logical_of : Trail → List ℕ → Option (ℕ × ℕ)
-logical_of t block = option_and_then (λ own. option_and_then (λ ebr. logical_at t own (record_at 0 ebr)) (mbr_of block)) (next_of t)
+logical_of t block = option_and_then (λ own. option_and_then (λ ebr. logical_at t own (numbered_record 0 ebr)) (mbr_of block)) (next_record_block t)
 
 -- A link names the block that stands so many blocks behind the start.
 abbrev pub names : ℕ → Option ℕ → Bool

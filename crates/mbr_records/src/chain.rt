@@ -36,7 +36,7 @@ impl Model for Chain {
 }
 
 impl Chain {
-    ghost use Rattle.mbr_records.specs.Chain.{after, count_of, logical_at, logical_of, may_visit, next_of, trail_of};
+    ghost use Rattle.mbr_records.specs.Chain.{trail_after, count_of, logical_at, logical_of, may_visit, next_record_block, trail_of};
 
     /// The chain of the extended partition that begins at this block and has so many blocks. An empty one has no chain.
     pub fn begin(start: u64, size: u64) -> Chain
@@ -57,7 +57,7 @@ impl Chain {
     /// fed named none or was not marked with 55 AA, where the block that it named lies outside the extended partition or was visited
     /// before, or where 128 were fed.
     pub fn next_block(&self) -> Option<u64>
-        ensures exact { result ≡ next_of self.now }
+        ensures exact { result ≡ next_record_block self.now }
         ensures inside { IfSome result (λ block. (self.now.start ≤ block) × (block < self.now.start + self.now.size)) }
         ensures few { OnSome result (count_of self.now < most_read) }
     {
@@ -81,8 +81,8 @@ impl Chain {
     /// that it gives: where its first record is used, of a type other than 05, 0F and EE, does not start at 0, and has its blocks in
     /// the extended partition, counted from this extended boot record on.
     pub fn feed(&mut self, block: &[u8; 512]) -> Option<(u64, u64)>
-        requires { IsSome (next_of self.old) }
-        ensures chain { self.new ≡ after self.old block.now }
+        requires { IsSome (next_record_block self.old) }
+        ensures chain { self.new ≡ trail_after self.old block.now }
         ensures blocks { (start size : ℕ) (fed : List (List ℕ)) →
             self.old ≡ trail_of start size fed → self.new ≡ trail_of start size (fed ++ block.now ∷ []) }
         ensures logical { result ≡ logical_of self.old block.now }

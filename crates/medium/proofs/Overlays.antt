@@ -5,7 +5,7 @@ use Rattle.std.proofs.lemmas.List.{length-append, length-take, length-drop, leng
 use Rattle.std.proofs.Math.Nat.{mul-le-mul_left}
 use Rattle.byte_lists.proofs.Patched.{length-patch}
 use Rattle.byte_lists.specs.Patching.{patch}
-use Rattle.medium.specs.Blocks.{block_of, joined, block_over, overlay, AreHeldFrom}
+use Rattle.medium.specs.Blocks.{block_in, joined, block_over, overlay, AreHeldFrom}
 
 -- a block lies among the blocks
 pub block-fits : (size b n : ℕ) → b < n → b * size + size ≤ n * size
@@ -33,21 +33,21 @@ take-drop-take n k m xs fits =
     subst (λ (x : ℕ). take n (drop k (take x xs)) ≡ take n (drop k xs)) (sym split) (ap (take n) (drop-take k (m - k) xs) ∙ take-take n (m - k) (drop k xs) (omega arith))
 
 -- a block of the joined blocks is that block
-pub block_of-joined : (block : ℕ → List ℕ) (size n b : ℕ) → AreLong block size n → b < n → block_of size (joined block n) b ≡ block b
+pub block_of-joined : (block : ℕ → List ℕ) (size n b : ℕ) → AreLong block size n → b < n → block_in size (joined block n) b ≡ block b
 unfolding joined
 block_of-joined block size zero b long less = absurd (omega arith)
 block_of-joined block size (suc n) b long less = ⊎_elim (λ same. last same) (λ apart. earlier (omega arith) (block_of-joined block size n b (λ q inside. long q (omega arith)) (omega arith))) (cases_eq b n) where
   front : length (joined block n) ≡ n * size
   front = length-joined block size n (λ q below. long q (omega arith))
 
-  earlier : b < n → block_of size (joined block n) b ≡ block b → block_of size (joined block n ++ block n) b ≡ block b
+  earlier : b < n → block_in size (joined block n) b ≡ block b → block_in size (joined block n ++ block n) b ≡ block b
   earlier below is = take-drop-front size (b * size) (joined block n) (block n) (omega (arith, front, block-fits size b n below)) ∙ is
 
-  last : b ≡ n → block_of size (joined block n ++ block n) b ≡ block b
-  last same = subst (λ (x : ℕ). block_of size (joined block n ++ block n) x ≡ block x) (sym same) (ap (take size) (drop_at (joined block n) (block n) (n * size) front) ∙ take_all size (block n) (omega (arith, long n (omega arith))))
+  last : b ≡ n → block_in size (joined block n ++ block n) b ≡ block b
+  last same = subst (λ (x : ℕ). block_in size (joined block n ++ block n) x ≡ block x) (sym same) (ap (take size) (drop_at (joined block n) (block n) (n * size) front) ∙ take_all size (block n) (omega (arith, long n (omega arith))))
 
 -- bytes are their blocks
-pub joined-block_of : (block : ℕ → List ℕ) (size n : ℕ) (bytes : List ℕ) → length bytes ≡ n * size → ((b : ℕ) → b < n → block_of size bytes b ≡ block b) → bytes ≡ joined block n
+pub joined-block_of : (block : ℕ → List ℕ) (size n : ℕ) (bytes : List ℕ) → length bytes ≡ n * size → ((b : ℕ) → b < n → block_in size bytes b ≡ block b) → bytes ≡ joined block n
 unfolding joined
 joined-block_of block size zero [] long same = refl
 joined-block_of block size zero (x ∷ bytes) long same = absurd (omega arith)
@@ -62,16 +62,16 @@ unfolding joined
 joined-same block other zero same = refl
 joined-same block other (suc n) same = ap (λ (xs : List ℕ). xs ++ block n) (joined-same block other n (λ b less. same b (omega arith))) ∙ ap (λ (ys : List ℕ). joined other n ++ ys) (same n (omega arith))
 
-pub length-block_of : (size n b : ℕ) (bytes : List ℕ) → length bytes ≡ n * size → b < n → length (block_of size bytes b) ≡ size
+pub length-block_of : (size n b : ℕ) (bytes : List ℕ) → length bytes ≡ n * size → b < n → length (block_in size bytes b) ≡ size
 length-block_of size n b bytes long less = length-take-le size (drop (b * size) bytes) (omega (arith, length-drop (b * size) bytes, block-fits size b n less))
 
 -- a block before a patch, behind it, and one that is patched
-pub block_of-before : (size b at : ℕ) (bytes piece : List ℕ) → b * size + size ≤ at → at ≤ length bytes → block_of size (patch bytes at piece) b ≡ block_of size bytes b
+pub block_of-before : (size b at : ℕ) (bytes piece : List ℕ) → b * size + size ≤ at → at ≤ length bytes → block_in size (patch bytes at piece) b ≡ block_in size bytes b
 block_of-before size b at bytes piece before inside =
     let long : length (take at bytes) ≡ at = length-take-le at bytes inside in
     take-drop-front size (b * size) (take at bytes) (piece ++ drop (at + length piece) bytes) (omega arith) ∙ take-drop-take size (b * size) at bytes before
 
-pub block_of-behind : (size b at : ℕ) (bytes piece : List ℕ) → at + length piece ≤ b * size → at ≤ length bytes → block_of size (patch bytes at piece) b ≡ block_of size bytes b
+pub block_of-behind : (size b at : ℕ) (bytes piece : List ℕ) → at + length piece ≤ b * size → at ≤ length bytes → block_in size (patch bytes at piece) b ≡ block_in size bytes b
 block_of-behind size b at bytes piece behind inside = ap (take size) (subst (λ (x : ℕ). drop x (patch bytes at piece) ≡ drop x bytes) (sym split) rest) where
   front : List ℕ
   front = take at bytes ++ piece
@@ -85,7 +85,7 @@ block_of-behind size b at bytes piece behind inside = ap (take size) (subst (λ 
   rest : drop ((at + length piece) + (b * size - (at + length piece))) (patch bytes at piece) ≡ drop ((at + length piece) + (b * size - (at + length piece))) bytes
   rest = sym (drop-drop (b * size - (at + length piece)) (at + length piece) (patch bytes at piece)) ∙ ap (drop (b * size - (at + length piece))) (ap (drop (at + length piece)) (sym (append_assoc (take at bytes) piece (drop (at + length piece) bytes))) ∙ drop_at front (drop (at + length piece) bytes) (at + length piece) long) ∙ drop-drop (b * size - (at + length piece)) (at + length piece) bytes
 
-pub block_of-patched : (size b : ℕ) (bytes piece : List ℕ) → length piece ≡ size → b * size ≤ length bytes → block_of size (patch bytes (b * size) piece) b ≡ piece
+pub block_of-patched : (size b : ℕ) (bytes piece : List ℕ) → length piece ≡ size → b * size ≤ length bytes → block_in size (patch bytes (b * size) piece) b ≡ piece
 block_of-patched size b bytes piece long inside =
     ap (take size) (drop_at (take (b * size) bytes) (piece ++ drop (b * size + length piece) bytes) (b * size) (length-take-le (b * size) bytes inside)) ∙ take_at piece (drop (b * size + length piece) bytes) size long
 
@@ -103,12 +103,12 @@ take-patch-more out whole piece at size fits long same is = grown ∙ ap (λ (xs
   grown = ap (take (at + size)) (sym (append_assoc (take at out) piece (drop (at + length piece) out))) ∙ take_at (take at out ++ piece) (drop (at + length piece) out) (at + size) front
 
 -- a block inside a patch
-pub block_of-inside : (size at b : ℕ) (bytes piece : List ℕ) → at * size ≤ length bytes → at ≤ b → (b - at) * size + size ≤ length piece → block_of size (patch bytes (at * size) piece) b ≡ block_of size piece (b - at)
-block_of-inside size at b bytes piece inside from fits = subst (λ (x : ℕ). take size (drop x (patch bytes (at * size) piece)) ≡ block_of size piece (b - at)) (sym split) there where
+pub block_of-inside : (size at b : ℕ) (bytes piece : List ℕ) → at * size ≤ length bytes → at ≤ b → (b - at) * size + size ≤ length piece → block_in size (patch bytes (at * size) piece) b ≡ block_in size piece (b - at)
+block_of-inside size at b bytes piece inside from fits = subst (λ (x : ℕ). take size (drop x (patch bytes (at * size) piece)) ≡ block_in size piece (b - at)) (sym split) there where
   split : b * size ≡ at * size + (b - at) * size
   split = let parts : b ≡ at + (b - at) = omega arith in ap (λ (x : ℕ). x * size) parts ∙ omega arith
 
-  there : take size (drop (at * size + (b - at) * size) (patch bytes (at * size) piece)) ≡ block_of size piece (b - at)
+  there : take size (drop (at * size + (b - at) * size) (patch bytes (at * size) piece)) ≡ block_in size piece (b - at)
   there = ap (take size) (sym (drop-drop ((b - at) * size) (at * size) (patch bytes (at * size) piece)) ∙ ap (drop ((b - at) * size)) (drop_at (take (at * size) bytes) (piece ++ drop (at * size + length piece) bytes) (at * size) (length-take-le (at * size) bytes inside))) ∙ take-drop-front size ((b - at) * size) piece (drop (at * size + length piece) bytes) fits
 
 -- held blocks have this size
@@ -117,7 +117,7 @@ AreHeldLong held size = (b : ℕ) (block : List ℕ) → held b ≡ Some block �
 
 pub over-long : (held : ℕ → Option (List ℕ)) (size n : ℕ) (bytes : List ℕ) → AreHeldLong held size → length bytes ≡ n * size → AreLong (block_over held size bytes) size n
 over-long held size n bytes sized long b less = by_case (held b) refl where
-  by_case : (o : Option (List ℕ)) → held b ≡ o → length (unwrap_or o (block_of size bytes b)) ≡ size
+  by_case : (o : Option (List ℕ)) → held b ≡ o → length (unwrap_or o (block_in size bytes b)) ≡ size
   by_case None is = length-block_of size n b bytes long less
   by_case (Some block) is = sized b block is
 
@@ -147,27 +147,27 @@ overlay-held held other size n bytes block count piece from sized long whole fit
   patched : length (patch (overlay held size n bytes) (block * size) piece) ≡ n * size
   patched = length-patch (overlay held size n bytes) (block * size) piece (omega (arith, whole, inside, size_of_whole)) ∙ size_of_whole
 
-  kept : (b : ℕ) → b < n → other b ≡ held b → block_of size (overlay held size n bytes) b ≡ block_over other size bytes b
-  kept b less same = block_of-joined (block_over held size bytes) size n b (over-long held size n bytes sized long) less ∙ ap (λ (o : Option (List ℕ)). unwrap_or o (block_of size bytes b)) (sym same)
+  kept : (b : ℕ) → b < n → other b ≡ held b → block_in size (overlay held size n bytes) b ≡ block_over other size bytes b
+  kept b less same = block_of-joined (block_over held size bytes) size n b (over-long held size n bytes sized long) less ∙ ap (λ (o : Option (List ℕ)). unwrap_or o (block_in size bytes b)) (sym same)
 
-  before : (b : ℕ) → b < n → b < block → block_of size (patch (overlay held size n bytes) (block * size) piece) b ≡ block_over other size bytes b
+  before : (b : ℕ) → b < n → b < block → block_in size (patch (overlay held size n bytes) (block * size) piece) b ≡ block_over other size bytes b
   before b less below = block_of-before size b (block * size) (overlay held size n bytes) piece (block-fits size b block below) (omega (arith, inside, size_of_whole)) ∙ kept b less (from.before b below)
 
-  behind : (b : ℕ) → b < n → block + count ≤ b → block_of size (patch (overlay held size n bytes) (block * size) piece) b ≡ block_over other size bytes b
+  behind : (b : ℕ) → b < n → block + count ≤ b → block_in size (patch (overlay held size n bytes) (block * size) piece) b ≡ block_over other size bytes b
   behind b less above = block_of-behind size b (block * size) (overlay held size n bytes) piece (omega (arith, whole, mul-le-mul_left size above)) (omega (arith, inside, size_of_whole)) ∙ kept b less (from.behind b above)
 
-  within : (b : ℕ) → block ≤ b → b < block + count → block_of size (patch (overlay held size n bytes) (block * size) piece) b ≡ block_over other size bytes b
-  within b low high = let part : b - block < count = omega arith in block_of-inside size block b (overlay held size n bytes) piece (omega (arith, inside, size_of_whole)) low (omega (arith, whole, block-fits size (b - block) count part)) ∙ ap (λ (o : Option (List ℕ)). unwrap_or o (block_of size bytes b)) (sym (from.within b low high))
+  within : (b : ℕ) → block ≤ b → b < block + count → block_in size (patch (overlay held size n bytes) (block * size) piece) b ≡ block_over other size bytes b
+  within b low high = let part : b - block < count = omega arith in block_of-inside size block b (overlay held size n bytes) piece (omega (arith, inside, size_of_whole)) low (omega (arith, whole, block-fits size (b - block) count part)) ∙ ap (λ (o : Option (List ℕ)). unwrap_or o (block_in size bytes b)) (sym (from.within b low high))
 
-  each : (b : ℕ) → b < n → block_of size (patch (overlay held size n bytes) (block * size) piece) b ≡ block_over other size bytes b
+  each : (b : ℕ) → b < n → block_in size (patch (overlay held size n bytes) (block * size) piece) b ≡ block_over other size bytes b
   each b less = ⊎_elim (λ below. before b less below) (λ low. ⊎_elim (λ high. within b low high) (λ above. behind b less above) (cases_lt b (block + count))) (cases_lt b block)
 
 -- a block of an overlay
-pub overlay-block : (held : ℕ → Option (List ℕ)) (size n : ℕ) (bytes : List ℕ) (b : ℕ) → AreHeldLong held size → length bytes ≡ n * size → b < n → block_of size (overlay held size n bytes) b ≡ block_over held size bytes b
+pub overlay-block : (held : ℕ → Option (List ℕ)) (size n : ℕ) (bytes : List ℕ) (b : ℕ) → AreHeldLong held size → length bytes ≡ n * size → b < n → block_in size (overlay held size n bytes) b ≡ block_over held size bytes b
 overlay-block held size n bytes b sized long less = block_of-joined (block_over held size bytes) size n b (over-long held size n bytes sized long) less
 
 -- one more block was copied out of the bytes from a block on
-pub copied-more : (out bytes piece : List ℕ) (size block i : ℕ) → i * size + size ≤ length out → length piece ≡ size → piece ≡ block_of size bytes (block + i) → take (i * size) out ≡ take (i * size) (drop (block * size) bytes) → take ((i + 1) * size) (patch out (i * size) piece) ≡ take ((i + 1) * size) (drop (block * size) bytes)
+pub copied-more : (out bytes piece : List ℕ) (size block i : ℕ) → i * size + size ≤ length out → length piece ≡ size → piece ≡ block_in size bytes (block + i) → take (i * size) out ≡ take (i * size) (drop (block * size) bytes) → take ((i + 1) * size) (patch out (i * size) piece) ≡ take ((i + 1) * size) (drop (block * size) bytes)
 copied-more out bytes piece size block i fits long is same = subst (λ (x : ℕ). take x (patch out (i * size) piece) ≡ take x (drop (block * size) bytes)) (sym next) (take-patch-more out (drop (block * size) bytes) piece (i * size) size fits long same (is ∙ ap (take size) (sym (drop-drop (i * size) (block * size) bytes ∙ ap (λ (x : ℕ). drop x bytes) (sym place))))) where
   next : (i + 1) * size ≡ i * size + size
   next = omega arith
@@ -184,14 +184,14 @@ overlay-let_go held other size n bytes b block was none others sized long inside
   here : (q : ℕ) → q ≡ b → block_over other size (patch bytes (b * size) block) q ≡ block_over held size bytes q
   here q same = rw (same, none, was) (block_of-patched size b bytes block sized (omega (arith, fits)))
 
-  apart_blocks : (q : ℕ) → q ≢ b → block_of size (patch bytes (b * size) block) q ≡ block_of size bytes q
+  apart_blocks : (q : ℕ) → q ≢ b → block_in size (patch bytes (b * size) block) q ≡ block_in size bytes q
   apart_blocks q apart = ⊎_elim (λ below. block_of-before size q (b * size) bytes block (block-fits size q b below) (omega (arith, fits))) (λ above. let behind : b < q = omega arith in block_of-behind size q (b * size) bytes block (omega (arith, sized, block-fits size b q behind)) (omega (arith, fits))) (cases_lt q b)
 
   elsewhere : (q : ℕ) → q < n → q ≢ b → block_over other size (patch bytes (b * size) block) q ≡ block_over held size bytes q
   elsewhere q less apart = rw (others q apart) (ap (unwrap_or (held q)) (apart_blocks q apart))
 
 -- a block of a part of the bytes
-pub block_of-part : (size block count i : ℕ) (bytes : List ℕ) → i < count → block_of size (take (count * size) (drop (block * size) bytes)) i ≡ block_of size bytes (block + i)
+pub block_of-part : (size block count i : ℕ) (bytes : List ℕ) → i < count → block_in size (take (count * size) (drop (block * size) bytes)) i ≡ block_in size bytes (block + i)
 block_of-part size block count i bytes less = take-drop-take size (i * size) (count * size) (drop (block * size) bytes) (block-fits size i count less) ∙ ap (take size) (drop-drop (i * size) (block * size) bytes ∙ ap (λ (x : ℕ). drop x bytes) place) where
   place : block * size + i * size ≡ (block + i) * size
   place = omega arith
@@ -200,14 +200,14 @@ block_of-part size block count i bytes less = take-drop-take size (i * size) (co
 pub overlay-saved : (held other : ℕ → Option (List ℕ)) (size n : ℕ) (bytes : List ℕ) (block count : ℕ) (piece : List ℕ) → AreHeldFrom held other block count size piece → ((b : ℕ) → block ≤ b → b < block + count → held b ≡ None) → piece ≡ take (count * size) (drop (block * size) bytes) → overlay other size n bytes ≡ overlay held size n bytes
 overlay-saved held other size n bytes block count piece from none is = joined-same (block_over other size bytes) (block_over held size bytes) n (λ b less. ⊎_elim (λ below. same b (from.before b below)) (λ low. ⊎_elim (λ high. within b low high) (λ above. same b (from.behind b above)) (cases_lt b (block + count))) (cases_lt b block)) where
   same : (b : ℕ) → other b ≡ held b → block_over other size bytes b ≡ block_over held size bytes b
-  same b is' = ap (λ (o : Option (List ℕ)). unwrap_or o (block_of size bytes b)) is'
+  same b is' = ap (λ (o : Option (List ℕ)). unwrap_or o (block_in size bytes b)) is'
 
   within : (b : ℕ) → block ≤ b → b < block + count → block_over other size bytes b ≡ block_over held size bytes b
   within b low high =
       let part : b - block < count = omega arith in
       let place : block + (b - block) ≡ b = omega arith in
-      let piece_is : block_of size piece (b - block) ≡ block_of size bytes b = ap (λ (xs : List ℕ). block_of size xs (b - block)) is ∙ block_of-part size block count (b - block) bytes part ∙ ap (block_of size bytes) place in
-      ap (λ (o : Option (List ℕ)). unwrap_or o (block_of size bytes b)) (from.within b low high) ∙ piece_is ∙ ap (λ (o : Option (List ℕ)). unwrap_or o (block_of size bytes b)) (sym (none b low high))
+      let piece_is : block_in size piece (b - block) ≡ block_in size bytes b = ap (λ (xs : List ℕ). block_in size xs (b - block)) is ∙ block_of-part size block count (b - block) bytes part ∙ ap (block_in size bytes) place in
+      ap (λ (o : Option (List ℕ)). unwrap_or o (block_in size bytes b)) (from.within b low high) ∙ piece_is ∙ ap (λ (o : Option (List ℕ)). unwrap_or o (block_in size bytes b)) (sym (none b low high))
 
 -- a patch in blocks that are all held changes nothing
 pub overlay-covered : (held : ℕ → Option (List ℕ)) (size n : ℕ) (bytes : List ℕ) (block count : ℕ) (piece : List ℕ) → ((b : ℕ) → block ≤ b → b < block + count → IsSome (held b)) → length piece ≤ count * size → block * size ≤ length bytes → overlay held size n (patch bytes (block * size) piece) ≡ overlay held size n bytes
@@ -218,6 +218,6 @@ overlay-covered held size n bytes block count piece covered fits inside = joined
   behind : (b : ℕ) → block + count ≤ b → block_over held size (patch bytes (block * size) piece) b ≡ block_over held size bytes b
   behind b above = ap (unwrap_or (held b)) (block_of-behind size b (block * size) bytes piece (omega (arith, fits, mul-le-mul_left size above)) inside)
 
-  within : (b : ℕ) (o : Option (List ℕ)) → IsSome o → unwrap_or o (block_of size (patch bytes (block * size) piece) b) ≡ unwrap_or o (block_of size bytes b)
+  within : (b : ℕ) (o : Option (List ℕ)) → IsSome o → unwrap_or o (block_in size (patch bytes (block * size) piece) b) ≡ unwrap_or o (block_in size bytes b)
   within b None some = cc
   within b (Some v) some = refl

@@ -4,7 +4,7 @@ use Rattle.std.proofs.Math.Logic.{∥∥₁_map}
 use Rattle.medium.proofs.Overlays.{AreHeldLong, length-overlay, overlay-none, overlay-same, overlay-saved, overlay-covered, overlay-let_go, block-fits}
 use Rattle.medium.proofs.Held.{held-long}
 use Rattle.medium.specs.Blocks.{overlay, AreHeldFrom}
-use Rattle.medium.specs.BlockMap.{block_at}
+use Rattle.medium.specs.BlockMap.{held_block}
 use Rattle.medium.specs.Cached.{restored, AreRestoredLong}
 use Rattle.medium.specs.Device.{Device, IsSame, IsShaped, StayPrepared, IsTold, AreToldAt, patch_told, written}
 use Rattle.medium.specs.declared.block_map.BlockMap.{BlockMap}
@@ -30,22 +30,22 @@ restored-let_go saved other size n None b block was none others sized long insid
 restored-let_go saved other size n (Some now) b block was none others sized long inside = ap Some (overlay-let_go saved other size n now b block was none others sized long inside)
 
 -- they have the length of the medium
-pub restored-long : (saved : BlockMap) (d : Device) → IsShaped d → saved.size ≡ d.size → AreRestoredLong (block_at saved) d
-restored-long saved d shaped same bytes told = length-overlay (block_at saved) d.size d.blocks bytes (held-long saved d.size same) (subst (λ (now : Option (List ℕ)). IsTold now (d.blocks * d.size)) told shaped.told_now)
+pub restored-long : (saved : BlockMap) (d : Device) → IsShaped d → saved.size ≡ d.size → AreRestoredLong (held_block saved) d
+restored-long saved d shaped same bytes told = length-overlay (held_block saved) d.size d.blocks bytes (held-long saved d.size same) (subst (λ (now : Option (List ℕ)). IsTold now (d.blocks * d.size)) told shaped.told_now)
 
 -- what a medium with a volatile cache keeps true
 pub record IsCache (d : Device) (prepared : ℕ → Type 0) (saved : BlockMap) : Type 0 where
   pub uncached : d.cached ≡ false
   pub size : saved.size ≡ d.size
-  pub inside : (b : ℕ) → IsSome (block_at saved b) → b < d.blocks
-  pub ready : (b : ℕ) → IsSome (block_at saved b) → ∥ prepared b ∥₁
-  pub kept_length : AreRestoredLong (block_at saved) d
+  pub inside : (b : ℕ) → IsSome (held_block saved b) → b < d.blocks
+  pub ready : (b : ℕ) → IsSome (held_block saved b) → ∥ prepared b ∥₁
+  pub kept_length : AreRestoredLong (held_block saved) d
 
 -- nothing is saved
 not-some : IsSome {T = List ℕ} None → ⊥
 not-some is = cc
 
-pub cache-none : (d : Device) (prepared : ℕ → Type 0) (saved : BlockMap) → IsShaped d → d.cached ≡ false → saved.size ≡ d.size → ((b : ℕ) → block_at saved b ≡ None) → IsCache d prepared saved
+pub cache-none : (d : Device) (prepared : ℕ → Type 0) (saved : BlockMap) → IsShaped d → d.cached ≡ false → saved.size ≡ d.size → ((b : ℕ) → held_block saved b ≡ None) → IsCache d prepared saved
 cache-none d prepared saved shaped uncached size none = record {
   uncached = uncached;
   size = size;
@@ -55,7 +55,7 @@ cache-none d prepared saved shaped uncached size none = record {
 }
 
 -- it stays true where all that is saved was saved before, or may be written
-pub cache-after : (d d' : Device) (prepared prepared' : ℕ → Type 0) (saved saved' : BlockMap) → IsCache d prepared saved → IsSame d d' → IsShaped d' → StayPrepared prepared prepared' → saved'.size ≡ saved.size → ((b : ℕ) → IsSome (block_at saved' b) → IsSome (block_at saved b) ⊎ (prepared b × (b < d.blocks))) → IsCache d' prepared' saved'
+pub cache-after : (d d' : Device) (prepared prepared' : ℕ → Type 0) (saved saved' : BlockMap) → IsCache d prepared saved → IsSame d d' → IsShaped d' → StayPrepared prepared prepared' → saved'.size ≡ saved.size → ((b : ℕ) → IsSome (held_block saved' b) → IsSome (held_block saved b) ⊎ (prepared b × (b < d.blocks))) → IsCache d' prepared' saved'
 cache-after d d' prepared prepared' saved saved' cache same shaped stay size held = record {
   uncached = same.cached ∙ cache.uncached;
   size = size_is;

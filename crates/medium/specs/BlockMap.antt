@@ -7,12 +7,12 @@ use Rattle.medium.specs.Places.{block_in}
 use Rattle.medium.specs.declared.block_map.BlockMap.{BlockMap}
 
 -- the block with this number, where the map holds it
-abbrev pub block_at : BlockMap → ℕ → Option (List ℕ)
-block_at m b = block_in (get nat_cmp m.places b)
+abbrev pub held_block : BlockMap → ℕ → Option (List ℕ)
+held_block m b = block_in (get nat_cmp m.places b)
 
 -- the map has a place for this block
-abbrev pub HasPlace : BlockMap → ℕ → Type 0
-HasPlace m b = IsSome (get nat_cmp m.places b)
+abbrev pub HasPlaceFor : BlockMap → ℕ → Type 0
+HasPlaceFor m b = IsSome (get nat_cmp m.places b)
 
 -- how many blocks it holds
 abbrev pub held_count : BlockMap → ℕ
@@ -23,5 +23,5 @@ abbrev pub last_of : BlockMap → Option ℕ
 last_of m = slice_get m.filled.items (length m.filled.items - 1)
 
 -- a place is there in one way
-pub has_place-once : (m : BlockMap) (b : ℕ) → IsProp (HasPlace m b)
+pub has_place-once : (m : BlockMap) (b : ℕ) → IsProp (HasPlaceFor m b)
 has_place-once m b = Bool-set _ _

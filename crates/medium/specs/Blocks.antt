@@ -2,8 +2,8 @@
 use Rattle.std.specs.Prelude.{◌≡◌, ℕ, zero, suc, ◌+◌, ◌-◌, ◌*◌, ◌<◌, ◌≤◌, List, [], ◌++◌, take, drop, unwrap_or, Option, None, Some}
 
 -- a block of the bytes
-abbrev pub block_of : ℕ → List ℕ → ℕ → List ℕ
-block_of size bytes b = take size (drop (b * size) bytes)
+abbrev pub block_in : ℕ → List ℕ → ℕ → List ℕ
+block_in size bytes b = take size (drop (b * size) bytes)
 
 -- the first n blocks, one after another
 unfoldable pub joined : (ℕ → List ℕ) → ℕ → List ℕ
@@ -12,7 +12,7 @@ joined block (suc n) = joined block n ++ block n
 
 -- the block that stands in place of a block of the bytes, or else that one
 abbrev pub block_over : (ℕ → Option (List ℕ)) → ℕ → List ℕ → ℕ → List ℕ
-block_over held size bytes b = unwrap_or (held b) (block_of size bytes b)
+block_over held size bytes b = unwrap_or (held b) (block_in size bytes b)
 
 -- n blocks of bytes, with other blocks in place of some
 abbrev pub overlay : (ℕ → Option (List ℕ)) → ℕ → ℕ → List ℕ → List ℕ
@@ -21,5 +21,5 @@ overlay held size n bytes = joined (block_over held size bytes) n
 -- so many blocks from this one on are now held, and are those of the piece
 pub record AreHeldFrom (held other : ℕ → Option (List ℕ)) (block count size : ℕ) (piece : List ℕ) : Type 0 where
   pub before : (b : ℕ) → b < block → other b ≡ held b
-  pub within : (b : ℕ) → block ≤ b → b < block + count → other b ≡ Some (block_of size piece (b - block))
+  pub within : (b : ℕ) → block ≤ b → b < block + count → other b ≡ Some (block_in size piece (b - block))
   pub behind : (b : ℕ) → block + count ≤ b → other b ≡ held b

@@ -3,7 +3,7 @@ use Rattle.std.specs.Prelude.{◌≡◌, ◌≢◌, ℕ, ◌+◌, ◌*◌, ◌<�
 use Rattle.std.proofs.Math.Bool.{Bool-set}
 use Rattle.std.specs.Coded.{le_prop}
 use Rattle.medium.specs.Blocks.{overlay}
-use Rattle.medium.specs.BlockMap.{HasPlace}
+use Rattle.medium.specs.BlockMap.{HasPlaceFor}
 use Rattle.medium.specs.Counts.{adds, Rose}
 use Rattle.medium.specs.Device.{Device, IsShaped, IsTold, IsSame, patch_told, written, failures}
 use Rattle.medium.specs.declared.block_failed.BlockFailed.{BlockFailed}
@@ -35,7 +35,7 @@ most_blocks = 64
 -- a block may be written inside, and where there is a cache it has a place there, and a transfer has room
 pub record IsReady (ready : Type 0) (cached : Bool) (saved : BlockMap) (bytes size b : ℕ) : Type 0 where
   pub inside : ready
-  pub place : cached ≡ true → HasPlace saved b
+  pub place : cached ≡ true → HasPlaceFor saved b
   pub room : cached ≡ true → most_blocks * size ≤ bytes
 
 -- saved blocks put back have the length of the medium

@@ -34,13 +34,13 @@ abbrev pub entry_for : List Planned → ℕ → Option Planned
 entry_for plan call = find (λ entry. entry.call == call) plan
 
 -- how many blocks the next command does before it fails, where it is planned to fail
-abbrev pub next_of : {M : Type 0} → Faulty M → Option ℕ
-next_of medium = option_map (λ entry. entry.done) (entry_for (plan_of medium) medium.calls)
+abbrev pub planned_next : {M : Type 0} → Faulty M → Option ℕ
+planned_next medium = option_map (λ entry. entry.done) (entry_for (plan_of medium) medium.calls)
 
 -- the blocks that a write did which fails after so many, or earlier where the device inside failed
-abbrev pub done_of : Result (Unit {0}) BlockFailed → ℕ → ℕ
-done_of (Ok x) count = count
-done_of (Err fault) count = fault.done
+abbrev pub done_blocks : Result (Unit {0}) BlockFailed → ℕ → ℕ
+done_blocks (Ok x) count = count
+done_blocks (Err fault) count = fault.done
 
 -- how many blocks a planned write asks the device inside for: at most all but the last
 abbrev pub planned_count : ℕ → ℕ → ℕ → ℕ
@@ -49,7 +49,7 @@ planned_count bytes size planned = min (bytes / size - 1) planned
 -- a write that fails after so many blocks: the device inside writes them by one command, and none where there are none
 pub record IsPlannedWrite (old : Device) (lba count : ℕ) (bytes : List ℕ) (result : Result (Unit {0}) BlockFailed) (new : Device) : Type 0 where
   pub none : count ≡ 0 → (result ≡ Err (record { done = 0 })) × (new ≡ old)
-  pub some : 0 < count → (inside : Result (Unit {0}) BlockFailed) × IsWrite old lba (take (count * old.size) bytes) inside new × (result ≡ Err (record { done = done_of inside count }))
+  pub some : 0 < count → (inside : Result (Unit {0}) BlockFailed) × IsWrite old lba (take (count * old.size) bytes) inside new × (result ≡ Err (record { done = done_blocks inside count }))
 
 -- it is shaped as the device inside
 pub faulty_shaped : (inner : Device) (calls failed planned : ℕ) → IsShaped inner → IsShaped (faulty_device inner calls failed planned)

@@ -1,6 +1,6 @@
 -- The medium inside one with a volatile cache, and the blocks that it has saved.
 use Rattle.std.specs.Prelude.{ℕ, Bool, List, Option}
-use Rattle.medium.specs.BlockMap.{block_at}
+use Rattle.medium.specs.BlockMap.{held_block}
 use Rattle.medium.specs.declared.volatile.Volatile.{Volatile}
 
 abbrev pub inside_of : {M : Type 0} {g : _} → Volatile M g → M
@@ -8,4 +8,4 @@ inside_of medium = medium.inner
 
 -- the blocks that were saved since the last sync, as they then were
 abbrev pub saved_of : {M : Type 0} {g : _} → Volatile M g → ℕ → Option (List ℕ)
-saved_of medium = block_at medium.saved
+saved_of medium = held_block medium.saved

@@ -61,11 +61,11 @@ fn empty_place(places: &mut BTreeMap<u64, Place>, block: u64)
 }
 
 impl BlockMap {
-    ghost use Rattle.medium.specs.BlockMap.{block_at, HasPlace, held_count, last_of};
+    ghost use Rattle.medium.specs.BlockMap.{held_block, HasPlaceFor, held_count, last_of};
 
     /// A map with no place.
     pub fn new(alloc: Global, size: u32) -> BlockMap
-        ensures blocks { (b : ℕ) → block_at result b ≡ None }
+        ensures blocks { (b : ℕ) → held_block result b ≡ None }
         ensures size { result.size ≡ size }
     {
         BlockMap {
@@ -78,9 +78,9 @@ impl BlockMap {
 
     /// Makes a place for a block. The error is want of memory.
     pub fn make_place(&mut self, block: u64) -> Result<(), AllocError>
-        ensures blocks { (b : ℕ) → block_at self.new b ≡ block_at self.old b }
-        ensures here { OnOk result (HasPlace self.new block) }
-        ensures stay { (b : ℕ) → HasPlace self.old b → HasPlace self.new b }
+        ensures blocks { (b : ℕ) → held_block self.new b ≡ held_block self.old b }
+        ensures here { OnOk result (HasPlaceFor self.new block) }
+        ensures stay { (b : ℕ) → HasPlaceFor self.old b → HasPlaceFor self.new b }
         ensures size { self.new.size ≡ self.old.size }
     {
         if self.places.contains_key(&block) {
@@ -100,9 +100,9 @@ impl BlockMap {
     /// Makes places for `count` blocks from one on. The error is want of memory.
     pub fn make_places(&mut self, first: u64, count: u64) -> Result<(), AllocError>
         requires { first + count < 2 ^ 64 }
-        ensures blocks { (b : ℕ) → block_at self.new b ≡ block_at self.old b }
-        ensures ready { OnOk result ((b : ℕ) → first ≤ b → b < first + count → HasPlace self.new b) }
-        ensures stay { (b : ℕ) → HasPlace self.old b → HasPlace self.new b }
+        ensures blocks { (b : ℕ) → held_block self.new b ≡ held_block self.old b }
+        ensures ready { OnOk result ((b : ℕ) → first ≤ b → b < first + count → HasPlaceFor self.new b) }
+        ensures stay { (b : ℕ) → HasPlaceFor self.old b → HasPlaceFor self.new b }
         ensures size { self.new.size ≡ self.old.size }
     {
         for i in 0..count {
@@ -113,7 +113,7 @@ impl BlockMap {
 
     /// The block with this number. None exactly where it is not held.
     pub fn get(&self, block: u64) -> Option<&[u8]>
-        ensures value { option_copied result ≡ block_at self.now block }
+        ensures value { option_copied result ≡ held_block self.now block }
         ensures long { IfSome result (λ bytes. length bytes.now ≡ self.now.size) }
     {
         let place = self.places.get(&block)?;
@@ -126,18 +126,18 @@ impl BlockMap {
 
     /// Whether it holds the block.
     pub fn holds(&self, block: u64) -> bool
-        ensures { result ≡ is_some (block_at self.now block) }
+        ensures { result ≡ is_some (held_block self.now block) }
     {
         self.get(block).is_some()
     }
 
     /// Holds the block from now on, in its place.
     pub fn hold(&mut self, block: u64, bytes: &[u8])
-        requires place { HasPlace self.old block }
+        requires place { HasPlaceFor self.old block }
         requires long { length bytes.now ≡ self.old.size }
-        ensures here { block_at self.new block ≡ Some bytes.now }
-        ensures others { (b : ℕ) → b ≢ block → block_at self.new b ≡ block_at self.old b }
-        ensures stay { (b : ℕ) → HasPlace self.old b → HasPlace self.new b }
+        ensures here { held_block self.new block ≡ Some bytes.now }
+        ensures others { (b : ℕ) → b ≢ block → held_block self.new b ≡ held_block self.old b }
+        ensures stay { (b : ℕ) → HasPlaceFor self.old b → HasPlaceFor self.new b }
         ensures size { self.new.size ≡ self.old.size }
     {
         if !fill_place(&mut self.places, block, bytes) {
@@ -148,11 +148,11 @@ impl BlockMap {
 
     /// Holds the `count` blocks of these bytes from now on, from block `first` on.
     pub fn hold_all(&mut self, first: u64, count: usize, bytes: &[u8])
-        requires places { (b : ℕ) → first ≤ b → b < first + count → HasPlace self.old b }
+        requires places { (b : ℕ) → first ≤ b → b < first + count → HasPlaceFor self.old b }
         requires long { length bytes.now ≡ count * self.old.size }
         requires fits { first + count < 2 ^ 64 }
-        ensures held { AreHeldFrom (block_at self.old) (block_at self.new) first count self.old.size bytes.now }
-        ensures stay { (b : ℕ) → HasPlace self.old b → HasPlace self.new b }
+        ensures held { AreHeldFrom (held_block self.old) (held_block self.new) first count self.old.size bytes.now }
+        ensures stay { (b : ℕ) → HasPlaceFor self.old b → HasPlaceFor self.new b }
         ensures size { self.new.size ≡ self.old.size }
     {
         let size = self.size as usize;
@@ -164,8 +164,8 @@ impl BlockMap {
     /// The block that came last. None exactly where it holds none.
     pub fn last(&self) -> Option<u64>
         ensures value { result ≡ last_of self.now }
-        ensures none { IfNone result ((b : ℕ) → block_at self.now b ≡ None) }
-        ensures some { IfSome result (λ b. IsSome (block_at self.now b)) }
+        ensures none { IfNone result ((b : ℕ) → held_block self.now b ≡ None) }
+        ensures some { IfSome result (λ b. IsSome (held_block self.now b)) }
     {
         self.filled.last().copied()
     }
@@ -173,10 +173,10 @@ impl BlockMap {
     /// Lets the block go that came last. Its place stays.
     pub fn let_go(&mut self) -> Option<u64>
         ensures value { result ≡ last_of self.old }
-        ensures none { IfNone result ((b : ℕ) → block_at self.new b ≡ None) }
-        ensures here { IfSome result (λ b. block_at self.new b ≡ None) }
-        ensures others { (b : ℕ) → result ≢ Some b → block_at self.new b ≡ block_at self.old b }
-        ensures stay { (b : ℕ) → HasPlace self.old b → HasPlace self.new b }
+        ensures none { IfNone result ((b : ℕ) → held_block self.new b ≡ None) }
+        ensures here { IfSome result (λ b. held_block self.new b ≡ None) }
+        ensures others { (b : ℕ) → result ≢ Some b → held_block self.new b ≡ held_block self.old b }
+        ensures stay { (b : ℕ) → HasPlaceFor self.old b → HasPlaceFor self.new b }
         ensures size { self.new.size ≡ self.old.size }
         ensures fewer { IsSome result → held_count self.new < held_count self.old }
     {
@@ -187,8 +187,8 @@ impl BlockMap {
 
     /// Holds no block from now on. Their places stay.
     pub fn let_all_go(&mut self)
-        ensures blocks { (b : ℕ) → block_at self.new b ≡ None }
-        ensures stay { (b : ℕ) → HasPlace self.old b → HasPlace self.new b }
+        ensures blocks { (b : ℕ) → held_block self.new b ≡ None }
+        ensures stay { (b : ℕ) → HasPlaceFor self.old b → HasPlaceFor self.new b }
         ensures size { self.new.size ≡ self.old.size }
     {
         while self.let_go().is_some() {}
@@ -197,8 +197,8 @@ impl BlockMap {
     /// Puts the blocks that it holds in place of those of the bytes, which are whole blocks.
     pub fn put_into(mut self, bytes: &mut [u8])
         requires whole { length bytes.old ≡ length bytes.old / self.size * self.size }
-        requires inside { (b : ℕ) → IsSome (block_at self b) → b < length bytes.old / self.size }
-        ensures { bytes.new ≡ overlay (block_at self) self.size (length bytes.old / self.size) bytes.old }
+        requires inside { (b : ℕ) → IsSome (held_block self b) → b < length bytes.old / self.size }
+        ensures { bytes.new ≡ overlay (held_block self) self.size (length bytes.old / self.size) bytes.old }
     {
         while let Some(block) = self.last() {
             let Some(held) = self.get(block) else {

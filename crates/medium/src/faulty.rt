@@ -1,7 +1,7 @@
 ghost use Rattle.std.specs.Prelude.{◌≡◌, ℕ, ◌+◌, ◌*◌, ◌<◌, ◌≤◌, length, Err, OnSome, IfSome, IfNone};
 ghost use Rattle.medium.specs.Counts.{adds};
 ghost use Rattle.medium.specs.Device.{IsFresh, IsTransfer, IsRead, IsWrite, IsSync, StayPrepared, failures};
-ghost use Rattle.medium.specs.Faults.{faulty_device, inner_of, plan_of, next_of, planned_count, IsPlannedWrite};
+ghost use Rattle.medium.specs.Faults.{faulty_device, inner_of, plan_of, planned_next, planned_count, IsPlannedWrite};
 
 use crate::{BlockFailed, Medium};
 use std::alloc::{AllocError, Global};
@@ -59,7 +59,7 @@ impl<M: Medium> Faulty<M> {
 
     /// How many blocks the next command does before it fails, where it is planned to fail.
     fn next_planned(&self) -> Option<u32>
-        ensures { result ≡ next_of self.now }
+        ensures { result ≡ planned_next self.now }
     {
         let call = self.calls;
         self.plan
@@ -135,8 +135,8 @@ impl<M: Medium> Medium for Faulty<M> {
         ensures read { IsRead (⟦<Faulty<M> as Medium>⟧.device self.old) lba result (⟦<Faulty<M> as Medium>⟧.device self.new) out.old out.new }
         ensures stay { StayPrepared (⟦<Faulty<M> as Medium>⟧.prepared self.old) (⟦<Faulty<M> as Medium>⟧.prepared self.new) }
         ensures plan { plan_of self.new ≡ plan_of self.old }
-        ensures planned { OnSome (next_of self.old) ((result ≡ Err (record { done = 0 })) × (inner_of self.new ≡ inner_of self.old)) }
-        ensures passed { IfNone (next_of self.old) (IsRead (M.device (inner_of self.old)) lba result (M.device (inner_of self.new)) out.old out.new) }
+        ensures planned { OnSome (planned_next self.old) ((result ≡ Err (record { done = 0 })) × (inner_of self.new ≡ inner_of self.old)) }
+        ensures passed { IfNone (planned_next self.old) (IsRead (M.device (inner_of self.old)) lba result (M.device (inner_of self.new)) out.old out.new) }
     {
         match self.next_planned() {
             Some(_) => self.fail(0),
@@ -154,8 +154,8 @@ impl<M: Medium> Medium for Faulty<M> {
         ensures written { IsWrite (⟦<Faulty<M> as Medium>⟧.device self.old) lba bytes.now result (⟦<Faulty<M> as Medium>⟧.device self.new) }
         ensures stay { StayPrepared (⟦<Faulty<M> as Medium>⟧.prepared self.old) (⟦<Faulty<M> as Medium>⟧.prepared self.new) }
         ensures plan { plan_of self.new ≡ plan_of self.old }
-        ensures planned { IfSome (next_of self.old) (λ planned. IsPlannedWrite (M.device (inner_of self.old)) lba (planned_count (length bytes.now) (⟦<Faulty<M> as Medium>⟧.device self.old).size planned) bytes.now result (M.device (inner_of self.new))) }
-        ensures passed { IfNone (next_of self.old) (IsWrite (M.device (inner_of self.old)) lba bytes.now result (M.device (inner_of self.new))) }
+        ensures planned { IfSome (planned_next self.old) (λ planned. IsPlannedWrite (M.device (inner_of self.old)) lba (planned_count (length bytes.now) (⟦<Faulty<M> as Medium>⟧.device self.old).size planned) bytes.now result (M.device (inner_of self.new))) }
+        ensures passed { IfNone (planned_next self.old) (IsWrite (M.device (inner_of self.old)) lba bytes.now result (M.device (inner_of self.new))) }
     {
         match self.next_planned() {
             Some(done) => self.write_front(lba, bytes, done),
@@ -171,8 +171,8 @@ impl<M: Medium> Medium for Faulty<M> {
         ensures synced { IsSync (⟦<Faulty<M> as Medium>⟧.device self.old) result (⟦<Faulty<M> as Medium>⟧.device self.new) }
         ensures stay { StayPrepared (⟦<Faulty<M> as Medium>⟧.prepared self.old) (⟦<Faulty<M> as Medium>⟧.prepared self.new) }
         ensures plan { plan_of self.new ≡ plan_of self.old }
-        ensures planned { OnSome (next_of self.old) ((result ≡ Err (record { done = 0 })) × (inner_of self.new ≡ inner_of self.old)) }
-        ensures passed { IfNone (next_of self.old) (IsSync (M.device (inner_of self.old)) result (M.device (inner_of self.new))) }
+        ensures planned { OnSome (planned_next self.old) ((result ≡ Err (record { done = 0 })) × (inner_of self.new ≡ inner_of self.old)) }
+        ensures passed { IfNone (planned_next self.old) (IsSync (M.device (inner_of self.old)) result (M.device (inner_of self.new))) }
     {
         match self.next_planned() {
             Some(_) => self.fail(0),

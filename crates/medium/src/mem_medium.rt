@@ -1,6 +1,6 @@
 ghost use Rattle.std.specs.Prelude.{◌≡◌, ℕ, ◌+◌, ◌*◌, ◌^◌, ◌/◌, ◌%◌, ◌<◌, ◌≤◌, length, take, drop, vec_len, Some, IfOk, IsSome};
 ghost use Rattle.medium.specs.Blocks.{block_over, overlay};
-ghost use Rattle.medium.specs.BlockMap.{block_at, HasPlace};
+ghost use Rattle.medium.specs.BlockMap.{held_block, HasPlaceFor};
 ghost use Rattle.medium.specs.Device.{IsBlockSize};
 ghost use Rattle.medium.specs.Memory.{memory_device};
 
@@ -24,8 +24,8 @@ pub struct MemMedium {
     ghost fits: { blocks * size < 2 ^ 64 },
     ghost opening_length: { length opening.items ≡ blocks * size },
     ghost changed_size: { changed.size ≡ size },
-    ghost inside: { (b : ℕ) → IsSome (block_at changed b) → b < blocks },
-    ghost length: { length (overlay (block_at changed) size blocks opening.items) ≡ blocks * size },
+    ghost inside: { (b : ℕ) → IsSome (held_block changed b) → b < blocks },
+    ghost length: { length (overlay (held_block changed) size blocks opening.items) ≡ blocks * size },
 }
 
 impl MemMedium {
@@ -62,7 +62,7 @@ impl MemMedium {
     // A block as it is now.
     fn block(&self, block: u64) -> &[u8]
         requires { block < self.now.blocks }
-        ensures value { result.now ≡ block_over (block_at self.now.changed) self.now.size self.now.opening.items block }
+        ensures value { result.now ≡ block_over (held_block self.now.changed) self.now.size self.now.opening.items block }
         ensures long { length result.now ≡ self.now.size }
     {
         match self.changed.get(block) {
@@ -78,7 +78,7 @@ impl MemMedium {
     fn copy_blocks(&self, lba: u64, count: usize, out: &mut [u8])
         requires long { length out.old ≡ count * self.now.size }
         requires fits { lba + count ≤ self.now.blocks }
-        ensures { out.new ≡ take (length out.old) (drop (lba * self.now.size) (overlay (block_at self.now.changed) self.now.size self.now.blocks self.now.opening.items)) }
+        ensures { out.new ≡ take (length out.old) (drop (lba * self.now.size) (overlay (held_block self.now.changed) self.now.size self.now.blocks self.now.opening.items)) }
     {
         for i in 0..count {
             patch_into(out, i * self.size as usize, self.block(lba + i as u64));
@@ -87,9 +87,9 @@ impl MemMedium {
 }
 
 impl Medium for MemMedium {
-    ghost device = { λ m. memory_device m.opening.items (overlay (block_at m.changed) m.size m.blocks m.opening.items) m.size m.blocks m.calls };
+    ghost device = { λ m. memory_device m.opening.items (overlay (held_block m.changed) m.size m.blocks m.opening.items) m.size m.blocks m.calls };
 
-    ghost prepared = { λ m b. HasPlace m.changed b };
+    ghost prepared = { λ m b. HasPlaceFor m.changed b };
 
     fn blocks(&self) -> u64 {
         self.blocks
@@ -123,7 +123,7 @@ impl Medium for MemMedium {
 
     ghost use Rattle.medium.specs.Memory.{memory_shaped};
 
-    ghost shaped = { λ m. memory_shaped m.opening.items (overlay (block_at m.changed) m.size m.blocks m.opening.items) m.size m.blocks m.calls m.one_of_four m.some m.fits m.opening_length m.length };
+    ghost shaped = { λ m. memory_shaped m.opening.items (overlay (held_block m.changed) m.size m.blocks m.opening.items) m.size m.blocks m.calls m.one_of_four m.some m.fits m.opening_length m.length };
 
     ghost use Rattle.medium.specs.BlockMap.{has_place-once};
 

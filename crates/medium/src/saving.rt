@@ -1,5 +1,5 @@
 ghost use Rattle.std.specs.Prelude.{◌≡◌, ℕ, ◌+◌, ◌*◌, ◌^◌, ◌<◌, ◌≤◌, cond, length, is_none, IsSome, None, OnOk, OnErr, Ok};
-ghost use Rattle.medium.specs.BlockMap.{block_at, HasPlace};
+ghost use Rattle.medium.specs.BlockMap.{held_block, HasPlaceFor};
 ghost use Rattle.medium.specs.Cached.{restored, HasTried, HoldsOthers, most_blocks};
 ghost use Rattle.medium.specs.Counts.{adds, Rose};
 ghost use Rattle.medium.specs.Device.{IsSame, StayPrepared, failures};
@@ -12,8 +12,8 @@ use crate::{BlockFailed, Medium};
 fn run_of(saved: &BlockMap, first: u64, end: u64) -> u64
     requires { first ≤ end }
     ensures within { first + result ≤ end }
-    ensures none { (b : ℕ) → first ≤ b → b < first + result → block_at saved.now b ≡ None }
-    ensures longest { first + result < end → IsSome (block_at saved.now (first + result)) }
+    ensures none { (b : ℕ) → first ≤ b → b < first + result → held_block saved.now b ≡ None }
+    ensures longest { first + result < end → IsSome (held_block saved.now (first + result)) }
 {
     for block in first..end {
         if saved.holds(block) {
@@ -36,16 +36,16 @@ fn save_run<M: Medium>(
     requires fits { first + count ≤ (M.device inner.old).blocks }
     requires size { saved.old.size ≡ (M.device inner.old).size }
     requires room { most_blocks * saved.old.size ≤ length scratch.old }
-    requires places { (b : ℕ) → first ≤ b → b < first + count → HasPlace saved.old b }
-    requires unsaved { (b : ℕ) → first ≤ b → b < first + count → block_at saved.old b ≡ None }
+    requires places { (b : ℕ) → first ≤ b → b < first + count → HasPlaceFor saved.old b }
+    requires unsaved { (b : ℕ) → first ≤ b → b < first + count → held_block saved.old b ≡ None }
     ensures tried { HasTried (M.device inner.old) result (M.device inner.new) }
     ensures calls { (M.device inner.new).calls ≡ adds (M.device inner.old).calls 1 }
     ensures failed { (M.device inner.new).failed ≡ adds (M.device inner.old).failed (failures result) }
     ensures prepared { StayPrepared (M.prepared inner.old) (M.prepared inner.new) }
-    ensures restored { restored (block_at saved.new) saved.old.size (M.device inner.old).blocks (M.device inner.old).now ≡ restored (block_at saved.old) saved.old.size (M.device inner.old).blocks (M.device inner.old).now }
-    ensures held { OnOk result ((b : ℕ) → first ≤ b → b < first + count → IsSome (block_at saved.new b)) }
-    ensures others { HoldsOthers first (first + count) (block_at saved.old) (block_at saved.new) }
-    ensures stay { (b : ℕ) → HasPlace saved.old b → HasPlace saved.new b }
+    ensures restored { restored (held_block saved.new) saved.old.size (M.device inner.old).blocks (M.device inner.old).now ≡ restored (held_block saved.old) saved.old.size (M.device inner.old).blocks (M.device inner.old).now }
+    ensures held { OnOk result ((b : ℕ) → first ≤ b → b < first + count → IsSome (held_block saved.new b)) }
+    ensures others { HoldsOthers first (first + count) (held_block saved.old) (held_block saved.new) }
+    ensures stay { (b : ℕ) → HasPlaceFor saved.old b → HasPlaceFor saved.new b }
     ensures size { saved.new.size ≡ saved.old.size }
 {
     let bytes = count * inner.size() as usize;
@@ -68,15 +68,15 @@ fn save_from<M: Medium>(
     requires fits { end ≤ (M.device inner.old).blocks }
     requires size { saved.old.size ≡ (M.device inner.old).size }
     requires room { most_blocks * saved.old.size ≤ length scratch.old }
-    requires places { (b : ℕ) → block ≤ b → b < end → HasPlace saved.old b }
+    requires places { (b : ℕ) → block ≤ b → b < end → HasPlaceFor saved.old b }
     ensures tried { HasTried (M.device inner.old) result (M.device inner.new) }
-    ensures made { HasMade (M.device inner.old) result (M.device inner.new) (cond (is_none (block_at saved.old block)) 1 0) }
+    ensures made { HasMade (M.device inner.old) result (M.device inner.new) (cond (is_none (held_block saved.old block)) 1 0) }
     ensures prepared { StayPrepared (M.prepared inner.old) (M.prepared inner.new) }
-    ensures restored { restored (block_at saved.new) saved.old.size (M.device inner.old).blocks (M.device inner.old).now ≡ restored (block_at saved.old) saved.old.size (M.device inner.old).blocks (M.device inner.old).now }
-    ensures held { OnOk result (IsSome (block_at saved.new block)) }
-    ensures run { OnOk result (AreSavedTo (block_at saved.old) (block_at saved.new) block end (block + 1)) }
-    ensures others { HoldsOthers block end (block_at saved.old) (block_at saved.new) }
-    ensures stay { (b : ℕ) → HasPlace saved.old b → HasPlace saved.new b }
+    ensures restored { restored (held_block saved.new) saved.old.size (M.device inner.old).blocks (M.device inner.old).now ≡ restored (held_block saved.old) saved.old.size (M.device inner.old).blocks (M.device inner.old).now }
+    ensures held { OnOk result (IsSome (held_block saved.new block)) }
+    ensures run { OnOk result (AreSavedTo (held_block saved.old) (held_block saved.new) block end (block + 1)) }
+    ensures others { HoldsOthers block end (held_block saved.old) (held_block saved.new) }
+    ensures stay { (b : ℕ) → HasPlaceFor saved.old b → HasPlaceFor saved.new b }
     ensures size { saved.new.size ≡ saved.old.size }
 {
     if saved.holds(block) {
@@ -98,14 +98,14 @@ pub fn save<M: Medium>(
     requires fits { first + count ≤ (M.device inner.old).blocks }
     requires size { saved.old.size ≡ (M.device inner.old).size }
     requires room { most_blocks * saved.old.size ≤ length scratch.old }
-    requires places { (b : ℕ) → first ≤ b → b < first + count → HasPlace saved.old b }
+    requires places { (b : ℕ) → first ≤ b → b < first + count → HasPlaceFor saved.old b }
     ensures tried { HasTried (M.device inner.old) result (M.device inner.new) }
-    ensures made { HasMade (M.device inner.old) result (M.device inner.new) (unsaved_runs (block_at saved.old) first count) }
+    ensures made { HasMade (M.device inner.old) result (M.device inner.new) (unsaved_runs (held_block saved.old) first count) }
     ensures prepared { StayPrepared (M.prepared inner.old) (M.prepared inner.new) }
-    ensures restored { restored (block_at saved.new) saved.old.size (M.device inner.old).blocks (M.device inner.old).now ≡ restored (block_at saved.old) saved.old.size (M.device inner.old).blocks (M.device inner.old).now }
-    ensures held { OnOk result ((b : ℕ) → first ≤ b → b < first + count → IsSome (block_at saved.new b)) }
-    ensures others { HoldsOthers first (first + count) (block_at saved.old) (block_at saved.new) }
-    ensures stay { (b : ℕ) → HasPlace saved.old b → HasPlace saved.new b }
+    ensures restored { restored (held_block saved.new) saved.old.size (M.device inner.old).blocks (M.device inner.old).now ≡ restored (held_block saved.old) saved.old.size (M.device inner.old).blocks (M.device inner.old).now }
+    ensures held { OnOk result ((b : ℕ) → first ≤ b → b < first + count → IsSome (held_block saved.new b)) }
+    ensures others { HoldsOthers first (first + count) (held_block saved.old) (held_block saved.new) }
+    ensures stay { (b : ℕ) → HasPlaceFor saved.old b → HasPlaceFor saved.new b }
     ensures size { saved.new.size ≡ saved.old.size }
 {
     let end = first + count;
@@ -118,10 +118,10 @@ pub fn save<M: Medium>(
 /// Writes all saved blocks back, and ends at the first write that fails.
 pub fn write_back<M: Medium>(inner: &mut M, saved: &mut BlockMap) -> Result<(), BlockFailed>
     requires size { saved.old.size ≡ (M.device inner.old).size }
-    requires inside { (b : ℕ) → IsSome (block_at saved.old b) → b < (M.device inner.old).blocks }
-    requires ready { (b : ℕ) → IsSome (block_at saved.old b) → M.prepared inner.old b }
+    requires inside { (b : ℕ) → IsSome (held_block saved.old b) → b < (M.device inner.old).blocks }
+    requires ready { (b : ℕ) → IsSome (held_block saved.old b) → M.prepared inner.old b }
     ensures same { IsSame (M.device inner.old) (M.device inner.new) }
-    ensures now { OnOk result ((M.device inner.new).now ≡ restored (block_at saved.old) saved.old.size (M.device inner.old).blocks (M.device inner.old).now) }
+    ensures now { OnOk result ((M.device inner.new).now ≡ restored (held_block saved.old) saved.old.size (M.device inner.old).blocks (M.device inner.old).now) }
     ensures cause { OnErr result (Rose (M.device inner.old).faults (M.device inner.new).faults) }
     ensures quiet { OnOk result ((M.device inner.new).faults ≡ (M.device inner.old).faults) }
 {

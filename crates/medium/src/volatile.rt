@@ -1,6 +1,6 @@
 ghost use Rattle.std.specs.Prelude.{◌≡◌, ℕ, ◌+◌, ◌*◌, ◌/◌, ◌<◌, ◌≤◌, false, true, Some, IfOk, IfErr, OnOk, IsSome, length, vec_len};
 ghost use Rattle.medium.specs.Blocks.{overlay};
-ghost use Rattle.medium.specs.BlockMap.{block_at, HasPlace};
+ghost use Rattle.medium.specs.BlockMap.{held_block, HasPlaceFor};
 ghost use Rattle.medium.specs.Cached.{cached_device, AreRestoredLong, IsReady, IsWrittenInside};
 ghost use Rattle.medium.specs.Counts.{Rose};
 ghost use Rattle.medium.specs.Device.{IsSame, IsTransfer, IsRead, IsWrite, IsSync, StayPrepared, failures};
@@ -29,9 +29,9 @@ pub struct Volatile<M: Medium> {
     failed: u64,
     ghost uncached: { (M.device inner).cached ≡ false },
     ghost size: { saved.size ≡ (M.device inner).size },
-    ghost inside: { (b : ℕ) → IsSome (block_at saved b) → b < (M.device inner).blocks },
-    ghost ready: { (b : ℕ) → IsSome (block_at saved b) → ∥ M.prepared inner b ∥₁ },
-    ghost kept_length: { AreRestoredLong (block_at saved) (M.device inner) },
+    ghost inside: { (b : ℕ) → IsSome (held_block saved b) → b < (M.device inner).blocks },
+    ghost ready: { (b : ℕ) → IsSome (held_block saved b) → ∥ M.prepared inner b ∥₁ },
+    ghost kept_length: { AreRestoredLong (held_block saved) (M.device inner) },
 }
 
 /// How many failures an answer counts as.
@@ -111,10 +111,10 @@ fn write_saved<M: Medium>(
     requires transfer { IsTransfer (M.device inner.old) lba (length bytes.now) }
     requires ready { (b : ℕ) → lba ≤ b → b * (M.device inner.old).size < lba * (M.device inner.old).size + length bytes.now → IsReady (M.prepared inner.old b) cached saved.old (length scratch.old) (M.device inner.old).size b }
     requires size { saved.old.size ≡ (M.device inner.old).size }
-    ensures written { IsWrittenInside (M.device inner.old) cached (block_at saved.old) (block_at saved.new) lba bytes.now result (M.device inner.new) }
-    ensures made { IsSavedWrite (M.device inner.old) (saving_reads cached (block_at saved.old) lba (length bytes.now / (M.device inner.old).size)) result (M.device inner.new) }
+    ensures written { IsWrittenInside (M.device inner.old) cached (held_block saved.old) (held_block saved.new) lba bytes.now result (M.device inner.new) }
+    ensures made { IsSavedWrite (M.device inner.old) (saving_reads cached (held_block saved.old) lba (length bytes.now / (M.device inner.old).size)) result (M.device inner.new) }
     ensures prepared { StayPrepared (M.prepared inner.old) (M.prepared inner.new) }
-    ensures stay { (b : ℕ) → HasPlace saved.old b → HasPlace saved.new b }
+    ensures stay { (b : ℕ) → HasPlaceFor saved.old b → HasPlaceFor saved.new b }
     ensures size { saved.new.size ≡ saved.old.size }
 {
     if cached {
@@ -128,7 +128,7 @@ fn write_saved<M: Medium>(
 impl<M: Medium> Medium for Volatile<M> {
     ghost use Rattle.medium.specs.Volatiles.{inside_of, saved_of};
 
-    ghost device = { λ m. cached_device (M.device m.inner) m.cached (block_at m.saved) m.calls m.failed };
+    ghost device = { λ m. cached_device (M.device m.inner) m.cached (held_block m.saved) m.calls m.failed };
 
     ghost prepared = { λ m b. IsReady (M.prepared m.inner b) m.cached m.saved (vec_len m.scratch) (M.device m.inner).size b };
 
@@ -203,7 +203,7 @@ impl<M: Medium> Medium for Volatile<M> {
 
     ghost use Rattle.medium.specs.Cached.{cached_shaped, ready-once};
 
-    ghost shaped = { λ m. cached_shaped (M.device m.inner) m.cached (block_at m.saved) m.calls m.failed (M.shaped m.inner) m.kept_length };
+    ghost shaped = { λ m. cached_shaped (M.device m.inner) m.cached (held_block m.saved) m.calls m.failed (M.shaped m.inner) m.kept_length };
 
     ghost prepared_once = { λ m b. ready-once (M.prepared m.inner b) m.cached m.saved (vec_len m.scratch) (M.device m.inner).size b (M.prepared_once m.inner b) };
 }

@@ -11,8 +11,8 @@ use Rattle.std.proofs.lemmas.List.Sums.{take_while-cons}
 use Rattle.std.proofs.lemmas.Option.{slice_get-get_or, slice_get_past}
 use Rattle.mbr_records.specs.declared.partition_record.MbrRecord.{MbrRecord}
 use Rattle.mbr_records.specs.Record.{is_data}
-use Rattle.mbr_records.specs.Block.{Fields, mbr_of, record_at}
-use Rattle.mbr_records.specs.Chain.{count_of, is_inside, link_of, logical_at, may_visit, next_of, trail_of, visited_of}
+use Rattle.mbr_records.specs.Block.{Fields, mbr_of, numbered_record}
+use Rattle.mbr_records.specs.Chain.{count_of, is_inside, link_of, logical_at, may_visit, next_record_block, trail_of, visited_of}
 use Rattle.partition_tables.specs.Blocks.{boot_record_at}
 use Rattle.partition_tables.specs.MbrTable.{chain_of, name_at, trail_at}
 use Rattle.partition_tables.specs.Law.{ChainIsFollowed, LogicalsAreGiven}
@@ -48,7 +48,7 @@ fronts h a (suc m) = by_first (h a) refl (fronts h (a + 1) m)
 
 -- the next block by what was named last
 next_by_name : (bytes : List ℕ) (size : ℕ) (extended : ℕ × ℕ) (n : ℕ)
-    → next_of (trail_at bytes size extended n)
+    → next_record_block (trail_at bytes size extended n)
     ≡ option_and_then (λ block. if may_visit (trail_at bytes size extended n) block then Some block else None) (option_map (λ x. extended.0 + x) (name_at bytes size extended.0 n))
 next_by_name bytes size extended n =
     let name : ℕ → Option ℕ = λ k. name_at bytes size extended.0 k in
@@ -73,7 +73,7 @@ link_by_name bytes size start own None h = cc
 link_by_name bytes size start own (Some x) h = let same : start + x ≡ own = cc in ap (λ lba. link_of (boot_record_at bytes size lba)) same
 
 -- after 128 records there is no next one
-full : (bytes : List ℕ) (size : ℕ) (extended : ℕ × ℕ) (n : ℕ) → 128 ≤ n → next_of (trail_at bytes size extended n) ≡ None
+full : (bytes : List ℕ) (size : ℕ) (extended : ℕ × ℕ) (n : ℕ) → 128 ≤ n → next_record_block (trail_at bytes size extended n) ≡ None
 full bytes size extended n h = next_by_name bytes size extended n ∙ closed (name_at bytes size extended.0 n)
   where
     count : 128 ≤ count_of (trail_at bytes size extended n)
@@ -89,7 +89,7 @@ full bytes size extended n h = next_by_name bytes size extended n ∙ closed (na
         no_more (is_inside t (extended.0 + x) 1) (not (list_any (λ v. v == extended.0 + x) (visited_of t))) (count_of t) (extended.0 + x) count
 
 -- what the blocks of the chain name, as far as they were fed
-named_so_far : (bytes : List ℕ) (size : ℕ) (extended : ℕ × ℕ) (front : List ℕ) (each : (k : ℕ) → k < length front → slice_get front k ≡ next_of (trail_at bytes size extended k))
+named_so_far : (bytes : List ℕ) (size : ℕ) (extended : ℕ × ℕ) (front : List ℕ) (each : (k : ℕ) → k < length front → slice_get front k ≡ next_record_block (trail_at bytes size extended k))
     (n : ℕ) → n ≤ length front
     → Some 0 ∷ map link_of (map (λ own. boot_record_at bytes size own) (take n front)) ≡ map (λ k. name_at bytes size extended.0 k) (range_with_len 0 (n + 1))
 named_so_far bytes size extended front each zero h = refl
@@ -98,7 +98,7 @@ named_so_far bytes size extended front each (suc n) h =
     let boot : ℕ → List ℕ = λ own. boot_record_at bytes size own in
     let below : n < length front = omega arith in
     let own = get_or front n 0 in
-    let next : next_of (trail_at bytes size extended n) ≡ Some own = sym (each n below) ∙ slice_get-get_or front n 0 below in
+    let next : next_record_block (trail_at bytes size extended n) ≡ Some own = sym (each n below) ∙ slice_get-get_or front n 0 below in
     let named : option_map (λ x. extended.0 + x) (name n) ≡ Some own =
     named_next extended.0 own (λ block. may_visit (trail_at bytes size extended n) block) (name n) (sym (next_by_name bytes size extended n) ∙ next) in
     let link : name (suc n) ≡ link_of (boot own) = link_by_name bytes size extended.0 own (name n) named in
@@ -110,31 +110,31 @@ named_so_far bytes size extended front each (suc n) h =
     ∙ sym (map-range_with_len_more name 0 (n + 1) (suc n) (omega arith))
     ∙ ap (λ k. map name (range_with_len 0 k)) (omega arith)
 
-followed : (bytes : List ℕ) (size : ℕ) (extended : ℕ × ℕ) (front : List ℕ) → ((k : ℕ) → k < length front → slice_get front k ≡ next_of (trail_at bytes size extended k))
-    → next_of (trail_at bytes size extended (length front)) ≡ None → (n : ℕ) → n ≤ length front
-    → next_of (trail_of extended.0 extended.1 (map (λ own. boot_record_at bytes size own) (take n front))) ≡ slice_get front n
+followed : (bytes : List ℕ) (size : ℕ) (extended : ℕ × ℕ) (front : List ℕ) → ((k : ℕ) → k < length front → slice_get front k ≡ next_record_block (trail_at bytes size extended k))
+    → next_record_block (trail_at bytes size extended (length front)) ≡ None → (n : ℕ) → n ≤ length front
+    → next_record_block (trail_of extended.0 extended.1 (map (λ own. boot_record_at bytes size own) (take n front))) ≡ slice_get front n
 followed bytes size extended front each last n h =
-    let same : next_of (trail_of extended.0 extended.1 (map (λ own. boot_record_at bytes size own) (take n front))) ≡ next_of (trail_at bytes size extended n) =
-    ap (λ l. next_of (record { start = extended.0; size = extended.1; named = l })) (named_so_far bytes size extended front each n h) in
+    let same : next_record_block (trail_of extended.0 extended.1 (map (λ own. boot_record_at bytes size own) (take n front))) ≡ next_record_block (trail_at bytes size extended n) =
+    ap (λ l. next_record_block (record { start = extended.0; size = extended.1; named = l })) (named_so_far bytes size extended front each n h) in
     elim (cases_lt n (length front)) [
       | inl below ↦ same ∙ sym (each n below)
-      | inr past ↦ let ended : n ≡ length front = omega arith in same ∙ ap (λ k. next_of (trail_at bytes size extended k)) ended ∙ last ∙ sym (slice_get_past front n past)
+      | inr past ↦ let ended : n ≡ length front = omega arith in same ∙ ap (λ k. next_record_block (trail_at bytes size extended k)) ended ∙ last ∙ sym (slice_get_past front n past)
     ]
 
-front_followed : (bytes : List ℕ) (size : ℕ) (extended : ℕ × ℕ) (front : List ℕ) → Fronts (λ k. next_of (trail_at bytes size extended k)) 0 128 front → (n : ℕ) → n ≤ length front
-    → next_of (trail_of extended.0 extended.1 (map (λ own. boot_record_at bytes size own) (take n front))) ≡ slice_get front n
+front_followed : (bytes : List ℕ) (size : ℕ) (extended : ℕ × ℕ) (front : List ℕ) → Fronts (λ k. next_record_block (trail_at bytes size extended k)) 0 128 front → (n : ℕ) → n ≤ length front
+    → next_record_block (trail_of extended.0 extended.1 (map (λ own. boot_record_at bytes size own) (take n front))) ≡ slice_get front n
 front_followed bytes size extended front f n h =
-    let last : next_of (trail_at bytes size extended (length front)) ≡ None =
+    let last : next_record_block (trail_at bytes size extended (length front)) ≡ None =
     elim (cases_lt (length front) 128) [
-      | inl below ↦ let here : length front ≡ 0 + length front = omega arith in ap (λ k. next_of (trail_at bytes size extended k)) here ∙ f.next below
+      | inl below ↦ let here : length front ≡ 0 + length front = omega arith in ap (λ k. next_record_block (trail_at bytes size extended k)) here ∙ f.next below
       | inr past ↦ full bytes size extended (length front) past
     ] in
-    followed bytes size extended front (λ k below. f.each k below ∙ ap (λ j. next_of (trail_at bytes size extended j)) (zero-add k)) last n h
+    followed bytes size extended front (λ k below. f.each k below ∙ ap (λ j. next_record_block (trail_at bytes size extended j)) (zero-add k)) last n h
 
 pub chain_is_followed : ChainIsFollowed
 unfolding chain_of
 chain_is_followed bytes size extended n h =
-    front_followed bytes size extended (chain_of bytes size extended) (fronts (λ k. next_of (trail_at bytes size extended k)) 0 128) n h
+    front_followed bytes size extended (chain_of bytes size extended) (fronts (λ k. next_record_block (trail_at bytes size extended k)) 0 128) n h
 
 pub logicals_are_given : LogicalsAreGiven
 logicals_are_given bytes size extended fed own h =
@@ -146,9 +146,9 @@ logicals_are_given bytes size extended fed own h =
     by_test false r p = refl
 
     by_record : (o : Option Fields)
-        → option_and_then (λ ebr. logical_at (trail_of extended.0 extended.1 fed) own (record_at 0 ebr)) o
-        ≡ option_map (λ (l : MbrRecord × (ℕ × ℕ)). l.1) (option_and_then (λ ebr. option_map (λ blocks. (record_at 0 ebr, blocks)) (logical_at (trail_at bytes size extended 0) own (record_at 0 ebr))) o)
+        → option_and_then (λ ebr. logical_at (trail_of extended.0 extended.1 fed) own (numbered_record 0 ebr)) o
+        ≡ option_map (λ (l : MbrRecord × (ℕ × ℕ)). l.1) (option_and_then (λ ebr. option_map (λ blocks. (numbered_record 0 ebr, blocks)) (logical_at (trail_at bytes size extended 0) own (numbered_record 0 ebr))) o)
     by_record None = refl
     by_record (Some ebr) =
-        let r = record_at 0 ebr in
+        let r = numbered_record 0 ebr in
         by_test (is_data r && not (r.start == 0) && is_inside (trail_at bytes size extended 0) (own + r.start) r.size) r (own + r.start, r.size)

@@ -6,14 +6,14 @@ use Rattle.std.specs.Option.{option_map_or}
 use Rattle.std.proofs.lemmas.Bool.Decides.{nat_tests}
 use Rattle.std.proofs.lemmas.List.Elements.{All-append, All-cons, All-head, All-map, All-nil, All-tail, All-weaker, filter_passes}
 use Rattle.mbr_records.specs.declared.partition_record.MbrRecord.{MbrRecord}
-use Rattle.mbr_records.specs.Block.{Fields, extended_of, gives_partition, mbr_of, overlaps_another, record_at}
+use Rattle.mbr_records.specs.Block.{Fields, extended_of, gives_partition, mbr_of, overlaps_another, numbered_record}
 use Rattle.mbr_records.specs.Chain.{logical_at}
 use Rattle.mbr_records.specs.Record.{is_data, is_extended, is_on_medium, is_protective}
 use Rattle.gpt_headers.specs.Entry as entries
 use Rattle.gpt_headers.specs.Fields.{HeaderFields}
 use Rattle.partition_tables.specs.declared.table.Child.{Child}
 use Rattle.partition_tables.specs.declared.table.TableKind.TheVariants.{Mbr}
-use Rattle.partition_tables.specs.Blocks.{blocks_of, boot_record_at}
+use Rattle.partition_tables.specs.Blocks.{whole_blocks, boot_record_at}
 use Rattle.partition_tables.specs.MbrTable.{chain_of, child_of_record, logical_in, logicals_of, mbr_children, primaries_of, trail_at}
 use Rattle.partition_tables.specs.GptTable.{child_of_entry, entries_of, gpt_table_by, good_header, gpt_children, gpt_table}
 use Rattle.partition_tables.specs.Table.{table_by, table_of}
@@ -60,10 +60,10 @@ logical_lies bytes size limit own extended h = by_record (mbr_of (boot_record_at
     inside a b start first count end k inner = grind (arith, nat_tests)
 
     by_record : (o : Option Fields)
-        → IfSome (option_and_then (λ ebr. option_map (λ blocks. (record_at 0 ebr, blocks)) (logical_at (trail_at bytes size extended 0) own (record_at 0 ebr))) o) (λ (r, (first, blocks)). first + blocks ≤ limit)
+        → IfSome (option_and_then (λ ebr. option_map (λ blocks. (numbered_record 0 ebr, blocks)) (logical_at (trail_at bytes size extended 0) own (numbered_record 0 ebr))) o) (λ (r, (first, blocks)). first + blocks ≤ limit)
     by_record None = tt
     by_record (Some ebr) =
-        let r = record_at 0 ebr in
+        let r = numbered_record 0 ebr in
         by_test (is_data r && not (r.start == 0) && (nat_le extended.0 (own + r.start) && nat_le (own + r.start + r.size) (extended.0 + extended.1))) r (own + r.start) r.size
         (λ inner. inside (is_data r) (not (r.start == 0)) extended.0 (own + r.start) r.size (extended.0 + extended.1) h inner)
 
@@ -90,16 +90,16 @@ extended_lies limit records =
     last_test : (a : Bool) (m : ℕ) → (a && nat_le m limit) ≡ true → m ≤ limit
     last_test a m h = grind (arith, nat_tests)
 
-mbr_lie : (bytes : List ℕ) (size : ℕ) (mbr : Fields) → All (λ c. Lies (blocks_of bytes size) c) (mbr_children bytes size mbr)
+mbr_lie : (bytes : List ℕ) (size : ℕ) (mbr : Fields) → All (λ c. Lies (whole_blocks bytes size) c) (mbr_children bytes size mbr)
 unfolding mbr_children
 mbr_lie bytes size mbr =
-    let limit = blocks_of bytes size in
+    let limit = whole_blocks bytes size in
     All-append (λ c. Lies limit c) (primaries_of limit mbr) _ (primaries_lie limit mbr) (by_extended (extended_of limit mbr.records) (extended_lies limit mbr.records))
   where
-    by_extended : (o : Option (ℕ × ℕ)) → IfSome o (λ p. p.0 + p.1 ≤ blocks_of bytes size)
-        → All (λ c. Lies (blocks_of bytes size) c) (option_map_or (λ extended. logicals_of bytes size mbr.signature extended) o [])
-    by_extended None h = All-nil (λ c. Lies (blocks_of bytes size) c)
-    by_extended (Some extended) h = logicals_lie bytes size (blocks_of bytes size) mbr.signature extended h
+    by_extended : (o : Option (ℕ × ℕ)) → IfSome o (λ p. p.0 + p.1 ≤ whole_blocks bytes size)
+        → All (λ c. Lies (whole_blocks bytes size) c) (option_map_or (λ extended. logicals_of bytes size mbr.signature extended) o [])
+    by_extended None h = All-nil (λ c. Lies (whole_blocks bytes size) c)
+    by_extended (Some extended) h = logicals_lie bytes size (whole_blocks bytes size) mbr.signature extended h
 
 last_on_medium : (a b c d e : Bool) (first last blocks : ℕ) → (a && (nat_le first last && b && (c && nat_lt last blocks)) && d && e) ≡ true → first + (last - first + 1) ≤ blocks
 last_on_medium a b c d e first last blocks h = grind (arith, nat_tests)
@@ -117,12 +117,12 @@ gpt_lie limit (Some good) backup = entries_lie limit good
 gpt_lie limit None (Some good) = entries_lie limit good
 gpt_lie limit None None = All-nil (λ c. Lies limit c)
 
-table_lies : (bytes : List ℕ) (size : ℕ) (o : Option Fields) → All (λ c. Lies (blocks_of bytes size) c) (table_by bytes size o).children
-table_lies bytes size None = All-nil (λ c. Lies (blocks_of bytes size) c)
+table_lies : (bytes : List ℕ) (size : ℕ) (o : Option Fields) → All (λ c. Lies (whole_blocks bytes size) c) (table_by bytes size o).children
+table_lies bytes size None = All-nil (λ c. Lies (whole_blocks bytes size) c)
 table_lies bytes size (Some mbr) = by_cover (list_any is_protective mbr.records)
   where
-    by_cover : (b : Bool) → All (λ c. Lies (blocks_of bytes size) c) (if b then gpt_table bytes size else record { kind = Mbr; children = mbr_children bytes size mbr }).children
-    by_cover true = gpt_lie (blocks_of bytes size) (good_header bytes size 1) (good_header bytes size (blocks_of bytes size - 1))
+    by_cover : (b : Bool) → All (λ c. Lies (whole_blocks bytes size) c) (if b then gpt_table bytes size else record { kind = Mbr; children = mbr_children bytes size mbr }).children
+    by_cover true = gpt_lie (whole_blocks bytes size) (good_header bytes size 1) (good_header bytes size (whole_blocks bytes size - 1))
     by_cover false = mbr_lie bytes size mbr
 
 pub children_lie : ChildrenLieOnTheMedium

@@ -2,12 +2,12 @@
 use Rattle.std.specs.Prelude.{ℕ, ◌+◌, ◌*◌, ◌/◌, List, length, slice_range}
 
 -- how many whole blocks there are
-abbrev pub blocks_of : List ℕ → ℕ → ℕ
-blocks_of bytes size = length bytes / size
+abbrev pub whole_blocks : List ℕ → ℕ → ℕ
+whole_blocks bytes size = length bytes / size
 
 -- the block at this LBA
-abbrev pub block_at : List ℕ → ℕ → ℕ → List ℕ
-block_at bytes size lba = slice_range bytes (lba * size) (lba * size + size)
+abbrev pub table_block : List ℕ → ℕ → ℕ → List ℕ
+table_block bytes size lba = slice_range bytes (lba * size) (lba * size + size)
 
 -- its first 512 bytes, where a boot record stands (UEFI 2.10, 5.2.1)
 abbrev pub boot_record_at : List ℕ → ℕ → ℕ → List ℕ

@@ -4,11 +4,11 @@ use Rattle.std.specs.Prelude.{ℕ, zero, suc, ◌+◌, List, [], ◌++◌, map, 
 use Rattle.std.specs.List.{enumerate_from, range_with_len}
 use Rattle.std.specs.Option.{option_map_or}
 use Rattle.mbr_records.specs.declared.partition_record.MbrRecord.{MbrRecord}
-use Rattle.mbr_records.specs.Block.{Fields, extended_of, gives_partition, mbr_of, record_at}
-use Rattle.mbr_records.specs.Chain.{Trail, link_of, logical_at, most_read, next_of}
+use Rattle.mbr_records.specs.Block.{Fields, extended_of, gives_partition, mbr_of, numbered_record}
+use Rattle.mbr_records.specs.Chain.{Trail, link_of, logical_at, most_read, next_record_block}
 use Rattle.partition_tables.specs.declared.table.Child.{Child}
 use Rattle.partition_tables.specs.declared.table.Origin.TheVariants.{Mbr}
-use Rattle.partition_tables.specs.Blocks.{blocks_of, boot_record_at}
+use Rattle.partition_tables.specs.Blocks.{whole_blocks, boot_record_at}
 
 -- the child with these blocks, of a record on a disk with this signature
 abbrev pub child_of_record : ℕ → ℕ → MbrRecord → ℕ × ℕ → Child
@@ -36,13 +36,13 @@ trail_at bytes size (start, count) n =
 -- the blocks of its extended boot records in order: up to the first place where no next one is read
 unfoldable pub chain_of : List ℕ → ℕ → ℕ × ℕ → List ℕ
 chain_of bytes size extended =
-    filter_map (λ n. next_of (trail_at bytes size extended n))
-    (take_while (λ n. is_some (next_of (trail_at bytes size extended n))) (range_with_len 0 most_read))
+    filter_map (λ n. next_record_block (trail_at bytes size extended n))
+    (take_while (λ n. is_some (next_record_block (trail_at bytes size extended n))) (range_with_len 0 most_read))
 
 -- the first record of an extended boot record, with the blocks of the logical partition that it gives
 abbrev pub logical_in : List ℕ → ℕ → ℕ × ℕ → ℕ → Option (MbrRecord × (ℕ × ℕ))
 logical_in bytes size extended own =
-    option_and_then (λ ebr. option_map (λ blocks. (record_at 0 ebr, blocks)) (logical_at (trail_at bytes size extended 0) own (record_at 0 ebr)))
+    option_and_then (λ ebr. option_map (λ blocks. (numbered_record 0 ebr, blocks)) (logical_at (trail_at bytes size extended 0) own (numbered_record 0 ebr)))
     (mbr_of (boot_record_at bytes size own))
 
 -- the logical partitions take the numbers from 5 on, in the order of the chain
@@ -54,5 +54,5 @@ logicals_of bytes size signature extended =
 -- the children of the records, and then those of the first extended partition on the medium
 unfoldable pub mbr_children : List ℕ → ℕ → Fields → List Child
 mbr_children bytes size mbr =
-    primaries_of (blocks_of bytes size) mbr
-    ++ option_map_or (λ extended. logicals_of bytes size mbr.signature extended) (extended_of (blocks_of bytes size) mbr.records) []
+    primaries_of (whole_blocks bytes size) mbr
+    ++ option_map_or (λ extended. logicals_of bytes size mbr.signature extended) (extended_of (whole_blocks bytes size) mbr.records) []

@@ -3,10 +3,10 @@ use Rattle.std.proofs.Common.{◌≡◌, ℕ, Bool, true, false, cond, List, [],
 use Rattle.std.specs.Prelude.{find, is_some}
 use Rattle.std.specs.Map.{values_of}
 use Rattle.subtask_queue.specs.declared.sub.Sub.{Sub}
-use Rattle.subtask_queue.specs.Owned.{subs_in, joined}
+use Rattle.subtask_queue.specs.Owned.{subs_in, all_units}
 
-pub joined-values : (es : List (ℕ × List Sub)) → joined (values_of es) ≡ subs_in es
-unfolding joined subs_in
+pub joined-values : (es : List (ℕ × List Sub)) → all_units (values_of es) ≡ subs_in es
+unfolding all_units subs_in
 joined-values [] = refl
 joined-values (e ∷ es) = ap (λ rest. e.1 ++ rest) (joined-values es)
 
@@ -20,14 +20,14 @@ find-append p (s ∷ own) rest o is = go (p s) is (find-append p own rest o)
     go true is more = (λ some. is, λ none. let e : true ≡ false = ap is_some (sym is) ∙ none in absurd (cc))
     go false is more = more is
 
-pub next-left : (p : Sub → Bool) (old : List (List Sub)) (own : List Sub) (rest : List (List Sub)) (all : List Sub) (o : Option Sub) → old ≡ own ∷ rest → o ≡ find p own → is_some o ≡ false → find p (joined old) ≡ find p all → find p (joined rest) ≡ find p all
-unfolding joined
-next-left p old own rest all o at is none left = (find-append p own (joined rest) o is).1 none ∙ ap (λ l. find p (joined l)) (sym at) ∙ left
+pub next-left : (p : Sub → Bool) (old : List (List Sub)) (own : List Sub) (rest : List (List Sub)) (all : List Sub) (o : Option Sub) → old ≡ own ∷ rest → o ≡ find p own → is_some o ≡ false → find p (all_units old) ≡ find p all → find p (all_units rest) ≡ find p all
+unfolding all_units
+next-left p old own rest all o at is none left = (find-append p own (all_units rest) o is).1 none ∙ ap (λ l. find p (all_units l)) (sym at) ∙ left
 
-pub next-found : (p : Sub → Bool) (old : List (List Sub)) (own : List Sub) (rest : List (List Sub)) (all : List Sub) (o : Option Sub) → old ≡ own ∷ rest → o ≡ find p own → is_some o ≡ true → find p (joined old) ≡ find p all → o ≡ find p all
-unfolding joined
-next-found p old own rest all o at is some left = (find-append p own (joined rest) o is).0 some ∙ ap (λ l. find p (joined l)) (sym at) ∙ left
+pub next-found : (p : Sub → Bool) (old : List (List Sub)) (own : List Sub) (rest : List (List Sub)) (all : List Sub) (o : Option Sub) → old ≡ own ∷ rest → o ≡ find p own → is_some o ≡ true → find p (all_units old) ≡ find p all → o ≡ find p all
+unfolding all_units
+next-found p old own rest all o at is some left = (find-append p own (all_units rest) o is).0 some ∙ ap (λ l. find p (all_units l)) (sym at) ∙ left
 
-pub next-none : (p : Sub → Bool) (old : List (List Sub)) (all : List Sub) → old ≡ [] → find p (joined old) ≡ find p all → None ≡ find p all
-unfolding joined
-next-none p old all at left = ap (λ l. find p (joined l)) (sym at) ∙ left
+pub next-none : (p : Sub → Bool) (old : List (List Sub)) (all : List Sub) → old ≡ [] → find p (all_units old) ≡ find p all → None ≡ find p all
+unfolding all_units
+next-none p old all at left = ap (λ l. find p (all_units l)) (sym at) ∙ left

@@ -30,6 +30,6 @@ count_in None = 0
 count_in (Some own) = length own
 
 -- the units of some tokens, one behind the other
-unfoldable pub joined : List (List Sub) → List Sub
-joined [] = []
-joined (own ∷ rest) = own ++ joined rest
+unfoldable pub all_units : List (List Sub) → List Sub
+all_units [] = []
+all_units (own ∷ rest) = own ++ all_units rest

@@ -21,7 +21,7 @@ use Rattle.event_cell.specs.EventWord.{word_of}
 use Rattle.event_cell.specs.Ends.{SignallerEnd}
 use Rattle.token_table.specs.declared.record.NotThere.{NotThere}
 use Rattle.token_table.specs.declared.record.Mark.{Mark}
-use Rattle.token_table.specs.Records.{Records, record_at, request_at, changed, ended_record, without_record, mark_of_end, mark_of_record, mark_at, done_by, done_of, done_at, word_for, IsShown, AreShown}
+use Rattle.token_table.specs.Records.{Records, record_at, request_at, changed, ended_record, without_record, mark_of_end, mark_of_record, mark_at, done_by, done_or_fault, done_at, word_for, IsShown, AreShown}
 use Rattle.token_table.proofs.RecordsLemmas.{at-set, at-push}
 use Rattle.token_table.specs.Index.{slot_under, slot_of, records_of, IsIndexed}
 
@@ -305,13 +305,13 @@ ended-is status index slab given n key r e s told view is at has =
 -- what is handed out
 pub done-none : (s : Records) (n : ℕ) (r : Record) → record_at s n ≡ Some r → r.ended ≡ None → Err NotThere.Outstanding ≡ done_at s n
 unfolding done_at
-done-none s n r at none = sym (ap done_of at ∙ ap (λ end. done_by end r.request.buffer) none)
+done-none s n r at none = sym (ap done_or_fault at ∙ ap (λ end. done_by end r.request.buffer) none)
 
 pub done-some : (s : Records) (slab : Slab Record) (n key : ℕ) (r out : Record) (status : Status) → record_at s n ≡ Some r → get slab key ≡ Some r → get slab key ≡ Some out → r.ended ≡ Some status → Ok (record { status = status; buffer = out.request.buffer }) ≡ done_at s n
 unfolding done_at
 done-some s slab n key r out status at has handed end =
     let same : r ≡ out = same-some r out (sym has ∙ handed) in
-    ap (λ (x : Record). done_by (Some status) x.request.buffer) (sym same) ∙ sym (ap done_of at ∙ ap (λ e. done_by e r.request.buffer) end)
+    ap (λ (x : Record). done_by (Some status) x.request.buffer) (sym same) ∙ sym (ap done_or_fault at ∙ ap (λ e. done_by e r.request.buffer) end)
 
 -- a value that was put under a vacant key and removed again
 pub restored : (before mid after : Slab Record) (key : ℕ) (slot : Option Record) → get before key ≡ None → Updates before mid key slot → Updates mid after key None → (k : ℕ) → get after k ≡ get before k

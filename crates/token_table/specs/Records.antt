@@ -67,13 +67,13 @@ abbrev pub done_by : Option Status → List ℕ → Result Done NotThere
 done_by None buffer = Err NotThere.Outstanding
 done_by (Some status) buffer = Ok (record { status = status; buffer = buffer })
 
-abbrev pub done_of : Option Record → Result Done NotThere
-done_of None = Err NotThere.Unknown
-done_of (Some r) = done_by r.ended r.request.buffer
+abbrev pub done_or_fault : Option Record → Result Done NotThere
+done_or_fault None = Err NotThere.Unknown
+done_or_fault (Some r) = done_by r.ended r.request.buffer
 
 -- what is handed out of the request with this number
 unfoldable pub done_at : Records → ℕ → Result Done NotThere
-done_at s n = done_of (record_at s n)
+done_at s n = done_or_fault (record_at s n)
 
 -- the word of an event whose request stands so: 0 until it ended
 unfoldable pub word_for : Option Status → ℕ

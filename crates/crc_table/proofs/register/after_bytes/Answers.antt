@@ -1,10 +1,10 @@
 use Rattle.std.proofs.Common.{refl, rules}
-use Rattle.crc_table.specs.Registers.{after}
+use Rattle.crc_table.specs.Registers.{register_after}
 use Rattle.crc_table.proofs.LookUps.{after-take}
 use Rattle.crc_table.proofs.register.after_bytes.Goals as goal
 
 pub loop-byte-init : goal.loop-byte-init
-unfolding after
+unfolding register_after
 loop-byte-init c = refl
 
 pub loop-byte-preserved : goal.loop-byte-preserved

@@ -1,10 +1,10 @@
 use Rattle.std.proofs.Common.{refl, ◌∙◌}
-use Rattle.crc_table.specs.Registers.{after}
+use Rattle.crc_table.specs.Registers.{register_after}
 use Rattle.crc_table.proofs.LookUps.{after-eights}
 use Rattle.crc_table.proofs.register.after_eights.Goals as goal
 
 pub loop-eight-init : goal.loop-eight-init
-unfolding after
+unfolding register_after
 loop-eight-init c = refl
 
 pub loop-eight-preserved : goal.loop-eight-preserved

@@ -5,14 +5,14 @@ use Rattle.std.proofs.Math.Seq.{take-append_seam}
 use Rattle.std.proofs.lemmas.List.Sorted.{All-permutation, IsNonDecreasingBy-from_sort_by_key}
 use Rattle.gpt_headers.specs.declared.entry.GptEntry.{GptEntry}
 use Rattle.gpt_headers.specs.declared.spans.Span.{Span}
-use Rattle.gpt_headers.specs.Spans.{spans_of}
+use Rattle.gpt_headers.specs.Spans.{entry_spans}
 use Rattle.gpt_headers.proofs.SpanLists.{IsAmong, lone_noted, spans_among}
 use Rattle.gpt_headers.proofs.spans.lone_entries.Goals as goal
 
 -- what holds of the spans holds of them in order
-sorted_among : (entries : List GptEntry) (spans sorted : List Span) → spans ≡ spans_of entries → IsPermutation spans sorted → All (λ s. IsAmong 0 (0 + length entries) s) sorted
+sorted_among : (entries : List GptEntry) (spans sorted : List Span) → spans ≡ entry_spans entries → IsPermutation spans sorted → All (λ s. IsAmong 0 (0 + length entries) s) sorted
 sorted_among entries spans sorted is moved =
-    All-permutation (λ s. IsAmong 0 (0 + length entries) s) (spans_of entries) sorted (rw is at moved) (spans_among 0 entries)
+    All-permutation (λ s. IsAmong 0 (0 + length entries) s) (entry_spans entries) sorted (rw is at moved) (spans_among 0 entries)
 
 pub sweep-requires-clause-sorted : goal.sweep-requires-clause-sorted
 sweep-requires-clause-sorted c =

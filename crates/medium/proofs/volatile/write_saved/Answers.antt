@@ -1,7 +1,7 @@
 use Rattle.std.proofs.Common.{◌≡◌, ℕ, ◌+◌, ◌<◌, ◌≤◌, ◌/◌, IsSome, length, sym, subst, ap, ◌∙◌}
 use Rattle.medium.proofs.Sizes.{count-is}
 use Rattle.medium.proofs.Written.{written-after}
-use Rattle.medium.specs.BlockMap.{block_at}
+use Rattle.medium.specs.BlockMap.{held_block}
 use Rattle.medium.specs.Cached.{HoldsOthers, restored}
 use Rattle.medium.proofs.volatile.write_saved.Goals as goal
 
@@ -12,8 +12,8 @@ returns-then-cached-clause-written g c =
     let shaped = g.met.M.Medium.shaped c.args.inner.now in
     let count : length c.args.bytes.now / c.from.result ≡ t.count = ap (λ (s : ℕ). length c.args.bytes.now / s) (c.from.ensures ∙ c.size.ensures) ∙ count-is (length c.args.bytes.now) t.count d.size shaped.size t.whole in
     let saves = c.in_ok-save.ensures in
-    written-after d (g.M.Medium.device c.save.new.inner) (g.M.Medium.device c.write_blocks.new.self) c.args.cached (block_at c.args.saved.now) (block_at c.save.new.saved) c.args.lba c.args.bytes.now c.write_blocks.result c.if-cached.true shaped t saves.tried
-    (subst (λ (n : ℕ). (b : ℕ) → c.args.lba ≤ b → b < c.args.lba + n → IsSome (block_at c.save.new.saved b)) count saves.held)
-    (subst (λ (n : ℕ). HoldsOthers c.args.lba (c.args.lba + n) (block_at c.args.saved.now) (block_at c.save.new.saved)) count saves.others)
-    (subst (λ (s : ℕ). restored (block_at c.save.new.saved) s d.blocks d.now ≡ restored (block_at c.args.saved.now) s d.blocks d.now) c.requires.size saves.restored)
+    written-after d (g.M.Medium.device c.save.new.inner) (g.M.Medium.device c.write_blocks.new.self) c.args.cached (held_block c.args.saved.now) (held_block c.save.new.saved) c.args.lba c.args.bytes.now c.write_blocks.result c.if-cached.true shaped t saves.tried
+    (subst (λ (n : ℕ). (b : ℕ) → c.args.lba ≤ b → b < c.args.lba + n → IsSome (held_block c.save.new.saved b)) count saves.held)
+    (subst (λ (n : ℕ). HoldsOthers c.args.lba (c.args.lba + n) (held_block c.args.saved.now) (held_block c.save.new.saved)) count saves.others)
+    (subst (λ (s : ℕ). restored (held_block c.save.new.saved) s d.blocks d.now ≡ restored (held_block c.args.saved.now) s d.blocks d.now) c.requires.size saves.restored)
     c.write_blocks.ensures.written

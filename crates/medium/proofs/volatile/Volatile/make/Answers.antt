@@ -1,6 +1,6 @@
 use Rattle.std.proofs.Common.{◌≡◌, ℕ, ◌*◌, ◌<◌, Option, None, Some, IsSome, List, refl, sym, ap, subst, ◌∙◌, inl, inr, arith}
 use Rattle.medium.proofs.Restored.{IsCache, cache-none, cache-after, kept-none, restored-none, restored-same, same-from}
-use Rattle.medium.specs.BlockMap.{block_at}
+use Rattle.medium.specs.BlockMap.{held_block}
 use Rattle.medium.specs.Device.{Device, IsSame, IsTold}
 use Rattle.medium.proofs.volatile.Volatile.make.Goals as goal
 
@@ -14,4 +14,4 @@ pub returns-clause-device : goal.returns-clause-device
 returns-clause-device g c =
     let d = g.M.Medium.device c.args.inner in
     let shaped = g.met.M.Medium.shaped c.args.inner in
-    ap (λ (kept : Option (List ℕ)). record { first = d.first; now = d.now; kept = kept; size = d.size; blocks = d.blocks; cached = c.args.cached; faults = d.faults; calls = 0; failed = 0 }) (kept-none c.args.cached (block_at c.new.result) d.size d.blocks d.now d.kept c.new.ensures.blocks shaped.told_now (shaped.uncached c.requires))
+    ap (λ (kept : Option (List ℕ)). record { first = d.first; now = d.now; kept = kept; size = d.size; blocks = d.blocks; cached = c.args.cached; faults = d.faults; calls = 0; failed = 0 }) (kept-none c.args.cached (held_block c.new.result) d.size d.blocks d.now d.kept c.new.ensures.blocks shaped.told_now (shaped.uncached c.requires))

@@ -3,7 +3,7 @@ use Rattle.std.specs.Result.{is_ok}
 use Rattle.medium.specs.Counts.{adds}
 use Rattle.medium.specs.declared.block_failed.BlockFailed.{BlockFailed}
 use Rattle.medium.proofs.Restored.{IsCache, cache-none, cache-after, kept-none, restored-none, restored-same, same-from}
-use Rattle.medium.specs.BlockMap.{block_at}
+use Rattle.medium.specs.BlockMap.{held_block}
 use Rattle.medium.specs.Device.{Device, IsSame, IsTold}
 use Rattle.medium.proofs.volatile.VolatileMedium.sync.Goals as goal
 
@@ -49,7 +49,7 @@ returns-then-is_ok-clause-synced g c =
         quiet = synced.command.quiet;
       };
       now = synced.now;
-      kept = on-ok c.sync-answer.result (kept-none self.cached (block_at c.let_all_go.new.self) d'.size d'.blocks d'.now d.now c.let_all_go.ensures.blocks told (sym synced.now));
+      kept = on-ok c.sync-answer.result (kept-none self.cached (held_block c.let_all_go.new.self) d'.size d'.blocks d'.now d.now c.let_all_go.ensures.blocks told (sym synced.now));
       left = not-err _ c.sync-answer.result (sym c.is_ok.ensures.value ∙ c.if-is_ok.true);
       done = synced.done;
     }

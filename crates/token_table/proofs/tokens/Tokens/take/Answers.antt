@@ -1,11 +1,11 @@
 use Rattle.std.proofs.Common.{sym, ap}
-use Rattle.token_table.specs.Records.{done_of, done_at}
+use Rattle.token_table.specs.Records.{done_or_fault, done_at}
 use Rattle.token_table.proofs.Index.{record-none, record-is, done-none, done-some, without-is, are-shown, view-shown}
 use Rattle.token_table.proofs.tokens.Tokens.take.Goals as goal
 
 pub returns-in_default-clause-answer : goal.returns-in_default-clause-answer
 unfolding done_at
-returns-in_default-clause-answer c = ap done_of (record-none c.self.inside.index c.self.inside.records c.self.inside.given c.args.number c.args.self.now c.self.view_is c.self.invariant c.in_default.ensures.value)
+returns-in_default-clause-answer c = ap done_or_fault (record-none c.self.inside.index c.self.inside.records c.self.inside.given c.args.number c.args.self.now c.self.view_is c.self.invariant c.in_default.ensures.value)
 
 pub returns-in_default-clause-shown : goal.returns-in_default-clause-shown
 returns-in_default-clause-shown c = view-shown c.self.inside.index c.self.inside.records c.self.inside.given c.args.self.now c.self.view_is c.self.invariant
