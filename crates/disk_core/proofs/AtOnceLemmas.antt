@@ -37,11 +37,7 @@ use Rattle.disk_core.specs.Calls.{low_in, high_in, Revokes, LendsFirst, StepSays
 use Rattle.disk_core.specs.Turns.{IsIdle, merged, StoresAtOnce}
 use Rattle.disk_core.proofs.TurnLemmas.{none-held}
 use Rattle.disk_core.proofs.IdleLemmas.{idle-stays, gate_for, lent-gate, lent-out, lent-size, back-again}
-
--- tests that are alike find the same
-find-alike : {X : Type 0} (test other : X → Bool) (xs : List X) → ((x : X) → test x ≡ other x) → find test xs ≡ find other xs
-find-alike test other [] same = refl
-find-alike test other (x ∷ xs) same = rw (same x, find-alike test other xs same) refl
+use Rattle.disk_core.proofs.Found.{find-alike}
 
 -- a part that was to be fetched is to be stored, once it was fetched
 fetched-command : (H : List Entry) (t : ℕ) (kind : Kind) (task : Task) (b : ℕ) → task_command H t kind task ≡ Fetch b → task_command (Done t (Fetch b) ∷ H) t kind task ≡ Store b
@@ -71,7 +67,7 @@ unfolding first_runnable
 store-turn S H todo b is legal legal' none first fetch =
     let may : MayCommand S H todo.token (Fetch b) = subst (λ c. MayCommand S H todo.token c) fetch (runnable-may S H true todo is legal first) in
     let alike : find (is_runnable (λ c. false) true) (pending S H) ≡ Some todo =
-    find-alike (is_runnable (λ c. false) true) (is_runnable (is_held S H) true) (pending S H) (λ d. free-runnable (λ c. false) d (λ c. refl) ∙ sym (free-runnable (is_held S H) d none)) ∙ first in
+    find-alike (is_runnable (λ c. false) true) (is_runnable (is_held S H) true) (pending S H) (λ i d there. free-runnable (λ c. false) d (λ c. refl) ∙ sym (free-runnable (is_held S H) d none)) ∙ first in
     let here : first_runnable (λ c. false) true S (Done todo.token (Fetch b) ∷ H) ≡ Some todo = ap (find (is_runnable (λ c. false) true)) (pending-fetch S H todo.token b is legal may) ∙ alike in
     next-runnable S (Done todo.token (Fetch b) ∷ H) (λ c. false) is legal' (λ c. refl) ∙ (ap (option_map (turn_of_todo (Done todo.token (Fetch b) ∷ H))) here
     ∙ ap (λ (c : Command). Some (record { token = todo.token; command = c })) (fetched-command H todo.token todo.kind todo.task b fetch))

@@ -1,7 +1,7 @@
 -- An entry that ends tokens has been added, and none of them has ended in the parts.
 use Rattle.std.proofs.Common.{◌≡◌, ◌≢◌, ℕ, zero, suc, ◌+◌, ◌*◌, ◌<◌, ◌≤◌, inl, inr, Bool, true, false, List, ◌∷◌, length, map, Option, None, Some, refl, sym, ◌∙◌, ap, subst, arith}
 use Rattle.std.specs.Prelude.{filter, is_none, vec_capacity}
-use Rattle.std.proofs.lemmas.Bool.{cases_Bool}
+use Rattle.std.proofs.lemmas.Bool.{cases_Bool, true≢false}
 use Rattle.efi_status.specs.declared.Status.{Status}
 use Rattle.medium.specs.Device.{AreToldAt}
 use Rattle.history.specs.declared.entry.Command.TheVariants.{Fetch}
@@ -40,7 +40,6 @@ use Rattle.disk_core.proofs.HistoryCopies.{copy-stays}
 use Rattle.disk_core.proofs.HistoryOwed.{units-few, open-kept}
 use Rattle.disk_core.proofs.Links.{AreClosed}
 use Rattle.disk_core.proofs.Still.{left-done}
-use Rattle.disk_core.proofs.Plain.{clash}
 
 -- an entry that ends tokens and does nothing else to them
 pub record IsEnding (S : Setup) (H : List Entry) (e : Entry) : Type 0 where
@@ -55,14 +54,14 @@ pub record IsEnding (S : Setup) (H : List Entry) (e : Entry) : Type 0 where
 
 read-undone : (S : Setup) (H : List Entry) (e : Entry) (t x : ℕ) → is_done e ≡ false → bytes_read S (e ∷ H) t x ≡ bytes_read S H t x
 unfolding bytes_read
-read-undone S H (Done u c) t x undone = absurd (clash undone)
+read-undone S H (Done u c) t x undone = absurd (true≢false undone)
 read-undone S H e t x undone = refl
 
 fetches-rise : (H : List Entry) (e : Entry) → fetches H ≤ fetches (e ∷ H)
 fetches-rise H e = elim (cases_Bool (is_fetch_entry e)) [ inl is ↦ omega (arith, fetches-more H e is) | inr isnt ↦ omega (arith, fetches-same H e isnt) ]
 
 not-done : (e : Entry) (t b : ℕ) → is_done e ≡ false → e ≢ Done t (Fetch b)
-not-done e t b undone same = clash (sym (ap is_done same) ∙ undone)
+not-done e t b undone same = true≢false (sym (ap is_done same) ∙ undone)
 
 owed-alike : (S : Setup) (H H' : List Entry) (t : ℕ) (o : Option Request) (m : Option Status) (collected : Bool) → done_commands H' t ≡ done_commands H t → owed_by S H' t o m collected ≡ owed_by S H t o m collected
 owed-alike S H H' t None m collected same = refl

@@ -131,8 +131,8 @@ records-ended S H marks t status records ended same far = record {
 }
 
 -- what was read stays, where the command is no get
-read-same : (S : Setup) (H : List Entry) (t u x : ℕ) (c : Command) → is_get c ≡ false → bytes_read S (Done t c ∷ H) u x ≡ bytes_read S H u x
-read-same S H t u x c quiet = elim (cases_eq t u) [
+read-other : (S : Setup) (H : List Entry) (t u x : ℕ) (c : Command) → is_get c ≡ false → bytes_read S (Done t c ∷ H) u x ≡ bytes_read S H u x
+read-other S H t u x c quiet = elim (cases_eq t u) [
   | inr other ↦ bytes_read-other S H (Done t c) u x (done-concerns H t u c other)
   | inl same ↦ subst (λ v. bytes_read S (Done t c ∷ H) v x ≡ bytes_read S H v x) same (bytes_read-kept S H t x c (and_left (is_get c) (lies_in S (first_block c) (block_count S c) x) quiet))
 ]
@@ -149,6 +149,6 @@ buffer-same S H e t q buffer same is = record {
 pub kept-done : (S : Setup) (H : List Entry) (t : ℕ) (c : Command) (kept : List (Option Kept)) → is_get c ≡ false → KeptFollow S H kept → KeptFollow S (Done t c ∷ H) kept
 kept-done S H t c kept quiet follow = record {
   counted = follow.counted ∙ sym (accepted-same H (Done t c) refl);
-  there = λ u k is. (let old = follow.there u k is in (collected-same H (Done t c) u refl ∙ old.0, (old.1.0, buffer-same S H (Done t c) u old.1.0 k.buffer (λ x. read-same S H t u x c quiet) old.1.1)));
+  there = λ u k is. (let old = follow.there u k is in (collected-same H (Done t c) u refl ∙ old.0, (old.1.0, buffer-same S H (Done t c) u old.1.0 k.buffer (λ x. read-other S H t u x c quiet) old.1.1)));
   gone = λ u lt none. collected-same H (Done t c) u refl ∙ follow.gone u (subst (λ n. u < n) (accepted-same H (Done t c) refl) lt) none;
 }

@@ -8,12 +8,12 @@ use Rattle.history.specs.Eras.{is_command, is_fault}
 use Rattle.history_laws.proofs.ContentLemmas.{is_flush_entry, contents-same, kept-same, piece-none}
 use Rattle.history_laws.proofs.EraLemmas.{era_count-same}
 use Rattle.disk_core.specs.Facts.{MeetsEra}
-use Rattle.disk_core.proofs.Plain.{clash}
+use Rattle.std.proofs.lemmas.Bool.{true≢false}
 
 flush-none : (e : Entry) → is_command e ≡ false → is_flush_entry e ≡ false
 flush-none (Accept tag view asked bytes) still = refl
 flush-none (Refuse tag view asked media_id status) still = refl
-flush-none (Done t c) still = absurd (clash still)
+flush-none (Done t c) still = absurd (true≢false still)
 flush-none (Fault t c done) still = refl
 flush-none (Collect tag t) still = refl
 flush-none (Cancel tag view) still = refl

@@ -3,7 +3,7 @@ use Rattle.std.proofs.Common.{◌≡◌, ℕ, suc, ◌+◌, ◌*◌, ◌/◌, �
 use Rattle.std.specs.Prelude.{nat_eq, nat_lt, vec_capacity, if◌then◌else◌, find}
 use Rattle.std.specs.Option.{option_map}
 use Rattle.std.proofs.Math.Nat.{le-div_iff_mul-le, div-mul-le_self, mul-le-mul_right}
-use Rattle.std.proofs.lemmas.Bool.{cases_Bool, eqb-true, or_cases, not_from_false, not-true, false_from_ne_true}
+use Rattle.std.proofs.lemmas.Bool.{cases_Bool, eqb-true, or_cases, not_from_false, not-true, false_from_ne_true, true≢false}
 use Rattle.std.specs.Prelude.{◌==◌}
 use Rattle.std.specs.Cmp.{both_ways}
 use Rattle.medium.specs.Device.{Device}
@@ -37,12 +37,11 @@ use Rattle.disk_core.specs.Calls.{first_of}
 use Rattle.disk_core.specs.Moves.{IsDisk}
 use Rattle.disk_core.proofs.Gated.{held-block, unheld-block}
 use Rattle.disk_core.proofs.Upcoming.{legal-in}
-use Rattle.disk_core.proofs.Plain.{clash}
 
 -- a fetched group has its ticket
 pub fetched-ticket : (H : List Entry) (t b : ℕ) → was_fetched H t b ≡ true → (k : ℕ) × (ticket_of H t b ≡ Some k)
 unfolding has_done done_commands ticket_of
-fetched-ticket [] t b is = absurd (clash (sym is))
+fetched-ticket [] t b is = absurd (true≢false (sym is))
 fetched-ticket (Done u c ∷ H) t b is = elim (cases_Bool (nat_eq u t)) [
   | inr other ↦ (let rest = fetched-ticket H t b (rw other at is) in (rest.0, rw other rest.1))
   | inl same ↦
@@ -80,7 +79,7 @@ whole-runs per is = by (or_cases (per == 1) _ is)
     by (inl e) = at 1 64 refl e
     by (inr e) = second (or_cases (per == 2) ((per == 4) || (per == 8)) e)
 
-find-alike : (p q : Todo → Bool) (xs : List Todo) → ((i : ℕ) (x : Todo) → slice_get xs i ≡ Some x → p x ≡ q x) → find p xs ≡ find q xs
+pub find-alike : {X : Type 0} (p q : X → Bool) (xs : List X) → ((i : ℕ) (x : X) → slice_get xs i ≡ Some x → p x ≡ q x) → find p xs ≡ find q xs
 find-alike p q [] same = refl
 find-alike p q (x ∷ xs) same = ap (λ v. cond v (Some x) (find p xs)) (same 0 x refl) ∙ ap (λ rest. cond (q x) (Some x) rest) (find-alike p q xs (λ i y at. same (suc i) y at))
 
@@ -111,7 +110,7 @@ module _ (S : Setup) (H : List Entry) (gates : Gates) (holders : List Holder) (p
           let start : q * per_of S ≤ at / per_of S * per_of S = mul-le-mul_right (per_of S) low in
           let under = div-mul-le_self at (per_of S) in
           let not_here = all_from-each (λ x. not (is_block_held gates.held x)) b n (group_start S.geometry at) none (omega arith) (omega arith) in
-          clash (sym (start-held at held) ∙ not-true (is_block_held gates.held (group_start S.geometry at)) not_here)
+          true≢false (sym (start-held at held) ∙ not-true (is_block_held gates.held (group_start S.geometry at)) not_here)
 
   unit-agrees : IsPer (per_of S) → (from until : ℕ) (u : Span) → IsUnit S.geometry from until u → is_clear (is_block_held gates.held) free u ≡ is_clear (is_held S H) free u
   unit-agrees per from until u unit = by u.whole unit.kind

@@ -1,6 +1,6 @@
 -- Each call lets a disk go on, and what goes on twice goes on.
 use Rattle.std.proofs.Common.{◌≡◌, ℕ, zero, suc, ◌+◌, ◌-◌, ◌*◌, ◌<◌, ◌≤◌, min, max, inl, inr, true, false, List, [], ◌∷◌, ◌++◌, length, slice_get, Option, None, Some, Ok, Err, refl, sym, ◌∙◌, ap, subst, arith}
-use Rattle.std.proofs.lemmas.Bool.{cases_eq, cases_lt, eq-eqb, le-leb, ltb-false, or_parts}
+use Rattle.std.proofs.lemmas.Bool.{cases_eq, cases_lt, eq-eqb, le-leb, ltb-false, or_parts, true≢false}
 use Rattle.std.proofs.lemmas.List.{append_assoc}
 use Rattle.std.proofs.lemmas.Option.{same_Some}
 use Rattle.byte_lists.specs.Patching.{patch}
@@ -31,7 +31,6 @@ use Rattle.disk_core.specs.GoingOn.{IsBufferRest, StaysKept, GoesOn, SubmitGoesO
 use Rattle.disk_core.proofs.Accepted.{kept-last}
 use Rattle.disk_core.proofs.Buffered.{at-set, at-other}
 use Rattle.disk_core.proofs.Kept.{kept-others}
-use Rattle.disk_core.proofs.Plain.{clash}
 
 some-kept : (a b : Kept) → Some a ≡ Some b → a ≡ b
 some-kept a b e = cc
@@ -202,7 +201,7 @@ collect_goes_on old new tag number (Ok done) (q, was, collects) =
     let is = collects.new_is in
     let entries : new.entries ≡ Collect tag number ∷ old.entries = ap (λ (s : State). s.entries) is in
     adds-on old new (Collect tag number) (ap (λ (s : State). s.setup) is) entries (λ t had uncollected there. elim (cases_eq number t) [
-      | inl same ↦ absurd (clash (sym (subst (λ u. was_collected (Collect tag number ∷ old.entries) u ≡ true) same (collected-collect old.entries tag number)) ∙ sym (ap (λ h. was_collected h t) entries) ∙ uncollected))
+      | inl same ↦ absurd (true≢false (sym (subst (λ u. was_collected (Collect tag number ∷ old.entries) u ≡ true) same (collected-collect old.entries tag number)) ∙ sym (ap (λ h. was_collected h t) entries) ∙ uncollected))
       | inr other ↦ ap (λ (s : State). kept_at s.kept t) is ∙ kept-others old.kept number t other ∙ there
     ])
 collect_goes_on old new tag number (Err not_there.Outstanding) says = stays-on old new says.2

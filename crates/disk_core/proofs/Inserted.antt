@@ -1,7 +1,7 @@
 -- The next medium is put in.
 use Rattle.std.proofs.Common.{◌≡◌, ◌≢◌, ℕ, suc, ◌+◌, ◌<◌, ◌≤◌, Bool, true, false, List, ◌∷◌, length, map, Option, refl, sym, ◌∙◌, ap, subst, arith, Result, Ok, Err}
 use Rattle.std.specs.Prelude.{vec_capacity, nat_lt, if◌then◌else◌}
-use Rattle.std.proofs.lemmas.Bool.{eq-eqb, ltb-true, ltb-false}
+use Rattle.std.proofs.lemmas.Bool.{eq-eqb, ltb-true, ltb-false, true≢false}
 use Rattle.drive.specs.declared.answers.InsertFault.{InsertFault}
 use Rattle.drive.specs.declared.answers.InsertFault.TheVariants.{Occupied, NoSpare}
 use Rattle.std.proofs.lemmas.List.{length-map}
@@ -38,13 +38,12 @@ use Rattle.history.specs.Room.{owed_entries}
 use Rattle.history_laws.proofs.TokenLemmas.{collected-same}
 use Rattle.disk_core.proofs.Following.{era-still}
 use Rattle.disk_core.proofs.Still.{left-done, buffer-kept}
-use Rattle.disk_core.proofs.Plain.{clash}
 
 -- where no medium is in no token is open
-pub none-open : (S : Setup) (H : List Entry) (t : ℕ) → IsLegal S H → is_present H ≡ false → IsOutstanding S H t → ⊥
-none-open S H t legal out open_now =
+pub absent-open : (S : Setup) (H : List Entry) (t : ℕ) → IsLegal S H → is_present H ≡ false → IsOutstanding S H t → ⊥
+absent-open S H t legal out open_now =
     let r = request-some H t open_now.token in
-    clash (sym (open-media S H t r.0 legal open_now r.1).0 ∙ out)
+    true≢false (sym (open-media S H t r.0 legal open_now r.1).0 ∙ out)
 
 mark-insert : (S : Setup) (H : List Entry) (tag k t : ℕ) → mark_of S (Insert tag k ∷ H) t ≡ mark_of S H t
 unfolding mark_of ending
@@ -55,10 +54,10 @@ open-insert S H tag k t open_now = record { token = subst (λ n. t < n) (accepte
 
 module _ (S : Setup) (H : List Entry) (tag k : ℕ) (setup : IsSetup S) (legal : IsLegal S H) (out : is_present H ≡ false) where
   unheld : (t b j : ℕ) → HoldsBy S H t b j → ⊥
-  unheld t b j holds = none-open S H t legal out holds.holds.outstanding
+  unheld t b j holds = absent-open S H t legal out holds.holds.outstanding
 
   unheld-now : (t b j : ℕ) → HoldsBy S (Insert tag k ∷ H) t b j → ⊥
-  unheld-now t b j holds = none-open S H t legal out (open-insert S H tag k t holds.holds.outstanding)
+  unheld-now t b j holds = absent-open S H t legal out (open-insert S H tag k t holds.holds.outstanding)
 
   gates-insert : (gates : Gates) → GatesFollow S H gates → GatesFollow S (Insert tag k ∷ H) gates
   gates-insert gates follow = record {
@@ -106,7 +105,7 @@ module _ (S : Setup) (H : List Entry) (tag k : ℕ) (setup : IsSetup S) (legal :
 present-again : (S : Setup) (H : List Entry) (tag k : ℕ) → IsLegal S H → is_present H ≡ false → is_present (Insert tag k ∷ H) ≡ true
 present-again S H tag k legal out =
     let counts = inserts-after-ejects S H legal in
-    let apart : ejects H ≢ inserts H = (λ same. clash (sym (eq-eqb (ejects H) (inserts H) same) ∙ out)) in
+    let apart : ejects H ≢ inserts H = (λ same. true≢false (sym (eq-eqb (ejects H) (inserts H) same) ∙ out)) in
     let more : ejects H ≡ inserts H + 1 = (let low = counts.0 in let high = counts.1 in omega (arith, apart)) in
     eq-eqb (ejects (Insert tag k ∷ H)) (inserts (Insert tag k ∷ H)) (ejects-same H (Insert tag k) refl ∙ more ∙ sym (inserts-more H (Insert tag k) refl))
 
@@ -150,7 +149,7 @@ module _ {M : Type 0} (device : M → Device) (prepared : M → ℕ → Type 0) 
         queue = sound.queue ∙ ap (map (sub_of (size_of S))) (sym (pending-insert S H tag k));
         holders = holders-insert S H tag k sound.geometry legal absent c.gates c.holders.items (vec_capacity c.holders) sound.holders;
         room = room;
-        ready = λ m is t b q open_now named changes low high. absurd (none-open S H t legal absent (open-insert S H tag k t open_now));
+        ready = λ m is t b q open_now named changes low high. absurd (absent-open S H t legal absent (open-insert S H tag k t open_now));
         fitted = record {
           blocks = sound.fitted.blocks;
           accepts = sound.fitted.accepts ∙ sym (accepted-same H e refl);
@@ -198,8 +197,8 @@ insertion-next drive k is = by drive.present (nat_lt drive.media_id (length driv
     is_ok (Err fault) = false
 
     by : (p b : Bool) → drive.present ≡ p → nat_lt drive.media_id (length drive.media) ≡ b → Ok k ≡ (if p then Err Occupied else if b then Ok (drive.media_id + 1) else Err NoSpare) → HasNext drive k
-    by true b out lt is = absurd (clash (ap is_ok is))
-    by false false out lt is = absurd (clash (ap is_ok is))
+    by true b out lt is = absurd (true≢false (ap is_ok is))
+    by false false out lt is = absurd (true≢false (ap is_ok is))
     by false true out lt is = record { was_out = out; below = ltb-true drive.media_id (length drive.media) lt; is_next = ap id_in is }
 
 -- and what one that was refused says
@@ -223,9 +222,9 @@ insertion-refused drive fault is = by drive.present (nat_lt drive.media_id (leng
     is_occupied NoSpare = false
 
     by : (p b : Bool) → drive.present ≡ p → nat_lt drive.media_id (length drive.media) ≡ b → Err fault ≡ (if p then Err Occupied else if b then Ok (drive.media_id + 1) else Err NoSpare) → IsRefused drive fault
-    by true b out lt is = record { occupied = λ e. out; no_spare = λ e. absurd (clash (sym (ap is_occupied (ap fault_in is)) ∙ ap is_occupied e)) }
-    by false true out lt is = absurd (clash (sym (ap is_ok is)))
-    by false false out lt is = record { occupied = λ e. absurd (clash (sym (ap is_occupied e) ∙ ap is_occupied (ap fault_in is))); no_spare = λ e. (out, ltb-false drive.media_id (length drive.media) lt) }
+    by true b out lt is = record { occupied = λ e. out; no_spare = λ e. absurd (true≢false (sym (ap is_occupied (ap fault_in is)) ∙ ap is_occupied e)) }
+    by false true out lt is = absurd (true≢false (sym (ap is_ok is)))
+    by false false out lt is = record { occupied = λ e. absurd (true≢false (sym (ap is_occupied e) ∙ ap is_occupied (ap fault_in is))); no_spare = λ e. (out, ltb-false drive.media_id (length drive.media) lt) }
 
 pub insert-refuses : {M : Type 0} (device : M → Device) (prepared : M → ℕ → Type 0) (drive : DriveState M) (c : Core) (tag : ℕ) (fault : InsertFault) → IsDisk device prepared drive c → Err fault ≡ insertion drive
     → Reaches device prepared drive c drive c (λ s s'. InsertSays s tag (Err fault) s')

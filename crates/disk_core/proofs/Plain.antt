@@ -4,9 +4,6 @@ use Rattle.std.specs.Prelude.{count_by}
 use Rattle.std.proofs.lemmas.Option.{none-some}
 use Rattle.history_laws.proofs.CountLemmas.{count-same}
 
-pub clash : true ≡ false → ⊥
-clash e = cc
-
 pub some-none : {X : Type 0} (m : Option X) (x : X) → m ≡ None → m ≡ Some x → ⊥
 some-none m x none some = none-some x (sym none ∙ some)
 

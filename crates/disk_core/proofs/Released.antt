@@ -4,7 +4,7 @@ use Rattle.std.specs.Prelude.{filter, position, nat_eq, cond, if◌then◌else�
 use Rattle.std.specs.List.{find, position_from}
 use Rattle.std.proofs.lemmas.List.Quantifiers.{position-Some}
 use Rattle.std.proofs.lemmas.Iterator.Adapters.{position_from-zero}
-use Rattle.std.proofs.lemmas.Bool.{cases_Bool, cases_eq, or_cases, or_left, or_right, eqb-true, eq-eqb, ne_eqb}
+use Rattle.std.proofs.lemmas.Bool.{cases_Bool, cases_eq, or_cases, or_left, or_right, eqb-true, eq-eqb, ne_eqb, true≢false}
 use Rattle.index_links.specs.Lists.{is_among, without}
 use Rattle.history_laws.specs.Pending.{Ordered}
 use Rattle.history_laws.proofs.OrderLemmas.{ordered-filter}
@@ -16,7 +16,6 @@ use Rattle.disk_core.specs.Inside.{IsEarlier}
 use Rattle.disk_core.specs.Moves.{without_at, without_ticket_of}
 use Rattle.disk_core.proofs.Late.{without-among, without-less}
 use Rattle.disk_core.proofs.Revoked.{HaveLost, lose-held, left-gate, gate-left, filter-mapped, turned-long, turned-tickets}
-use Rattle.disk_core.proofs.Plain.{clash}
 
 -- ---- the gates from which a work came back, or not
 
@@ -63,7 +62,7 @@ taken-within k s g there j out = elim (or_cases (is_among (without k s.gone) j) 
     | inr other ↦ or_right (is_among s.gone j) (is_lent (gate_of s.held j)) (sym (ap is_lent (turned-other k j false s.held other)) ∙ lent)
     | inl same ↦
         let now = turned-there k false s.held g there in
-        absurd (clash (sym lent ∙ (ap (λ n. is_lent (gate_of (turned k false s.held) n)) (sym same) ∙ ap is_lent now.1 ∙ now.2)))
+        absurd (true≢false (sym lent ∙ (ap (λ n. is_lent (gate_of (turned k false s.held) n)) (sym same) ∙ ap is_lent now.1 ∙ now.2)))
   ]
 ]
 
@@ -136,7 +135,7 @@ left-holder k j t (h ∷ holders) is = elim (cases_Bool (nat_eq k h.ticket)) [
       let later = left-holder k j t holders (rw gone at is) in
       (rw (ne_eqb j h.ticket (λ e. later.1 (eqb-true k h.ticket gone ∙ sym e))) later.0, later.1)
   | inr kept ↦ elim (cases_Bool (nat_eq j h.ticket)) [
-    | inl here ↦ (rw here (rw (kept, here) at is), λ e. clash (sym (eq-eqb k h.ticket (e ∙ eqb-true j h.ticket here)) ∙ kept))
+    | inl here ↦ (rw here (rw (kept, here) at is), λ e. true≢false (sym (eq-eqb k h.ticket (e ∙ eqb-true j h.ticket here)) ∙ kept))
     | inr other ↦ (let later = left-holder k j t holders (rw (kept, other) at is) in (rw other later.0, later.1))
   ]
 ]
@@ -172,7 +171,7 @@ is-released k before lent holders same sound paired rising =
     let lost : HaveLost (λ j. nat_eq k j) lent (releasing lent k) = lose-held k lent same.there.0 same.there.1 in
     let is = without-ticket-is k holders rising in
     let found = λ (j : ℕ) (g : Gate) (there : gate_of (releasing lent k).held j ≡ Some g). left-gate (λ n. nat_eq k n) lent.held j g (subst (λ held. gate_of held j ≡ Some g) lost.held there) in
-    let apart = λ (j : ℕ) (kept : nat_eq k j ≡ false). (λ (e : k ≡ j). clash (sym (eq-eqb k j e) ∙ kept)) in
+    let apart = λ (j : ℕ) (kept : nat_eq k j ≡ false). (λ (e : k ≡ j). true≢false (sym (eq-eqb k j e) ∙ kept)) in
     record {
       size = lost.size ∙ same.size;
       gate = λ j g there. (let f = found j g there in let other = apart j f.1 in (sym (same.alike j other) ∙ f.0, other));

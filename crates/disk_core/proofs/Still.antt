@@ -27,7 +27,7 @@ use Rattle.token_table.specs.declared.record.Record.{Record}
 use Rattle.disk_core.specs.declared.parts.Holder.{Holder}
 use Rattle.disk_core.specs.Facts.{IsBuffer, GatesFollow}
 use Rattle.disk_core.specs.Inside.{DriveFollows, Tracks, HoldersFollow, AreReady}
-use Rattle.disk_core.proofs.Plain.{clash}
+use Rattle.std.proofs.lemmas.Bool.{true≢false}
 
 pub record IsStill (S : Setup) (H : List Entry) (e : Entry) : Type 0 where
   pub setup : IsSetup S
@@ -41,22 +41,22 @@ pub record IsStill (S : Setup) (H : List Entry) (e : Entry) : Type 0 where
   pub unending : (t : ℕ) → ending S H e t ≡ None
 
 no-done : (e : Entry) → is_command e ≡ false → is_done e ≡ false
-no-done (Done t c) still = absurd (clash still)
+no-done (Done t c) still = absurd (true≢false still)
 no-done e still = refl
 
 pub no-fetch : (e : Entry) → is_command e ≡ false → is_fetch_entry e ≡ false
-no-fetch (Done t c) still = absurd (clash still)
-no-fetch (Fault t c done) still = absurd (clash still)
+no-fetch (Done t c) still = absurd (true≢false still)
+no-fetch (Fault t c done) still = absurd (true≢false still)
 no-fetch e still = refl
 
 no-store : (t b : ℕ) (e : Entry) → is_command e ≡ false → is_store_of t b e ≡ false
-no-store t b (Done u c) still = absurd (clash still)
-no-store t b (Fault u c done) still = absurd (clash still)
+no-store t b (Done u c) still = absurd (true≢false still)
+no-store t b (Fault u c done) still = absurd (true≢false still)
 no-store t b e still = refl
 
 read-same : (S : Setup) (H : List Entry) (e : Entry) (t x : ℕ) → is_command e ≡ false → bytes_read S (e ∷ H) t x ≡ bytes_read S H t x
 unfolding bytes_read
-read-same S H (Done u c) t x still = absurd (clash still)
+read-same S H (Done u c) t x still = absurd (true≢false still)
 read-same S H e t x still = refl
 
 pub left-done : (S : Setup) (H : List Entry) (e : Entry) (t : ℕ) (q : Request) → is_done e ≡ false → left_of S (e ∷ H) t q ≡ left_of S H t q
@@ -91,7 +91,7 @@ module _ (S : Setup) (H : List Entry) (e : Entry) (still : IsStill S H e) where
   pub holds-same : (t b k : ℕ) → HoldsBy S (e ∷ H) t b k → HoldsBy S H t b k
   holds-same t b k holds = elim (holds-by-before S H e t b k still.setup still.legal holds) [
     | inl before ↦ before
-    | inr is ↦ absurd (clash (sym (ap is_command is.0) ∙ still.quiet))
+    | inr is ↦ absurd (true≢false (sym (ap is_command is.0) ∙ still.quiet))
   ]
 
   pub contents-still : contents S (media_id_of (e ∷ H)) (e ∷ H) ≡ contents S (media_id_of H) H

@@ -22,7 +22,7 @@ use Rattle.disk_core.specs.Facts.{IsGate, GatesFollow}
 use Rattle.disk_core.specs.Inside.{HoldersFollow}
 use Rattle.disk_core.proofs.HistoryCopies.{copy-stays}
 use Rattle.disk_core.proofs.Setups.{all-at}
-use Rattle.disk_core.proofs.Plain.{clash}
+use Rattle.std.proofs.lemmas.Bool.{true≢false}
 
 -- the opening bytes that are told are those of all blocks
 pub told-whole : {M : Type 0} (device : M → Device) (drive : DriveState M) (protected : Bool) → ((m : M) → IsShaped (device m)) → FitTheDrive device drive → AreToldWhole (setup_of device drive protected)
@@ -58,7 +58,7 @@ module _ (S : Setup) (H : List Entry) (e : Entry) (setup : IsSetup S) (told : Ar
     unfolding IsLegal
     holder-was t b k holds = elim (holds-by-before S H e t b k setup (legal, may) holds) [
       | inl before ↦ before
-      | inr is ↦ absurd (clash (sym (ap is_fetch_entry is.0) ∙ unfetched))
+      | inr is ↦ absurd (true≢false (sym (ap is_fetch_entry is.0) ∙ unfetched))
     ]
 
     -- all gates, where none of their tokens ends and none is stored

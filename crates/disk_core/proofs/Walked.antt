@@ -3,7 +3,7 @@ use Rattle.std.proofs.Common.{◌≡◌, ℕ, zero, suc, ◌<◌, ◌≤◌, inl
 use Rattle.std.specs.Prelude.{filter, is_none}
 use Rattle.std.specs.List.{find, list_any}
 use Rattle.std.specs.Option.{option_map}
-use Rattle.std.proofs.lemmas.Bool.{cases_Bool, cases_eq, eq-eqb, eqb-true, or_left, or_right, or_cases}
+use Rattle.std.proofs.lemmas.Bool.{cases_Bool, cases_eq, eq-eqb, eqb-true, or_left, or_right, or_cases, true≢false}
 use Rattle.std.proofs.lemmas.List.Folds.{list_any-append}
 use Rattle.efi_status.specs.declared.Status.{Status}
 use Rattle.history.specs.declared.entry.Entry.{Entry}
@@ -32,7 +32,6 @@ use Rattle.disk_core.proofs.Kept.{kept-record}
 use Rattle.disk_core.proofs.HistoryOwed.{open-kept}
 use Rattle.disk_core.proofs.Links.{AreClosed}
 use Rattle.disk_core.proofs.Queued.{sub-token}
-use Rattle.disk_core.proofs.Plain.{clash}
 
 -- ---- tokens and their units
 
@@ -184,7 +183,7 @@ module _ (S : Setup) (H G : List Entry) (marks : ℕ → Option Status) (c : Cor
   open-record t token unmarked = by (record_at c.tokens t) refl
     where
       by : (m : Option Record) → record_at c.tokens t ≡ m → (r : Record) × (q : Request) × RecordOf t r q
-      by None is = absurd (clash (sym (tells.tokens.gone t (subst (λ n. t < n) (sym tells.count) token) (kept-record c.tokens t ∙ ap (option_map kept_from) is)) ∙ tells.uncollected t unmarked))
+      by None is = absurd (true≢false (sym (tells.tokens.gone t (subst (λ n. t < n) (sym tells.count) token) (kept-record c.tokens t ∙ ap (option_map kept_from) is)) ∙ tells.uncollected t unmarked))
       by (Some r) is = (let of = tells.records t r is in (r, of.0, record { there = is; named = sym (tells.same t) ∙ of.1; viewed = of.2; asked = of.3 }))
 
   -- whether an open token is meant says whether the entry ends it

@@ -1,7 +1,7 @@
 -- The meant tokens are ended one after the other.
 use Rattle.std.proofs.Common.{◌≡◌, ◌≢◌, ◌⊎◌, ℕ, zero, suc, ◌+◌, ◌-◌, ◌<◌, ◌≤◌, inl, inr, Bool, true, false, ◌&&◌, List, ◌∷◌, Option, None, Some, is_some, refl, sym, ◌∙◌, ap, subst, arith}
 use Rattle.std.specs.Prelude.{count_by}
-use Rattle.std.proofs.lemmas.Bool.{cases_eq, cases_lt, lt-ltb, le-ltb, and_left, and_right, and_parts, and_from, false_from_ne_true}
+use Rattle.std.proofs.lemmas.Bool.{cases_eq, cases_lt, lt-ltb, le-ltb, and_left, and_right, and_parts, and_from, false_from_ne_true, true≢false}
 use Rattle.efi_status.specs.declared.Status.{Status}
 use Rattle.history.specs.declared.entry.Entry.{Entry}
 use Rattle.history.specs.Setup.{Setup}
@@ -25,7 +25,6 @@ use Rattle.disk_core.specs.Closing.{IsClosing, is_some_meant, is_queued, is_queu
 use Rattle.disk_core.proofs.Closed.{kept-ended, closing-step, open-outstanding, open-owed}
 use Rattle.disk_core.proofs.Staying.{revokes, holders-lent}
 use Rattle.disk_core.proofs.Walked.{Tells, closing-tells, queue-sorted, queue-below, queued-open, open-queued, open-answers}
-use Rattle.disk_core.proofs.Plain.{clash}
 
 below-then : (S : Setup) (H : List Entry) (e : Entry) (n u : ℕ) → u < n → marks_below S H e n u ≡ mark_of S (e ∷ H) u
 below-then S H e n u below = rw (lt-ltb u n below) refl
@@ -114,7 +113,7 @@ module _ (meant : Meant) (status : Status) (S : Setup) (H : List Entry) (e : Ent
   unmeant-ending u above none open_now = answers u above open_now ∙ ap (λ b. status_if b status) (isnt (is_some_meant meant (request_at c.tokens u)) refl)
     where
       isnt : (b : Bool) → is_some_meant meant (request_at c.tokens u) ≡ b → is_some_meant meant (request_at c.tokens u) ≡ false
-      isnt true is = absurd (clash (sym (and_from (is_queued c u) (is_some_meant meant (request_at c.tokens u)) (queued u above open_now) is) ∙ none))
+      isnt true is = absurd (true≢false (sym (and_from (is_queued c u) (is_some_meant meant (request_at c.tokens u)) (queued u above open_now) is) ∙ none))
       isnt false is = is
 
   -- a token that is not meant stays as it is

@@ -2,6 +2,7 @@
 use Rattle.std.proofs.Common.{◌≡◌, ◌⊎◌, ℕ, zero, suc, ◌+◌, inl, inr, Bool, true, false, not, ◌&&◌, ◌||◌, List, [], ◌∷◌, ◌++◌, slice_get, map, filter, find, None, Some, refl, sym, ◌∙◌, ap, arith, nat_eq}
 use Rattle.std.specs.List.{list_all}
 use Rattle.std.proofs.lemmas.Bool.{cases_Bool, cases_eq, and_parts, and_from, and_left, and_right, both_ways, true_from_ne_false, eq-eqb, ne_eqb, not_from_false, false_from_ne_true}
+use Rattle.std.proofs.lemmas.Option.{same_Some}
 use Rattle.efi_status.specs.declared.Status.{Status}
 use Rattle.efi_status.specs.declared.Status.TheVariants.{Success}
 use Rattle.disk_split.specs.declared.span.Span.{Span}
@@ -127,9 +128,6 @@ and-false : (p : Bool) → (p && false) ≡ false
 and-false true = refl
 and-false false = refl
 
-some-same : (q r : Request) → Some q ≡ Some r → q ≡ r
-some-same q r e = cc
-
 some-none : (status : Status) → Some status ≡ None → ⊥
 some-none status e = cc
 
@@ -162,7 +160,7 @@ finish-test S H t c q u todo r is (legal, may) named of transfer left = by (case
         todo-stays S H e todo r left (mark-other S H e todo.token quiet ∙ left.outstanding.unmarked) (done_commands-other S H e todo.token quiet)
         ∙ sym (not_from_false (is_todo_of t u todo) (and_left (nat_eq todo.token t) (is_task_of u todo.task) (ne_eqb todo.token t other)))
     by (inl same) =
-        let request_same : r ≡ q = some-same r q (sym left.named ∙ (ap (request H) same ∙ named)) in
+        let request_same : r ≡ q = same_Some r q (sym left.named ∙ (ap (request H) same ∙ named)) in
         let listed : slice_get (tasks_of S q) left.place ≡ Some todo.task = rw request_same at left.listed in
         let finished : is_finished S (e ∷ H) t todo.task ≡ is_task_of u todo.task = own same todo.task listed (rw same at left.unfinished) in
         let here : is_todo_of t u todo ≡ is_task_of u todo.task = ap (λ b. b && is_task_of u todo.task) (eq-eqb todo.token t same) in

@@ -2,6 +2,7 @@
 use Rattle.std.proofs.Common.{◌≡◌, ℕ, ◌+◌, ◌-◌, ◌*◌, ◌<◌, ◌≤◌, inl, inr, Bool, true, false, not, ◌&&◌, ◌||◌, if◌then◌else◌, List, [], ◌∷◌, length, Option, None, Some, refl, sym, subst, ◌∙◌, ap, arith, nat_eq, nat_lt}
 use Rattle.std.proofs.lemmas.Bool.{cases_eq, and_parts, or_parts, eqb-true, eq-eqb, ne_eqb, both_ways, lt-ltb, ltb-false}
 use Rattle.std.proofs.lemmas.List.{length-replicate}
+use Rattle.std.proofs.lemmas.Option.{same_Some}
 use Rattle.efi_status.specs.declared.Status.{Status}
 use Rattle.efi_status.specs.declared.Status.TheVariants.{InvalidParameter, BadBufferSize, WriteProtected, NoMedia, MediaChanged}
 use Rattle.history.specs.declared.entry.View.{View}
@@ -57,16 +58,13 @@ range-inside S H view asked unrefused =
     by false false true e = cc
     by false false false e = refl
 
-some-same : (q r : Request) → Some q ≡ Some r → q ≡ r
-some-same q r e = cc
-
 -- each request was accepted by a history before
 pub accepted-at : (S : Setup) (H : List Entry) (t : ℕ) (r : Request) → IsLegal S H → request H t ≡ Some r → (before : List Entry) × IsLegal S before × MayAccept S before r.view r.asked r.bytes
 unfolding IsLegal MayFollow request
 accepted-at S [] t r legal named = cc
 accepted-at S (Accept tag view asked bytes ∷ H) t r (legal, may) named = elim (cases_eq t (accepted H)) [
   | inl new ↦
-      let same : record { tag = tag; view = view; asked = asked; bytes = bytes } ≡ r = some-same _ r (rw (new, eq-eqb (accepted H) (accepted H) refl) at named) in
+      let same : record { tag = tag; view = view; asked = asked; bytes = bytes } ≡ r = same_Some _ r (rw (new, eq-eqb (accepted H) (accepted H) refl) at named) in
       (H, legal, subst (λ (s : Request). MayAccept S H s.view s.asked s.bytes) same may)
   | inr old ↦ accepted-at S H t r legal (rw (ne_eqb t (accepted H) old) at named)
 ]
@@ -115,7 +113,7 @@ open-media S (Accept tag view asked bytes ∷ H) t r (legal, may) open_ named =
     rw (present-same H (Accept tag view asked bytes) refl refl, media-id-same H (Accept tag view asked bytes) refl)
     (elim (cases_eq t (accepted H)) [
       | inl new ↦
-          let same : record { tag = tag; view = view; asked = asked; bytes = bytes } ≡ r = some-same _ r (rw (new, eq-eqb (accepted H) (accepted H) refl) at named) in
+          let same : record { tag = tag; view = view; asked = asked; bytes = bytes } ≡ r = same_Some _ r (rw (new, eq-eqb (accepted H) (accepted H) refl) at named) in
           let is : IsAdmitted S H view asked view.media_id = admitted S H view asked view.media_id may.unrefused in
           (is.present, ap (λ (s : Request). s.view.media_id) (sym same) ∙ is.viewed)
       | inr old ↦
