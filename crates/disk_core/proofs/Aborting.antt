@@ -32,9 +32,11 @@ use Rattle.disk_core.specs.Calls.{EndsBy, EndSays}
 use Rattle.disk_core.specs.Closing.{meant_in, is_some_meant, is_queued, IsNextMeant, IsAbort, AreSorted, HasToEnd, IsToEnd, EndsMeant, NoneMeantBefore, RoomSoFar}
 use Rattle.subtask_queue.specs.Subs.{AreBelow}
 use Rattle.disk_core.proofs.Links.{AreClosed, disk-closed}
-use Rattle.disk_core.proofs.Begun.{IsEnding, owed-before}
+use Rattle.disk_core.proofs.Begun.{owed-before}
+use Rattle.history_laws.proofs.QuietLemmas.{IsEnding}
 use Rattle.disk_core.proofs.Failed.{open-place}
-use Rattle.disk_core.proofs.Endings.{IsOneMore, one-more, ended-some, ended-no, more-to-end, all-ended}
+use Rattle.disk_core.proofs.Endings.{IsOneMore, one-more, more-to-end, all-ended}
+use Rattle.history_laws.proofs.EndedLemmas.{ended-some, ended-no}
 use Rattle.disk_core.proofs.Walked.{Tells, closed-tells, queue-sorted, queue-below, queued-open, open-queued, open-record, open-answers}
 
 view-same : (v w : View) → is_same_view v w ≡ true → v ≡ w

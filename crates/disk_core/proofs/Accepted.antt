@@ -48,7 +48,8 @@ use Rattle.disk_core.specs.Inside.{DriveFollows, Tracks, RecordsFollow, HoldersF
 use Rattle.disk_core.specs.Admission.{accepting, left_at_first}
 use Rattle.disk_core.specs.Moves.{IsDisk}
 use Rattle.disk_core.proofs.Following.{era-still}
-use Rattle.disk_core.proofs.Still.{left-done, buffer-kept}
+use Rattle.disk_core.proofs.Still.{buffer-kept}
+use Rattle.history_laws.proofs.LeftLemmas.{left-done}
 use Rattle.disk_core.proofs.HistoryAccepted.{left-new, uncollected-new}
 use Rattle.disk_core.proofs.Plain.{some-none}
 

@@ -37,50 +37,10 @@ use Rattle.disk_core.specs.Calls.{low_in, high_in, Revokes, LendsFirst, StepSays
 use Rattle.disk_core.specs.Turns.{IsIdle, merged, StoresAtOnce}
 use Rattle.disk_core.proofs.TurnLemmas.{none-held}
 use Rattle.disk_core.proofs.IdleLemmas.{idle-stays, gate_for, lent-gate, lent-out, lent-size, back-again}
-use Rattle.disk_core.proofs.Found.{find-alike}
-
--- a part that was to be fetched is to be stored, once it was fetched
-fetched-command : (H : List Entry) (t : ℕ) (kind : Kind) (task : Task) (b : ℕ) → task_command H t kind task ≡ Fetch b → task_command (Done t (Fetch b) ∷ H) t kind task ≡ Store b
-fetched-command H t kind Syncs b is = cc
-fetched-command H t kind (Moves u) b is = by kind u.whole is
-  where
-    now : (c : ℕ) → c ≡ b → was_fetched (Done t (Fetch b) ∷ H) t c ≡ true
-    now c same = has_done-done (is_at is_fetch c) H t (Fetch b) ∙ or_left (nat_eq b c) (was_fetched H t c) (eq-eqb b c (sym same))
-
-    part : (c : ℕ) (f : Bool) → was_fetched H t c ≡ f → (if f then Store c else Fetch c) ≡ Fetch b → (if was_fetched (Done t (Fetch b) ∷ H) t c then Store c else Fetch c) ≡ Store b
-    part c true was e = cc
-    part c false was e = let same : c ≡ b = cc in rw (now c same) (ap Store same)
-
-    by : (kind : Kind) (whole : Bool) → task_command H t kind (Moves (record u { whole = whole })) ≡ Fetch b → task_command (Done t (Fetch b) ∷ H) t kind (Moves (record u { whole = whole })) ≡ Store b
-    by Read whole e = cc
-    by Flush whole e = cc
-    by Write true e = cc
-    by Erase true e = cc
-    by Write false e = part u.block (was_fetched H t u.block) refl e
-    by Erase false e = part u.block (was_fetched H t u.block) refl e
-
--- after the fetch of the first runnable unit its store is the next turn
-pub store-turn : (S : Setup) (H : List Entry) (todo : Todo) (b : ℕ) → IsSetup S → IsLegal S H → IsLegal S (Done todo.token (Fetch b) ∷ H) → ((c : ℕ) → is_held S H c ≡ false)
-    → first_runnable (is_held S H) true S H ≡ Some todo → task_command H todo.token todo.kind todo.task ≡ Fetch b
-    → next_turn S (Done todo.token (Fetch b) ∷ H) ≡ Some (record { token = todo.token; command = Store b })
-unfolding first_runnable
-store-turn S H todo b is legal legal' none first fetch =
-    let may : MayCommand S H todo.token (Fetch b) = subst (λ c. MayCommand S H todo.token c) fetch (runnable-may S H true todo is legal first) in
-    let alike : find (is_runnable (λ c. false) true) (pending S H) ≡ Some todo =
-    find-alike (is_runnable (λ c. false) true) (is_runnable (is_held S H) true) (pending S H) (λ i d there. free-runnable (λ c. false) d (λ c. refl) ∙ sym (free-runnable (is_held S H) d none)) ∙ first in
-    let here : first_runnable (λ c. false) true S (Done todo.token (Fetch b) ∷ H) ≡ Some todo = ap (find (is_runnable (λ c. false) true)) (pending-fetch S H todo.token b is legal may) ∙ alike in
-    next-runnable S (Done todo.token (Fetch b) ∷ H) (λ c. false) is legal' (λ c. refl) ∙ (ap (option_map (turn_of_todo (Done todo.token (Fetch b) ∷ H))) here
-    ∙ ap (λ (c : Command). Some (record { token = todo.token; command = c })) (fetched-command H todo.token todo.kind todo.task b fetch))
-
--- the holder of a ticket after a fetch is the token that fetched, where none held before
-new-holder : (S : Setup) (H : List Entry) (t b u c k : ℕ) → IsSetup S → IsLegal S (Done t (Fetch b) ∷ H) → (HoldsBy S H u c k → ⊥) → HoldsBy S (Done t (Fetch b) ∷ H) u c k → (t ≡ u) × (b ≡ c)
-new-holder S H t b u c k is legal none holds = by (holds-by-before S H (Done t (Fetch b)) u c k is legal holds)
-  where
-    by : HoldsBy S H u c k ⊎ ((Done t (Fetch b) ≡ Done u (Fetch c)) × (k ≡ fetches H)) → (t ≡ u) × (b ≡ c)
-    by (inl before) = absurd (none before)
-    by (inr (now, next)) =
-        let fetch : Fetch b ≡ Fetch c = cc in
-        (cc, cc)
+use Rattle.history_laws.proofs.FetchLemmas.{find-alike}
+use Rattle.history_laws.proofs.HoldingLemmas.{new-holder}
+use Rattle.history_laws.proofs.FetchLemmas.{store-turn}
+use Rattle.history_laws.proofs.BytesLemmas.{length-between}
 
 -- where the gates hold nothing, no token does
 no-holder : (s : State) (t b k : ℕ) → AreFacts s → s.gates.held ≡ [] → HoldsBy s.setup s.entries t b k → ⊥
@@ -91,10 +51,6 @@ no-holder s t b k facts none holds =
   where
     clash : (g : Gate) → gate_of [] k ≡ Some g → ⊥
     clash g is = cc
-
--- the bytes of a piece are no more than its range
-length-between : (S : Setup) (q : Request) (low high : ℕ) → length (bytes_between S q low high) ≤ high - low
-length-between S q low high = rw (length-take (high - low) (drop (low - from_of S q) (request_bytes q))) (omega arith)
 
 -- a piece that begins in the block and ends there, or is none, leaves its length
 length-merged : (bytes patch_ : List ℕ) (from start low high : ℕ) → start + from ≡ low → length patch_ ≤ high - low → high ≤ start + length bytes → length (patch bytes from patch_) ≡ length bytes

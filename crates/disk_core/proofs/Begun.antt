@@ -37,37 +37,12 @@ use Rattle.disk_core.specs.Parts.{kept_of}
 use Rattle.disk_core.specs.Inside.{HoldersFollow}
 use Rattle.disk_core.specs.Closing.{RecordsSoFar, GatesSoFar, tokens_owed_so_far, owed_so_far, RoomSoFar, IsClosing}
 use Rattle.disk_core.proofs.HistoryCopies.{copy-stays}
-use Rattle.disk_core.proofs.HistoryOwed.{units-few, open-kept}
+use Rattle.history_laws.proofs.OwingLemmas.{units-few, open-kept}
 use Rattle.disk_core.proofs.Links.{AreClosed}
-use Rattle.disk_core.proofs.Still.{left-done}
-
--- an entry that ends tokens and does nothing else to them
-pub record IsEnding (S : Setup) (H : List Entry) (e : Entry) : Type 0 where
-  pub may : MayFollow S H e
-  pub adds_none : is_accept e ≡ false
-  pub unmoving : is_done e ≡ false
-  pub collects_none : (t : ℕ) → is_collect_of t e ≡ false
-  pub puts_none : is_insert e ≡ false
-  pub stores_ended : (t b : ℕ) → mark_of S (e ∷ H) t ≡ None → is_store_of t b e ≡ false
-
--- ---- laws of such an entry
-
-read-undone : (S : Setup) (H : List Entry) (e : Entry) (t x : ℕ) → is_done e ≡ false → bytes_read S (e ∷ H) t x ≡ bytes_read S H t x
-unfolding bytes_read
-read-undone S H (Done u c) t x undone = absurd (true≢false undone)
-read-undone S H e t x undone = refl
-
-fetches-rise : (H : List Entry) (e : Entry) → fetches H ≤ fetches (e ∷ H)
-fetches-rise H e = elim (cases_Bool (is_fetch_entry e)) [ inl is ↦ omega (arith, fetches-more H e is) | inr isnt ↦ omega (arith, fetches-same H e isnt) ]
-
-not-done : (e : Entry) (t b : ℕ) → is_done e ≡ false → e ≢ Done t (Fetch b)
-not-done e t b undone same = true≢false (sym (ap is_done same) ∙ undone)
-
-owed-alike : (S : Setup) (H H' : List Entry) (t : ℕ) (o : Option Request) (m : Option Status) (collected : Bool) → done_commands H' t ≡ done_commands H t → owed_by S H' t o m collected ≡ owed_by S H t o m collected
-owed-alike S H H' t None m collected same = refl
-owed-alike S H H' t (Some r) None collected same = ap (λ n. n + 2) (commands-same S H H' t r same)
-owed-alike S H H' t (Some r) (Some status) true same = refl
-owed-alike S H H' t (Some r) (Some status) false same = refl
+use Rattle.history_laws.proofs.LeftLemmas.{left-done}
+use Rattle.history_laws.proofs.OwingLemmas.{owed-alike}
+use Rattle.history_laws.proofs.FetchLemmas.{fetches-rise, not-done}
+use Rattle.history_laws.proofs.QuietLemmas.{IsEnding, read-undone}
 
 module _ (S : Setup) (H : List Entry) (e : Entry) (is : IsEnding S H e) where
   tokens-before : (n : ℕ) → tokens_owed_so_far S (e ∷ H) (mark_of S H) n ≡ tokens_owed S H n

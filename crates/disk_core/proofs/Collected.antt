@@ -30,25 +30,10 @@ use Rattle.disk_core.specs.Calls.{CollectSays, IsUnknown, MarkSays}
 use Rattle.disk_core.specs.Moves.{IsDisk, Reaches, HasPlace, entered, collected}
 use Rattle.disk_core.proofs.Following.{era-still}
 use Rattle.disk_core.proofs.Kept.{kept-record, kept-without, kept-cleared, kept-others, records-cleared, records-others}
-use Rattle.disk_core.proofs.Still.{IsStill, gates-still, holders-still, drive-still, ready-still, tracks-still, buffer-still, accepted-still, fetches-still}
+use Rattle.disk_core.proofs.Still.{gates-still, holders-still, drive-still, ready-still, tracks-still, buffer-still, accepted-still, fetches-still}
+use Rattle.history_laws.proofs.QuietLemmas.{IsStill}
 use Rattle.disk_core.proofs.Plain.{some-none}
-
-still-collect : (S : Setup) (H : List Entry) (tag t : ℕ) → IsSetup S → IsLegal S H → MayFollow S H (Collect tag t) → IsStill S H (Collect tag t)
-unfolding IsLegal ending
-still-collect S H tag t setup legal may = record {
-  setup = setup;
-  legal = (legal, may);
-  may = may;
-  quiet = refl;
-  adds_none = refl;
-  stays_in = refl;
-  puts_none = refl;
-  keeps_protection = refl;
-  unending = λ u. refl;
-}
-
-other-collect : (H : List Entry) (tag t u : ℕ) → t ≢ u → was_collected (Collect tag t ∷ H) u ≡ was_collected H u
-other-collect H tag t u other = collected-same H (Collect tag t) u (ne_eqb t u other)
+use Rattle.history_laws.proofs.QuietLemmas.{other-collect, still-collect}
 
 collect-kept : (S : Setup) (H : List Entry) (tag t : ℕ) (kept : List (Option Kept)) → IsStill S H (Collect tag t) → KeptFollow S H kept → KeptFollow S (Collect tag t ∷ H) (slice_set kept t None)
 collect-kept S H tag t kept still follow = record {

@@ -23,6 +23,7 @@ use Rattle.history_laws.proofs.EraLemmas.{era_count-same, era_count-more, era_co
 use Rattle.history_laws.proofs.PieceLemmas.{done-contents, fault-contents, run-low}
 use Rattle.disk_core.specs.State.{opening_from}
 use Rattle.disk_core.specs.Facts.{MeetsEra}
+use Rattle.history_laws.proofs.FittingLemmas.{commands-within, faults-within}
 
 -- how a command of the medium ended
 abbrev pub outcome_of : Result (Unit {0}) BlockFailed → Outcome
@@ -32,14 +33,6 @@ outcome_of (Err fault) = Failed fault.done
 -- its entry
 abbrev pub entry_for : ℕ → Command → Result (Unit {0}) BlockFailed → Entry
 entry_for t command result = entry_of (record { token = t; command = command }) (outcome_of result)
-
-commands-within : (k : ℕ) (H : List Entry) → era_commands k H ≤ length H
-unfolding commands
-commands-within k H = let within = era_count-within is_command k H in let few = commands-few H in omega arith
-
-faults-within : (k : ℕ) (H : List Entry) → era_faults k H ≤ length H
-unfolding faults commands
-faults-within k H = let within = era_count-within is_fault k H in let few = faults-few H in let all = commands-few H in omega arith
 
 opening-same : (d d' : Device) → IsSame d d' → opening_from d' ≡ opening_from d
 opening-same d d' same = λ i. record { blocks = same.blocks i; first = same.first i }

@@ -37,15 +37,17 @@ use Rattle.disk_core.specs.Storage.{IsStoring}
 use Rattle.disk_core.proofs.Begun.{begun, gates-begun, owed-before, units-left}
 use Rattle.disk_core.proofs.Closed.{kept-ended, closing-step, closed-all}
 use Rattle.disk_core.proofs.Commanded.{entry_for}
-use Rattle.disk_core.proofs.Failed.{ending-fault, open-place, beside-ends}
+use Rattle.disk_core.proofs.Failed.{open-place, beside-ends}
+use Rattle.history_laws.proofs.QuietLemmas.{ending-fault}
 use Rattle.disk_core.proofs.Finished.{kept-done}
-use Rattle.disk_core.proofs.HistoryHeld.{part_of_range}
+use Rattle.history_laws.proofs.HoldingLemmas.{part_of_range}
 use Rattle.disk_core.proofs.Letting.{gates-stored, holders-stored, gates-let}
 use Rattle.disk_core.proofs.Links.{AreClosed, StandsBeside, links-disk, disk-closed}
 use Rattle.disk_core.proofs.Made.{MayFinish, finishes-closed}
 use Rattle.disk_core.proofs.Released.{IsReleased, same-but, is-released}
 use Rattle.disk_core.proofs.Staying.{revokes, holders-lent}
-use Rattle.disk_core.proofs.Stepped.{Follows, beside-command, commanded-on, done-entry, fault-entry}
+use Rattle.disk_core.proofs.Stepped.{Follows, beside-command, commanded-on}
+use Rattle.history_laws.proofs.QuietLemmas.{done-entry, fault-entry}
 use Rattle.disk_core.proofs.Wrote.{lawful, opened, outstanding, may, told-whole-in, store-follows, stops-before, size-is, finishes, bytes-are}
 
 module _ {M : Type 0} (device : M → Device) (prepared : M → ℕ → Type 0) (drive : DriveState M) (shaped : (m : M) → IsShaped (device m)) (c : Core) (before : Gates) (part : Part) (g : Gate) (q : Request) (is : IsStoring device prepared drive c before part g q)

@@ -42,11 +42,12 @@ use Rattle.disk_core.specs.Calls.{StepSays, Fills, command_of}
 use Rattle.disk_core.specs.Moves.{IsDisk, IsFirst, Reaches, HasBytesIn, MayPut, low_of, high_of, blocks_bytes, cover_by, MayEnter, Settles, Finishes, Fails}
 use Rattle.disk_core.proofs.Commanded.{entry_for, write-era, run-written}
 use Rattle.disk_core.proofs.Finished.{kept-done}
-use Rattle.disk_core.proofs.HistoryUnits.{FinishesTask}
+use Rattle.history_laws.proofs.LeftLemmas.{FinishesTask}
 use Rattle.disk_core.proofs.Moving.{IsMoving, unit-moving, medium-meets, moving-request, moving-present, moving-finishes, moving-left, moving-transfer, moving-has}
 use Rattle.disk_core.proofs.Stepped.{Follows, did-done, did-failed}
 use Rattle.disk_core.proofs.Synced.{on-as}
 use Rattle.disk_core.proofs.Upcoming.{may-fail, unit-token, legal-in}
+use Rattle.history_laws.proofs.BytesLemmas.{between-long}
 
 -- the bytes that the table has for a request are those of the history
 pub bytes-same : (S : Setup) (H : List Entry) (t : ℕ) (r : Request) (own : Record) (low high : ℕ) → Tracks S H t own r → IsBuffer S H t r own.request.buffer → changes_bytes r.asked.kind ≡ true → bytes_in own.request low high ≡ bytes_between S r low high
@@ -66,9 +67,6 @@ bytes-same S H t r own low high tracks buffer changes =
         no-way : false ≡ true → ⊥
         no-way e = cc
     by Erase is = refl
-
-pub between-long : (S : Setup) (H : List Entry) (t : ℕ) (r : Request) (low high : ℕ) → length (request_bytes r) ≡ r.asked.length → from_of S r ≤ low → low ≤ high → high ≤ until_of S r → length (bytes_between S r low high) ≡ high - low
-between-long S H t r low high long from order until = simp (length-take, length-drop) (omega arith)
 
 cover-span : (H : List Entry) (t : ℕ) (kind : Kind) (b n : ℕ) → changes_bytes kind ≡ true → span_command H t kind true b n ≡ cover_by kind b n
 cover-span H t Read b n is = cc

@@ -27,6 +27,7 @@ use Rattle.disk_core.specs.Calls.{IsCommanded, failures_of}
 use Rattle.disk_core.proofs.Commanded.{outcome_of}
 use Rattle.disk_core.proofs.Setups.{all-at}
 use Rattle.disk_core.proofs.Prepared.{medium-place}
+use Rattle.history_laws.proofs.QuietLemmas.{IsMakingEntry}
 
 -- another medium does not see the entry
 era-other : (S : Setup) (H : List Entry) (e : Entry) (k : ℕ) (d : Device) → media_id_of H ≢ k → MeetsEra S H k d → MeetsEra S (e ∷ H) k d
@@ -59,13 +60,6 @@ map-replaced : {X Y : Type 0} (f : X → Y) (xs : List X) (i : ℕ) (x y : X) �
 map-replaced f [] i x y is same = refl
 map-replaced f (z ∷ xs) zero x y is same = ap (λ v. v ∷ map f xs) (same ∙ ap f (sym (same_Some z x is)))
 map-replaced f (z ∷ xs) (suc i) x y is same = ap (λ vs. f z ∷ vs) (map-replaced f xs i x y is same)
-
--- the entry belongs to a command
-pub record IsMakingEntry (e : Entry) : Type 0 where
-  pub adds_none : is_accept e ≡ false
-  pub stays_in : is_eject e ≡ false
-  pub puts_none : is_insert e ≡ false
-  pub keeps_protection : is_protect e ≡ false
 
 -- the device of the medium that is in follows the entry
 pub record Meets (S : Setup) (H : List Entry) (e : Entry) (old new : Device) : Type 0 where

@@ -28,7 +28,8 @@ use Rattle.disk_core.specs.Inside.{DriveFollows}
 use Rattle.disk_core.specs.Moves.{IsDisk, Reaches, HasPlace, entered, with_spare}
 use Rattle.disk_core.specs.Calls.{EjectSays}
 use Rattle.disk_core.specs.Closing.{HasToEnd, IsToEnd, EndsMeant, RoomSoFar}
-use Rattle.disk_core.proofs.Begun.{IsEnding, owed-before}
+use Rattle.disk_core.proofs.Begun.{owed-before}
+use Rattle.history_laws.proofs.QuietLemmas.{IsEnding}
 use Rattle.disk_core.proofs.Endings.{IsOneMore, one-more, more-to-end, all-ended}
 
 module _ {M : Type 0} (device : M → Device) (prepared : M → ℕ → Type 0) (drive : DriveState M) (c : Core) (tag : ℕ) (sound : IsDisk device prepared drive c) (in_ : drive.present ≡ true) where

@@ -29,49 +29,11 @@ use Rattle.disk_core.specs.Calls.{EndsBy, Revokes}
 use Rattle.disk_core.specs.Closing.{meant_in, GatesSoFar, RoomSoFar, IsClosing, IsToEnd, HaveEnded}
 use Rattle.disk_core.proofs.Following.{era-still}
 use Rattle.disk_core.proofs.Links.{StandsBeside, links-disk, disk-closed}
-use Rattle.disk_core.proofs.Begun.{IsEnding, begun, gates-begun, units-left}
+use Rattle.disk_core.proofs.Begun.{begun, gates-begun, units-left}
+use Rattle.history_laws.proofs.QuietLemmas.{IsEnding}
 use Rattle.disk_core.proofs.Closed.{closed-all}
 use Rattle.disk_core.proofs.Failed.{beside-rest}
-use Rattle.disk_core.proofs.Still.{no-fetch}
-
--- ---- how many tokens an entry ends
-
-ended-rises : (S : Setup) (H : List Entry) (e : Entry) (n : ℕ) → ended_before S H e n ≤ ended_before S H e (suc n)
-unfolding ended_before
-ended-rises S H e n = by (is_outstanding S H n && is_some (ending S H e n))
-  where
-    by : (b : Bool) → ended_before S H e n ≤ (if b then ended_before S H e n + 1 else ended_before S H e n)
-    by true = omega arith
-    by false = omega arith
-
-ended-least : (S : Setup) (H : List Entry) (e : Entry) (t n : ℕ) → t < n → (is_outstanding S H t && is_some (ending S H e t)) ≡ true → 1 ≤ ended_before S H e n
-unfolding ended_before
-ended-least S H e t zero below counts = absurd (omega arith)
-ended-least S H e t (suc n) below counts = elim (cases_eq t n) [
-  | inl same ↦ here same
-  | inr other ↦ (let rest = ended-least S H e t n (omega (arith, other)) counts in let more = ended-rises S H e n in omega arith)
-]
-  where
-    here : t ≡ n → 1 ≤ ended_before S H e (suc n)
-    here same = rw (ap (λ m. is_outstanding S H m && is_some (ending S H e m)) (sym same) ∙ counts) (omega arith)
-
--- an open token that the entry ends is counted
-pub ended-some : (S : Setup) (H : List Entry) (e : Entry) (t : ℕ) (status : Status) → IsOutstanding S H t → ending S H e t ≡ Some status → 1 ≤ ended_by S H e
-unfolding ended_by
-ended-some S H e t status open_now ends = ended-least S H e t (accepted H) open_now.token (and_from (is_outstanding S H t) (is_some (ending S H e t)) (outstanding-test S H t open_now) (ap is_some ends))
-
-ended-nothing : (S : Setup) (H : List Entry) (e : Entry) (n : ℕ) → ((t : ℕ) → IsOutstanding S H t → ending S H e t ≡ None) → ended_before S H e n ≡ 0
-unfolding ended_before
-ended-nothing S H e zero none = refl
-ended-nothing S H e (suc n) none = rw (uncounted (is_outstanding S H n) refl) (ended-nothing S H e n none)
-  where
-    uncounted : (b : Bool) → is_outstanding S H n ≡ b → (is_outstanding S H n && is_some (ending S H e n)) ≡ false
-    uncounted true is = and_right (is_outstanding S H n) (is_some (ending S H e n)) (ap is_some (none n (outstanding-from S H n is)))
-    uncounted false is = and_left (is_outstanding S H n) (is_some (ending S H e n)) is
-
-pub ended-no : (S : Setup) (H : List Entry) (e : Entry) → ((t : ℕ) → IsOutstanding S H t → ending S H e t ≡ None) → ended_by S H e ≡ 0
-unfolding ended_by
-ended-no S H e none = ended-nothing S H e (accepted H) none
+use Rattle.history_laws.proofs.QuietLemmas.{no-fetch}
 
 -- ---- what no end touches, over such an entry
 

@@ -32,12 +32,14 @@ use Rattle.disk_core.specs.Parts.{kept_of, state_of}
 use Rattle.disk_core.specs.Moves.{IsDisk, HasPlace, Ends, Fails, StaysBeside, entered}
 use Rattle.disk_core.specs.Calls.{Fills, IsCommanded, Makes, Revokes}
 use Rattle.disk_core.specs.Closing.{GatesSoFar, RoomSoFar}
-use Rattle.disk_core.proofs.HistoryOwed.{units-few}
+use Rattle.history_laws.proofs.OwingLemmas.{units-few}
 use Rattle.disk_core.proofs.Links.{StandsBeside, AreClosed, links-disk, disk-closed}
-use Rattle.disk_core.proofs.Begun.{IsEnding, begun, gates-begun, units-left, owed-before}
+use Rattle.disk_core.proofs.Begun.{begun, gates-begun, units-left, owed-before}
+use Rattle.history_laws.proofs.QuietLemmas.{IsEnding}
 use Rattle.disk_core.proofs.Closed.{kept-ended, closing-step, closed-all}
 use Rattle.disk_core.proofs.Queued.{queue-units}
 use Rattle.disk_core.proofs.Staying.{revokes, holders-lent}
+use Rattle.history_laws.proofs.QuietLemmas.{ending-fault}
 
 -- ---- what the functions that end a token require
 
@@ -79,25 +81,6 @@ beside-rest device prepared S H drive c c' rest beside =
 pub beside-ends : {M : Type 0} (device : M → Device) (prepared : M → ℕ → Type 0) (S : Setup) (H : List Entry) (drive : DriveState M) (c c' : Core) (t : ℕ) (status : Status) → Ends c c' t status
     → StandsBeside device prepared S H drive c → StandsBeside device prepared S H drive c'
 beside-ends device prepared S H drive c c' t status ends beside = beside-rest device prepared S H drive c c' ends.rest beside
-
--- ---- the failed command
-
-pub ending-fault : (S : Setup) (H : List Entry) (t : ℕ) (command : Command) (done : ℕ) → MayFollow S H (Fault t command done) → IsEnding S H (Fault t command done)
-unfolding MayFollow
-ending-fault S H t command done may = record {
-  may = may;
-  adds_none = refl;
-  unmoving = refl;
-  collects_none = λ u. refl;
-  puts_none = refl;
-  stores_ended = λ u b unmarked. elim (cases_eq t u) [
-    | inl same ↦ absurd (clash (sym (mark-fault S H t command done (command-open S H t command may.0).unmarked) ∙ (ap (mark_of S (Fault t command done ∷ H)) same ∙ unmarked)))
-    | inr other ↦ and_left (nat_eq t u) (is_store_at b command) (ne_eqb t u other)
-  ];
-}
-  where
-    clash : Some DeviceError ≡ None → ⊥
-    clash e = cc
 
 module _ (S : Setup) (H : List Entry) (t : ℕ) (command : Command) (done : ℕ) (may : MayFollow S H (Fault t command done)) where
   abbrev pub Now : List Entry

@@ -45,28 +45,21 @@ use Rattle.disk_core.specs.Inside.{AreFitted}
 use Rattle.disk_core.specs.Calls.{StepSays, IsWork, LendsFirst, Makes, command_of, low_in, high_in}
 use Rattle.disk_core.specs.Moves.{IsDisk, IsFirst, Reaches, HasPlace, HasBytesIn, MayName, MayHold, MayLend, low_of, high_of, blocks_bytes, lent_of, Fails}
 use Rattle.disk_core.proofs.Commanded.{entry_for, read-era}
-use Rattle.disk_core.proofs.Covers.{bytes-same, between-long}
+use Rattle.disk_core.proofs.Covers.{bytes-same}
+use Rattle.history_laws.proofs.BytesLemmas.{between-long}
 use Rattle.disk_core.proofs.Gated.{unheld-block, ticket-new, ticket-unknown}
 use Rattle.disk_core.proofs.Lending.{HasLent, lent-closed}
 use Rattle.disk_core.proofs.Links.{AreClosed, links-disk, disk-closed}
 use Rattle.disk_core.proofs.Moving.{IsMoving, unit-moving, medium-meets, moving-request, moving-present, moving-transfer, moving-has}
 use Rattle.disk_core.proofs.Spans.{part-span}
-use Rattle.disk_core.proofs.Stepped.{Follows, beside-command, commanded-on, did-failed, done-entry}
+use Rattle.disk_core.proofs.Stepped.{Follows, beside-command, commanded-on, did-failed}
+use Rattle.history_laws.proofs.QuietLemmas.{done-entry}
 use Rattle.disk_core.proofs.Synced.{on-as}
 use Rattle.disk_core.proofs.Upcoming.{next-is, may-fail, unit-token, legal-in, whole-in}
-
-fetch-span : (H : List Entry) (t : ℕ) (kind : Kind) (b n : ℕ) → changes_bytes kind ≡ true → was_fetched H t b ≡ false → span_command H t kind false b n ≡ Fetch b
-fetch-span H t Read b n is un = cc
-fetch-span H t Write b n is un = ap (λ v. if v then Store b else Fetch b) un
-fetch-span H t Flush b n is un = cc
-fetch-span H t Erase b n is un = ap (λ v. if v then Store b else Fetch b) un
+use Rattle.history_laws.proofs.FetchLemmas.{fetch-span, fetches-few}
 
 clear-parts : (writes held free : Bool) → writes ≡ true → (not writes || (not held && free)) ≡ true → (held ≡ false) × (free ≡ true)
 clear-parts writes held free is clear = (let both = and_parts (not held) free (ap (λ v. not v || (not held && free)) (sym is) ∙ clear) in (not-true held both.0, both.1))
-
-fetches-few : (H : List Entry) → fetches H ≤ length H
-unfolding fetches
-fetches-few H = count_by-le-length is_fetch_entry H
 
 module _ {M : Type 0} (device : M → Device) (prepared : M → ℕ → Type 0) (drive : DriveState M) (c : Core) (sound : IsDisk device prepared drive c) (t b from n : ℕ) (todo : Todo) (first : IsFirst device drive c (sub.Part t b from n true) todo) where
   abbrev S : Setup

@@ -23,10 +23,12 @@ use Rattle.disk_core.specs.Facts.{IsBuffer, KeptFollow}
 use Rattle.disk_core.specs.Parts.{kept_from}
 use Rattle.disk_core.specs.Inside.{Tracks, RecordsFollow}
 use Rattle.disk_core.specs.Closing.{TracksSoFar, RecordsSoFar}
-use Rattle.disk_core.proofs.HistoryUnits.{FinishesTask, left-falls}
+use Rattle.history_laws.proofs.LeftLemmas.{FinishesTask, left-falls}
 use Rattle.std.specs.Prelude.{filter, sum_by}
 use Rattle.std.proofs.lemmas.Option.{same_Some}
 use Rattle.disk_core.proofs.Kept.{each-changed}
+use Rattle.history_laws.proofs.LeftLemmas.{left-other}
+use Rattle.history_laws.proofs.QuietLemmas.{read-other}
 
 pub kept-lowered : (by : ℕ) (r : Record) → kept_from (lower_record by r) ≡ kept_from r
 unfolding lower_record
@@ -39,10 +41,6 @@ kept-ended status r = refl
 shown-lowered : (by : ℕ) (r : Record) → IsShown r → IsShown (lower_record by r)
 unfolding IsShown lower_record
 shown-lowered by r shown = shown
-
-pub left-other : (S : Setup) (H : List Entry) (e : Entry) (t : ℕ) (q : Request) → concerns H e t ≡ false → left_of S (e ∷ H) t q ≡ left_of S H t q
-unfolding left_of
-left-other S H e t q quiet = λ i. sum_by task_bytes (filter (λ task. not (finished-same S H (e ∷ H) t task (done_commands-other S H e t quiet) i)) (tasks_of S q))
 
 far-other : (S : Setup) (H : List Entry) (e : Entry) (t : ℕ) (r : Record) (q : Request) → concerns H e t ≡ false → Tracks S H t r q → TracksSoFar S (e ∷ H) (mark_of S H) t r q
 far-other S H e t r q quiet is = record {
@@ -129,13 +127,6 @@ records-ended S H marks t status records ended same far = record {
       (λ r old. (old.0, far-ended S H marks t status r old.0 ended old.1));
   shown = record { each = each-changed (ended_record status) records t (λ u r. IsShown r) (λ u r. IsShown r) far.shown.each (λ u r other shown. shown) (λ r shown. shown-ended status r) };
 }
-
--- what was read stays, where the command is no get
-read-other : (S : Setup) (H : List Entry) (t u x : ℕ) (c : Command) → is_get c ≡ false → bytes_read S (Done t c ∷ H) u x ≡ bytes_read S H u x
-read-other S H t u x c quiet = elim (cases_eq t u) [
-  | inr other ↦ bytes_read-other S H (Done t c) u x (done-concerns H t u c other)
-  | inl same ↦ subst (λ v. bytes_read S (Done t c ∷ H) v x ≡ bytes_read S H v x) same (bytes_read-kept S H t x c (and_left (is_get c) (lies_in S (first_block c) (block_count S c) x) quiet))
-]
 
 pub buffer-same : (S : Setup) (H : List Entry) (e : Entry) (t : ℕ) (q : Request) (buffer : List ℕ) → ((x : ℕ) → bytes_read S (e ∷ H) t x ≡ bytes_read S H t x) → IsBuffer S H t q buffer → IsBuffer S (e ∷ H) t q buffer
 buffer-same S H e t q buffer same is = record {

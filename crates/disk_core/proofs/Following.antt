@@ -9,30 +9,7 @@ use Rattle.history_laws.proofs.ContentLemmas.{is_flush_entry, contents-same, kep
 use Rattle.history_laws.proofs.EraLemmas.{era_count-same}
 use Rattle.disk_core.specs.Facts.{MeetsEra}
 use Rattle.std.proofs.lemmas.Bool.{true≢false}
-
-flush-none : (e : Entry) → is_command e ≡ false → is_flush_entry e ≡ false
-flush-none (Accept tag view asked bytes) still = refl
-flush-none (Refuse tag view asked media_id status) still = refl
-flush-none (Done t c) still = absurd (true≢false still)
-flush-none (Fault t c done) still = refl
-flush-none (Collect tag t) still = refl
-flush-none (Cancel tag view) still = refl
-flush-none (Reset tag) still = refl
-flush-none (Eject tag) still = refl
-flush-none (Insert tag k) still = refl
-flush-none (Protect tag on) still = refl
-
-fault-none : (e : Entry) → is_command e ≡ false → is_fault e ≡ false
-fault-none (Accept tag view asked bytes) still = refl
-fault-none (Refuse tag view asked media_id status) still = refl
-fault-none (Done t c) still = refl
-fault-none (Fault t c done) still = still
-fault-none (Collect tag t) still = refl
-fault-none (Cancel tag view) still = refl
-fault-none (Reset tag) still = refl
-fault-none (Eject tag) still = refl
-fault-none (Insert tag k) still = refl
-fault-none (Protect tag on) still = refl
+use Rattle.history_laws.proofs.QuietLemmas.{fault-none, flush-none}
 
 pub era-still : (S : Setup) (H : List Entry) (e : Entry) (k : ℕ) (d : Device) → is_command e ≡ false → MeetsEra S H k d → MeetsEra S (e ∷ H) k d
 era-still S H e k d still meets =

@@ -37,28 +37,7 @@ use Rattle.disk_core.specs.Calls.{first_of}
 use Rattle.disk_core.specs.Moves.{IsDisk}
 use Rattle.disk_core.proofs.Gated.{held-block, unheld-block}
 use Rattle.disk_core.proofs.Upcoming.{legal-in}
-
--- a fetched group has its ticket
-pub fetched-ticket : (H : List Entry) (t b : ℕ) → was_fetched H t b ≡ true → (k : ℕ) × (ticket_of H t b ≡ Some k)
-unfolding has_done done_commands ticket_of
-fetched-ticket [] t b is = absurd (true≢false (sym is))
-fetched-ticket (Done u c ∷ H) t b is = elim (cases_Bool (nat_eq u t)) [
-  | inr other ↦ (let rest = fetched-ticket H t b (rw other at is) in (rest.0, rw other rest.1))
-  | inl same ↦
-      elim (cases_Bool (is_at is_fetch b c)) [
-        | inl now ↦ (fetches H, rw (same, now) refl)
-        | inr before ↦ (let rest = fetched-ticket H t b (rw (same, before) at is) in (rest.0, rw (same, before) rest.1))
-      ]
-]
-fetched-ticket (Accept tag view asked bytes ∷ H) t b is = fetched-ticket H t b is
-fetched-ticket (Refuse tag view asked media_id status ∷ H) t b is = fetched-ticket H t b is
-fetched-ticket (Fault u c done ∷ H) t b is = fetched-ticket H t b is
-fetched-ticket (Collect tag u ∷ H) t b is = fetched-ticket H t b is
-fetched-ticket (Cancel tag view ∷ H) t b is = fetched-ticket H t b is
-fetched-ticket (Reset tag ∷ H) t b is = fetched-ticket H t b is
-fetched-ticket (Eject tag ∷ H) t b is = fetched-ticket H t b is
-fetched-ticket (Insert tag j ∷ H) t b is = fetched-ticket H t b is
-fetched-ticket (Protect tag on ∷ H) t b is = fetched-ticket H t b is
+use Rattle.history_laws.proofs.FetchLemmas.{fetched-ticket, find-alike}
 
 -- 64 blocks are whole groups
 whole-runs : (per : ℕ) → IsPer per → (m : ℕ) × (64 ≡ m * per)
@@ -78,10 +57,6 @@ whole-runs per is = by (or_cases (per == 1) _ is)
     by : ((per == 1) ≡ true) ⊎ (((per == 2) || ((per == 4) || (per == 8))) ≡ true) → (m : ℕ) × (64 ≡ m * per)
     by (inl e) = at 1 64 refl e
     by (inr e) = second (or_cases (per == 2) ((per == 4) || (per == 8)) e)
-
-pub find-alike : {X : Type 0} (p q : X → Bool) (xs : List X) → ((i : ℕ) (x : X) → slice_get xs i ≡ Some x → p x ≡ q x) → find p xs ≡ find q xs
-find-alike p q [] same = refl
-find-alike p q (x ∷ xs) same = ap (λ v. cond v (Some x) (find p xs)) (same 0 x refl) ∙ ap (λ rest. cond (q x) (Some x) rest) (find-alike p q xs (λ i y at. same (suc i) y at))
 
 module _ (S : Setup) (H : List Entry) (gates : Gates) (holders : List Holder) (places : ℕ) (setup : IsSetup S) (legal : IsLegal S H) (follow : GatesFollow S H gates) (holding_ : HoldersFollow S H gates holders places) (free : Bool) where
   -- the first block of a held group has its gate

@@ -30,23 +30,7 @@ use Rattle.subtask_queue.specs.Subs.{sub_of}
 use Rattle.disk_core.specs.declared.parts.Holder.{Holder}
 use Rattle.disk_core.specs.Moves.{IsNewCore, IsDisk}
 use Rattle.disk_core.proofs.Setups.{opening-at, setup-is, all-at}
-
-unpatched : (told : Option (List ℕ)) → option_map (patch_all []) told ≡ told
-unfolding patch_all
-unpatched None = refl
-unpatched (Some bytes) = refl
-
-contents-first : (S : Setup) (k : ℕ) → contents S k [] ≡ first_of S k
-unfolding contents pieces_of
-contents-first S k = unpatched (first_of S k)
-
-kept-first : (S : Setup) (k : ℕ) → kept_contents S k [] ≡ first_of S k
-unfolding kept_contents flushed_contents
-kept-first S k = by S.cached
-  where
-    by : (b : Bool) → (if b then first_of S k else contents S k []) ≡ first_of S k
-    by true = refl
-    by false = contents-first S k
+use Rattle.history_laws.proofs.FreshLemmas.{contents-first, fetches-none, fresh-legal, fresh-owed, fresh-queue, kept-first, none-held, none-open}
 
 -- a medium to which nothing has happened follows the empty history
 pub fresh-era : (S : Setup) (k : ℕ) (d : Device) → IsFresh d → opening_of S k ≡ Some (opening_from d) → d.size ≡ size_of S → d.cached ≡ S.cached → MeetsEra S [] k d
@@ -63,16 +47,6 @@ fresh-era S k d fresh opening size cached =
       failed = fresh.failed;
       faults = omega arith;
     }
-
-pub none-held : (S : Setup) (t b : ℕ) → Holds S [] t b → ⊥
-unfolding has_done done_commands
-none-held S t b holds = clash holds.fetched
-  where
-    clash : false ≡ true → ⊥
-    clash e = cc
-
-pub none-open : (S : Setup) (t : ℕ) → IsOutstanding S [] t → ⊥
-none-open S t open_now = let h = open_now.token in absurd (let g : t < 0 = subst (λ n. t < n) accepted-none h in omega arith)
 
 pub fresh-kept : (S : Setup) (kept : List (Option Kept)) → kept ≡ [] → KeptFollow S [] kept
 unfolding kept_at
@@ -100,18 +74,6 @@ fresh-gates S gates sets is = rw is (record {
     clash : false ≡ true → ⊥
     clash e = cc
 
-fresh-legal : (S : Setup) → IsLegal S []
-unfolding IsLegal
-fresh-legal S = tt
-
-fetches-none : fetches [] ≡ 0
-unfolding fetches
-fetches-none = refl
-
-pub fresh-queue : (S : Setup) → pending S [] ≡ []
-unfolding todo_before accepted
-fresh-queue S = refl
-
 fresh-drive : {M : Type 0} (device : M → Device) (S : Setup) (drive : DriveState M) → FitTheDrive device drive → IsFreshDrive device drive → IsBlockSize drive.size → IsPer drive.per → 0 < length drive.media → length drive.media ≤ most_media
     → drive.protected ≡ S.protected → DriveFollows device S [] drive
 unfolding ejects inserts is_protected
@@ -122,10 +84,6 @@ fresh-drive device S drive fit fresh sized per some most same = record {
   present = fresh.present;
   protected = same;
 }
-
-fresh-owed : (S : Setup) (n : ℕ) → length S.media ≡ n → owed_entries S [] ≤ 2 * n - 1
-unfolding owed_entries tokens_owed accepted ejects inserts
-fresh-owed S n is = rw is (omega arith)
 
 fresh-media : {M : Type 0} (device : M → Device) (drive : DriveState M) (at_first : Bool) → FitTheDrive device drive → IsFreshDrive device drive → (i : ℕ) (d : Device) → slice_get (devices_of device drive) i ≡ Some d → MeetsEra (setup_of device drive at_first) [] (suc i) d
 unfolding setup_of

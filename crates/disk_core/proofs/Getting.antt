@@ -40,30 +40,13 @@ use Rattle.disk_core.specs.Calls.{StepSays, Fills, command_of}
 use Rattle.disk_core.specs.Moves.{IsDisk, IsFirst, Reaches, HasPlace, HasBytesIn, IsTarget, IsGot, GetsInto, put_into, Finishes, Fails, MayEnter, Settles}
 use Rattle.disk_core.proofs.Buffered.{records-put, kept-put, kept-got}
 use Rattle.disk_core.proofs.Commanded.{entry_for, quiet-era, no-flush}
-use Rattle.disk_core.proofs.HistoryUnits.{FinishesTask}
+use Rattle.history_laws.proofs.LeftLemmas.{FinishesTask}
 use Rattle.disk_core.proofs.Kept.{kept-record, changed-at}
 use Rattle.disk_core.proofs.Moving.{IsMoving, unit-moving, medium-meets, moving-request, moving-present, moving-finishes, moving-left, moving-transfer, moving-has}
 use Rattle.disk_core.proofs.Stepped.{Follows, did-done, did-failed}
 use Rattle.disk_core.proofs.Synced.{on-as}
 use Rattle.disk_core.proofs.Upcoming.{may-fail, unit-token}
-
-reads-kind : (kind : Kind) → is_flush kind ≡ false → changes_bytes kind ≡ false → kind ≡ Read
-reads-kind Read moves still = refl
-reads-kind Write moves still = cc
-reads-kind Flush moves still = cc
-reads-kind Erase moves still = cc
-
-get-span : (H : List Entry) (t : ℕ) (kind : Kind) (whole : Bool) (b n : ℕ) → kind ≡ Read → span_command H t kind whole b n ≡ Get b n
-get-span H t Read whole b n is = refl
-get-span H t Write whole b n is = cc
-get-span H t Flush whole b n is = cc
-get-span H t Erase whole b n is = cc
-
-get-kind : (kind : Kind) (whole : Bool) (b n : ℕ) → kind ≡ Read → is_span_command kind whole (Get b n) ≡ true
-get-kind Read whole b n is = refl
-get-kind Write whole b n is = cc
-get-kind Flush whole b n is = cc
-get-kind Erase whole b n is = cc
+use Rattle.history_laws.proofs.FetchLemmas.{get-kind, get-span, reads-kind}
 
 module _ {M : Type 0} (device : M → Device) (prepared : M → ℕ → Type 0) (drive : DriveState M) (c : Core) (sound : IsDisk device prepared drive c) (unit : Sub) (todo : Todo) (first : IsFirst device drive c unit todo) (u : Span) (task_is : todo.task ≡ Moves u)
     (still : changes_bytes todo.kind ≡ false) where

@@ -22,8 +22,10 @@ use Rattle.disk_core.specs.Inside.{DriveFollows}
 use Rattle.disk_core.specs.Moves.{IsDisk, Reaches, entered, with_spare}
 use Rattle.disk_core.specs.Calls.{ProtectSays}
 use Rattle.disk_core.specs.Closing.{IsClosing, HasToEnd, IsToEnd, HaveEnded, EndsChanges, RoomSoFar}
-use Rattle.disk_core.proofs.Begun.{IsEnding, owed-before}
-use Rattle.disk_core.proofs.Endings.{IsOneMore, one-more, ended-no, more-closing, more-to-end, all-ended}
+use Rattle.disk_core.proofs.Begun.{owed-before}
+use Rattle.history_laws.proofs.QuietLemmas.{IsEnding}
+use Rattle.disk_core.proofs.Endings.{IsOneMore, one-more, more-closing, more-to-end, all-ended}
+use Rattle.history_laws.proofs.EndedLemmas.{ended-no}
 use Rattle.disk_core.proofs.Walks.{beside-still, revokes-none}
 
 module _ {M : Type 0} (device : M → Device) (prepared : M → ℕ → Type 0) (drive : DriveState M) (c : Core) (tag : ℕ) (on : Bool) (spare : ℕ) (sound : IsDisk device prepared drive c) (places : c.owed + 1 ≤ spare) (few : length c.history.entries + spare < 2 ^ 63) where

@@ -35,34 +35,7 @@ use Rattle.history_laws.proofs.RoomLemmas.{open-owed, ended-owed}
 use Rattle.history_laws.proofs.SpareLemmas.{entries-accept}
 use Rattle.subtask_queue.specs.Subs.{AreParts}
 use Rattle.disk_core.specs.Admission.{left_at_first, one_if, parts_count, cost_by}
-
--- the commands of a part, and of a run, at most
-abbrev part_most : Kind → ℕ
-part_most Read = 1
-part_most Write = 2
-part_most Flush = 0
-part_most Erase = 2
-
-unless-most : (b : Bool) → one_unless b ≤ 1
-unless-most true = omega arith
-unless-most false = omega arith
-
-part-most : (f s : Bool) → part_owed f s ≤ 2
-part-most f true = omega arith
-part-most true false = omega arith
-part-most false false = omega arith
-
-part-span-most : (kind : Kind) (H : List Entry) (t b : ℕ) → span_owed kind H t false b ≤ part_most kind
-part-span-most Read H t b = unless-most _
-part-span-most Write H t b = part-most _ _
-part-span-most Flush H t b = omega arith
-part-span-most Erase H t b = part-most _ _
-
-run-span-most : (kind : Kind) (H : List Entry) (t b : ℕ) → span_owed kind H t true b ≤ 1
-run-span-most Read H t b = unless-most _
-run-span-most Write H t b = unless-most _
-run-span-most Flush H t b = omega arith
-run-span-most Erase H t b = unless-most _
+use Rattle.history_laws.proofs.CostLemmas.{flush-one, part-span-most, part_most, runs-most, tile-bytes, unless-most}
 
 parts-most : (kind : Kind) (H : List Entry) (t : ℕ) (G : Geometry) (a m : ℕ) → sum_by (task_owed kind H t) (map Moves (part_in G a m)) ≤ part_most kind * one_if (part_of a m)
 parts-most kind H t G a m = by (nat_lt a m)
@@ -73,16 +46,6 @@ parts-most kind H t G a m = by (nat_lt a m)
     by : (b : Bool) → sum_by (task_owed kind H t) (map Moves (if b then span ∷ [] else [])) ≤ part_most kind * one_if {X = Part} (if b then Some (record { at = a; len = m - a }) else None)
     by true = (let most = part-span-most kind H t span.block in let one = sum_by-cons (task_owed kind H t) (Moves span) [] in omega arith)
     by false = omega arith
-
-runs-most : (kind : Kind) (H : List Entry) (t size first whole n i : ℕ) → sum_by (task_owed kind H t) (map Moves (runs_from size first whole n i)) ≤ n
-unfolding runs_from
-runs-most kind H t size first whole zero i = omega arith
-runs-most kind H t size first whole (suc n) i =
-    let u : Span = run_at size first whole i in
-    let here = run-span-most kind H t u.block in
-    let rest = runs-most kind H t size first whole n (i + 1) in
-    let both = sum_by-cons (task_owed kind H t) (Moves u) (map Moves (runs_from size first whole n (i + 1))) in
-    omega arith
 
 units-most : (kind : Kind) (H : List Entry) (t : ℕ) (G : Geometry) (a z : ℕ) → sum_by (task_owed kind H t) (map Moves (units_of G a z))
     ≤ part_most kind * one_if (part_of a (middle (group_size G) a z)) + ((whole_blocks G a z + 63) / 64 + part_most kind * one_if (part_of (whole_end (group_size G) a z) z))
@@ -97,12 +60,6 @@ units-most kind H t G a z =
     let two = runs-most kind H t G.size (first_whole G a) (whole_blocks G a z) ((whole_blocks G a z + 63) / 64) 0 in
     let three = parts-most kind H t G (whole_end (group_size G) a z) z in
     omega arith)
-
-flush-one : (kind : Kind) → is_flush kind ≡ true → kind ≡ Flush
-flush-one Read is = cc
-flush-one Write is = cc
-flush-one Flush is = refl
-flush-one Erase is = cc
 
 moving-cost : (kind : Kind) (under over runs : ℕ) → is_flush kind ≡ false → part_most kind * under + (runs + part_most kind * over) ≤ cost_by kind (under + over) runs
 moving-cost Read under over runs is = omega arith
@@ -125,14 +82,6 @@ cost-most S H t r parts are = elim (cases_Bool (is_flush r.asked.kind)) [
       let within = moving-cost r.asked.kind (one_if (part_of a (middle (group_size S.geometry) a z))) (one_if (part_of (whole_end (group_size S.geometry) a z) z)) runs moving in
       rw (moving, are.under, are.over, are.count) (omega arith)
 ]
-
-tile-bytes : (a z : ℕ) (us : List Span) → Tile a z us → sum_by task_bytes (map Moves us) + a ≡ z
-unfolding Tile
-tile-bytes a z [] tile = (let same = tile in omega arith)
-tile-bytes a z (u ∷ us) (begins, some, tile) =
-    let rest = tile-bytes u.high z us tile in
-    let both = sum_by-cons task_bytes (Moves u) (map Moves us) in
-    omega arith
 
 -- the units of a request have all its bytes
 pub tasks-bytes : (S : Setup) (r : Request) → IsSetup S → sum_by task_bytes (tasks_of S r) ≡ left_at_first r.asked.kind r.asked.length

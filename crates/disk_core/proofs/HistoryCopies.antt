@@ -12,14 +12,7 @@ use Rattle.history_laws.specs.Ranges.{AreToldWhole}
 use Rattle.history_laws.specs.Gates.{is_store_of}
 use Rattle.history_laws.proofs.GateLemmas.{held-byte}
 use Rattle.history_laws.proofs.RangeLemmas.{contents-long}
-
-contents-some : (S : Setup) (k : ℕ) (H H' : List Entry) (bytes : List ℕ) → contents S k H' ≡ Some bytes → (before : List ℕ) × (contents S k H ≡ Some before)
-unfolding contents
-contents-some S k H H' bytes is = by (first_of S k) refl is
-  where
-    by : (first : Option (List ℕ)) → first_of S k ≡ first → option_map (patch_all (pieces_of S k H')) first ≡ Some bytes → (before : List ℕ) × (option_map (patch_all (pieces_of S k H)) first ≡ Some before)
-    by None told e = cc
-    by (Some opening) told e = (patch_all (pieces_of S k H) opening, refl)
+use Rattle.history_laws.proofs.BytesLemmas.{contents-some}
 
 -- told bytes that are the same in a range
 told-same : (before after : List ℕ) (at : ℕ) (copy : List ℕ) → length after ≡ length before → ((i : ℕ) → i < length copy → slice_get after (at + i) ≡ slice_get before (at + i)) → copy ≡ take (length copy) (drop at before)

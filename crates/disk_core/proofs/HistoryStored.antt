@@ -19,6 +19,7 @@ use Rattle.history.specs.Contents.{contents, bytes_between, piece_between, piece
 use Rattle.history_laws.specs.Units.{IsUnitCommand}
 use Rattle.history_laws.proofs.ContentLemmas.{contents-piece, contents-same}
 use Rattle.history_laws.proofs.PieceLemmas.{done-contents, fault-piece, piece_at}
+use Rattle.history_laws.proofs.BytesLemmas.{take-between}
 
 -- the first bytes of a list
 get-take : (n : ℕ) (xs : List ℕ) (j : ℕ) → j < n → slice_get (take n xs) j ≡ slice_get xs j
@@ -74,23 +75,6 @@ first-bytes b at block skip p n fits inside few same =
             | inr past ↦ patch-behind b (at + skip) p i (omega arith) past ∙ sym (patch-behind b (at + skip) (take (n - skip) p) i (omega arith) (omega arith))
           ]
         ]
-
-take-less : (m n : ℕ) (xs : List ℕ) → m ≤ n → take m (take n xs) ≡ take m xs
-take-less zero n xs le = refl
-take-less (suc m) zero xs le = absurd (omega arith)
-take-less (suc m) (suc n) [] le = refl
-take-less (suc m) (suc n) (x ∷ xs) le = ap (λ ys. x ∷ ys) (take-less m n xs (omega arith))
-
--- the bytes of a request before a nearer end
-take-between : (S : Setup) (q : Request) (low high m : ℕ) → take m (bytes_between S q low high) ≡ bytes_between S q low (low + min m (high - low))
-take-between S q low high m =
-    let xs = drop (low - from_of S q) (request_bytes q) in
-    let count : low + min m (high - low) - low ≡ min m (high - low) = omega arith in
-    elim (cases_lt m (high - low)) [
-      | inl less ↦ take-less m (high - low) xs (omega arith) ∙ ap (λ n. take n xs) (let e : m ≡ low + min m (high - low) - low = omega arith in e)
-      | inr more ↦
-          take_all m (take (high - low) xs) (simp length-take (omega arith)) ∙ ap (λ n. take n xs) (let e : high - low ≡ low + min m (high - low) - low = omega arith in e)
-    ]
 
 module _ (S : Setup) (H : List Entry) (t : ℕ) (q : Request) (u : Span) (named : request H t ≡ Some q) (of : IsUnitCommand S q (Store u.block) u) (copy : List ℕ) (long : length copy ≡ u.count * size_of S)
     (room : (bytes : List ℕ) → contents S (media_id_of H) H ≡ Some bytes → (u.block + u.count) * size_of S ≤ length bytes) (told : AreToldAt (contents S (media_id_of H) H) (u.block * size_of S) copy)

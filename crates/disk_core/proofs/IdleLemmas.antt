@@ -17,7 +17,7 @@ use Rattle.disk_core.specs.State.{State}
 use Rattle.disk_core.specs.Facts.{AreFacts}
 use Rattle.disk_core.specs.Calls.{asked_of, buffer_of, RefusesFor, Revokes, SubmitSays, CollectSays}
 use Rattle.disk_core.specs.Turns.{IsIdle, KeepsGates}
-use Rattle.disk_core.proofs.Fresh.{none-held}
+use Rattle.history_laws.proofs.FreshLemmas.{none-held}
 
 -- gates of equal parts
 same-gates : (s s' : Gates) → s'.size ≡ s.size → s'.held ≡ s.held → s'.gone ≡ s.gone → s'.free ≡ s.free → s' ≡ s

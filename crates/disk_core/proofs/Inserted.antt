@@ -37,20 +37,9 @@ use Rattle.token_table.specs.declared.record.Record.{Record}
 use Rattle.history.specs.Room.{owed_entries}
 use Rattle.history_laws.proofs.TokenLemmas.{collected-same}
 use Rattle.disk_core.proofs.Following.{era-still}
-use Rattle.disk_core.proofs.Still.{left-done, buffer-kept}
-
--- where no medium is in no token is open
-pub absent-open : (S : Setup) (H : List Entry) (t : ℕ) → IsLegal S H → is_present H ≡ false → IsOutstanding S H t → ⊥
-absent-open S H t legal out open_now =
-    let r = request-some H t open_now.token in
-    true≢false (sym (open-media S H t r.0 legal open_now r.1).0 ∙ out)
-
-mark-insert : (S : Setup) (H : List Entry) (tag k t : ℕ) → mark_of S (Insert tag k ∷ H) t ≡ mark_of S H t
-unfolding mark_of ending
-mark-insert S H tag k t = or_else-none (mark_of S H t)
-
-open-insert : (S : Setup) (H : List Entry) (tag k t : ℕ) → IsOutstanding S (Insert tag k ∷ H) t → IsOutstanding S H t
-open-insert S H tag k t open_now = record { token = subst (λ n. t < n) (accepted-same H (Insert tag k) refl) open_now.token; unmarked = sym (mark-insert S H tag k t) ∙ open_now.unmarked }
+use Rattle.disk_core.proofs.Still.{buffer-kept}
+use Rattle.history_laws.proofs.LeftLemmas.{left-done}
+use Rattle.history_laws.proofs.EndedLemmas.{absent-open, mark-insert, open-insert, present-again}
 
 module _ (S : Setup) (H : List Entry) (tag k : ℕ) (setup : IsSetup S) (legal : IsLegal S H) (out : is_present H ≡ false) where
   unheld : (t b j : ℕ) → HoldsBy S H t b j → ⊥
@@ -100,14 +89,6 @@ module _ (S : Setup) (H : List Entry) (tag k : ℕ) (setup : IsSetup S) (legal :
       let less : owed_entries S (Insert tag k ∷ c.history.entries) + 1 ≤ owed_entries S c.history.entries = subst (λ h. owed_entries S (Insert tag k ∷ h) + 1 ≤ owed_entries S h) (sym is) (entries-insert S H tag k may) in
       let owed = room.owed in let places = room.places in let few = room.few in
       record { owed = omega arith; places = omega arith; few = omega arith }
-
--- where no medium is in there was one ejection more
-present-again : (S : Setup) (H : List Entry) (tag k : ℕ) → IsLegal S H → is_present H ≡ false → is_present (Insert tag k ∷ H) ≡ true
-present-again S H tag k legal out =
-    let counts = inserts-after-ejects S H legal in
-    let apart : ejects H ≢ inserts H = (λ same. true≢false (sym (eq-eqb (ejects H) (inserts H) same) ∙ out)) in
-    let more : ejects H ≡ inserts H + 1 = (let low = counts.0 in let high = counts.1 in omega (arith, apart)) in
-    eq-eqb (ejects (Insert tag k ∷ H)) (inserts (Insert tag k ∷ H)) (ejects-same H (Insert tag k) refl ∙ more ∙ sym (inserts-more H (Insert tag k) refl))
 
 drive-insert : {M : Type 0} (device : M → Device) (S : Setup) (H : List Entry) (drive : DriveState M) (tag k : ℕ) → IsLegal S H → is_present H ≡ false → k ≡ drive.media_id + 1 → drive.media_id < length drive.media
     → DriveFollows device S H drive → DriveFollows device S (Insert tag k ∷ H) (record drive { present = true; media_id = k })

@@ -35,7 +35,8 @@ use Rattle.disk_core.specs.declared.parts.Holder.{Holder}
 use Rattle.disk_core.specs.Facts.{IsGate, KeptFollow, GatesFollow}
 use Rattle.disk_core.specs.Parts.{kept_of, holder_of}
 use Rattle.disk_core.specs.Inside.{Tracks, RecordsFollow, HoldersFollow}
-use Rattle.disk_core.proofs.Finished.{left-other, kept-done}
+use Rattle.disk_core.proofs.Finished.{kept-done}
+use Rattle.history_laws.proofs.LeftLemmas.{left-other}
 use Rattle.disk_core.proofs.Gated.{ticket-new, holder-new, holders-below, new-gate, other-gate, new-tickets, new-count, new-gone, new-free, new-out, new-holder, other-holder, new-rising}
 use Rattle.disk_core.proofs.Links.{AreClosed}
 use Rattle.disk_core.proofs.Untouched.{gate-stays}

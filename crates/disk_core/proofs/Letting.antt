@@ -23,7 +23,7 @@ use Rattle.disk_core.specs.declared.parts.Holder.{Holder}
 use Rattle.disk_core.specs.Facts.{GatesFollow}
 use Rattle.disk_core.specs.Closing.{GatesSoFar}
 use Rattle.disk_core.specs.Inside.{HoldersFollow}
-use Rattle.disk_core.proofs.HistoryHeld.{held-open}
+use Rattle.history_laws.proofs.HoldingLemmas.{held-open}
 use Rattle.disk_core.proofs.Released.{IsReleased}
 use Rattle.disk_core.proofs.Untouched.{gate-stays}
 

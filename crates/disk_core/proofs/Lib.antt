@@ -31,10 +31,7 @@ mod Gated
 mod Getting
 mod Halted
 mod HistoryCopies
-mod HistoryHeld
-mod HistoryOwed
 mod HistoryStored
-mod HistoryUnits
 mod Holders
 mod Inserted
 mod Keeping

@@ -33,11 +33,12 @@ use Rattle.disk_core.specs.Closing.{RecordsSoFar}
 use Rattle.disk_core.specs.Moves.{entered, finished, left_in, revoked, revoked_one, Ends, EndsIf, Finishes}
 use Rattle.disk_core.proofs.Kept.{kept-changed}
 use Rattle.disk_core.proofs.Finished.{kept-lowered, kept-ended, records-lowered, records-follow, records-ended}
-use Rattle.disk_core.proofs.HistoryUnits.{FinishesTask, mark-finished}
+use Rattle.history_laws.proofs.LeftLemmas.{FinishesTask, mark-finished}
 use Rattle.disk_core.proofs.Links.{AreClosed}
 use Rattle.disk_core.proofs.Revoked.{holder-at}
-use Rattle.disk_core.proofs.Unqueued.{task_block, queue-finished}
-use Rattle.disk_core.proofs.Plain.{count-none}
+use Rattle.disk_core.proofs.Unqueued.{queue-finished}
+use Rattle.history_laws.proofs.LeftLemmas.{task_block}
+use Rattle.history_laws.proofs.OwingLemmas.{count-none}
 use Rattle.disk_core.proofs.Queued.{sub-token}
 
 -- the last unit of a token was finished, and its end is still to come

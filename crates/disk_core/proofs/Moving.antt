@@ -27,10 +27,10 @@ use Rattle.disk_core.specs.Commands.{OfMedium}
 use Rattle.disk_core.specs.Inside.{Tracks}
 use Rattle.disk_core.specs.Moves.{IsDisk, IsFirst, HasBytesIn}
 use Rattle.disk_core.proofs.Driven.{device-in}
-use Rattle.disk_core.proofs.HistoryUnits.{FinishesTask, unit-finishes}
+use Rattle.history_laws.proofs.LeftLemmas.{FinishesTask, unit-finishes}
 use Rattle.disk_core.proofs.Kept.{kept-record}
 use Rattle.disk_core.proofs.Opened.{open-record}
-use Rattle.disk_core.proofs.Ranged.{UnitFits, open-fits}
+use Rattle.history_laws.proofs.FittingLemmas.{UnitFits, open-fits}
 use Rattle.disk_core.proofs.Upcoming.{next-is, is-present, may-lower, legal-in}
 
 -- a unit that moves bytes, with its request and its record

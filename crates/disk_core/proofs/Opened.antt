@@ -16,7 +16,7 @@ use Rattle.disk_core.specs.State.{setup_of}
 use Rattle.disk_core.specs.Parts.{kept_from, state_of, holder_of}
 use Rattle.disk_core.specs.Inside.{Tracks}
 use Rattle.disk_core.specs.Moves.{IsDisk}
-use Rattle.disk_core.proofs.HistoryOwed.{open-kept}
+use Rattle.history_laws.proofs.OwingLemmas.{open-kept}
 use Rattle.disk_core.proofs.Kept.{kept-record}
 
 -- the record of an outstanding token

@@ -6,7 +6,3 @@ use Rattle.history_laws.proofs.CountLemmas.{count-same}
 
 pub some-none : {X : Type 0} (m : Option X) (x : X) → m ≡ None → m ≡ Some x → ⊥
 some-none m x none some = none-some x (sym none ∙ some)
-
-pub count-none : {X : Type 0} (test : X → Bool) (xs : List X) → ((k : ℕ) (x : X) → slice_get xs k ≡ Some x → test x ≡ false) → count_by test xs ≡ 0
-count-none test [] none = refl
-count-none test (x ∷ xs) none = count-same test x xs (none 0 x refl) ∙ count-none test xs (λ k y there. none (suc k) y there)

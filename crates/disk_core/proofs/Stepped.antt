@@ -35,20 +35,16 @@ use Rattle.disk_core.specs.Inside.{AreFitted, RecordsFollow}
 use Rattle.disk_core.specs.Calls.{StepSays, Makes, Fills, IsCommanded, Revokes, command_of, is_fetched}
 use Rattle.disk_core.specs.Moves.{IsDisk, IsFirst, Reaches, Fails, Finishes, entered}
 use Rattle.disk_core.proofs.Commanded.{outcome_of}
-use Rattle.disk_core.proofs.Driven.{IsMakingEntry, device-in, setup-driven, media-driven, follows-driven, ready-driven, commanded-driven}
+use Rattle.disk_core.proofs.Driven.{device-in, setup-driven, media-driven, follows-driven, ready-driven, commanded-driven}
+use Rattle.history_laws.proofs.QuietLemmas.{IsMakingEntry}
 use Rattle.disk_core.proofs.Failed.{failed-sound, failed-revokes}
-use Rattle.disk_core.proofs.HistoryHeld.{held-open}
-use Rattle.disk_core.proofs.HistoryUnits.{FinishesTask}
+use Rattle.history_laws.proofs.HoldingLemmas.{held-open}
+use Rattle.history_laws.proofs.LeftLemmas.{FinishesTask}
 use Rattle.disk_core.proofs.Links.{StandsBeside, links-disk}
 use Rattle.disk_core.proofs.Made.{MayFinish, finishes-closed}
 use Rattle.disk_core.proofs.Untouched.{gates-stay, holders-stay}
 use Rattle.disk_core.proofs.Upcoming.{next-is, legal-in, whole-in, unit-token, unit-block}
-
-pub done-entry : (t : ℕ) (command : Command) → IsMakingEntry (Done t command)
-done-entry t command = record { adds_none = refl; stays_in = refl; puts_none = refl; keeps_protection = refl }
-
-pub fault-entry : (t : ℕ) (command : Command) (done : ℕ) → IsMakingEntry (Fault t command done)
-fault-entry t command done = record { adds_none = refl; stays_in = refl; puts_none = refl; keeps_protection = refl }
+use Rattle.history_laws.proofs.QuietLemmas.{done-entry, fault-entry, unstored}
 
 -- what the medium has to do for an entry
 pub record Follows (S : Setup) (H : List Entry) (e : Entry) (result : Result (Unit {0}) BlockFailed) (old new : Device) : Type 0 where
@@ -73,14 +69,6 @@ made-unfetched (Put b n) other = refl
 made-unfetched (Get b n) other = refl
 made-unfetched (Wipe b n) other = refl
 made-unfetched Sync other = refl
-
-unstored : (b : ℕ) (command : Command) → is_store command ≡ false → (is_store_at b command ≡ false) × (is_at is_store b command ≡ false)
-unstored b (Fetch d) other = (refl, refl)
-unstored b (Store d) other = cc
-unstored b (Put d n) other = (refl, refl)
-unstored b (Get d n) other = (refl, refl)
-unstored b (Wipe d n) other = (refl, refl)
-unstored b Sync other = (refl, refl)
 
 module _ {M : Type 0} (device : M → Device) (prepared : M → ℕ → Type 0) (drive : DriveState M) (c : Core) (sound : IsDisk device prepared drive c) where
   abbrev S : Setup

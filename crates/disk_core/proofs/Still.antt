@@ -28,40 +28,8 @@ use Rattle.disk_core.specs.declared.parts.Holder.{Holder}
 use Rattle.disk_core.specs.Facts.{IsBuffer, GatesFollow}
 use Rattle.disk_core.specs.Inside.{DriveFollows, Tracks, HoldersFollow, AreReady}
 use Rattle.std.proofs.lemmas.Bool.{true≢false}
-
-pub record IsStill (S : Setup) (H : List Entry) (e : Entry) : Type 0 where
-  pub setup : IsSetup S
-  pub legal : IsLegal S (e ∷ H)
-  pub may : MayFollow S H e
-  pub quiet : is_command e ≡ false
-  pub adds_none : is_accept e ≡ false
-  pub stays_in : is_eject e ≡ false
-  pub puts_none : is_insert e ≡ false
-  pub keeps_protection : is_protect e ≡ false
-  pub unending : (t : ℕ) → ending S H e t ≡ None
-
-no-done : (e : Entry) → is_command e ≡ false → is_done e ≡ false
-no-done (Done t c) still = absurd (true≢false still)
-no-done e still = refl
-
-pub no-fetch : (e : Entry) → is_command e ≡ false → is_fetch_entry e ≡ false
-no-fetch (Done t c) still = absurd (true≢false still)
-no-fetch (Fault t c done) still = absurd (true≢false still)
-no-fetch e still = refl
-
-no-store : (t b : ℕ) (e : Entry) → is_command e ≡ false → is_store_of t b e ≡ false
-no-store t b (Done u c) still = absurd (true≢false still)
-no-store t b (Fault u c done) still = absurd (true≢false still)
-no-store t b e still = refl
-
-read-same : (S : Setup) (H : List Entry) (e : Entry) (t x : ℕ) → is_command e ≡ false → bytes_read S (e ∷ H) t x ≡ bytes_read S H t x
-unfolding bytes_read
-read-same S H (Done u c) t x still = absurd (true≢false still)
-read-same S H e t x still = refl
-
-pub left-done : (S : Setup) (H : List Entry) (e : Entry) (t : ℕ) (q : Request) → is_done e ≡ false → left_of S (e ∷ H) t q ≡ left_of S H t q
-unfolding left_of
-left-done S H e t q still = λ i. sum_by task_bytes (filter (λ task. not (finished-same S H (e ∷ H) t task (done_commands-same H e t still) i)) (tasks_of S q))
+use Rattle.history_laws.proofs.LeftLemmas.{left-done}
+use Rattle.history_laws.proofs.QuietLemmas.{IsStill, no-done, no-fetch, no-store, read-same}
 
 pub buffer-kept : (S : Setup) (H : List Entry) (e : Entry) (t : ℕ) (q : Request) (buffer : List ℕ) → is_command e ≡ false → IsBuffer S H t q buffer → IsBuffer S (e ∷ H) t q buffer
 buffer-kept S H e t q buffer still is = record {

@@ -27,7 +27,7 @@ use Rattle.disk_core.specs.Calls.{StepSays, command_of}
 use Rattle.disk_core.specs.Moves.{IsDisk, IsFirst, Reaches, HasPlace, Finishes, Fails, MayEnter, Settles}
 use Rattle.disk_core.proofs.Commanded.{entry_for, sync-era}
 use Rattle.disk_core.proofs.Finished.{kept-done}
-use Rattle.disk_core.proofs.HistoryUnits.{FinishesTask, sync-finishes}
+use Rattle.history_laws.proofs.LeftLemmas.{FinishesTask, sync-finishes}
 use Rattle.disk_core.proofs.Opened.{open-record}
 use Rattle.disk_core.proofs.Stepped.{Follows, did-done, did-failed}
 use Rattle.disk_core.proofs.Upcoming.{next-is, is-present, may-fail, may-lower, unit-token}

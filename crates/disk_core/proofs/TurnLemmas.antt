@@ -18,7 +18,7 @@ use Rattle.disk_core.specs.State.{State}
 use Rattle.disk_core.specs.Facts.{AreFacts}
 use Rattle.disk_core.specs.Calls.{StepSays, MakesFirst, is_fetched, first_of}
 use Rattle.disk_core.specs.Turns.{TakesTurn, StepTurns}
-use Rattle.disk_core.proofs.Found.{fetched-ticket}
+use Rattle.history_laws.proofs.FetchLemmas.{fetched-ticket}
 
 -- where no gate is held, no block is
 pub none-held : (s : State) (b : ℕ) → AreFacts s → s.gates.held ≡ [] → is_held s.setup s.entries b ≡ false

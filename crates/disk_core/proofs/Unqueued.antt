@@ -20,13 +20,9 @@ use Rattle.history_laws.proofs.TaskLemmas.{task-unit, task-sync, task-moving}
 use Rattle.subtask_queue.specs.declared.sub.Sub.{Sub}
 use Rattle.subtask_queue.specs.declared.sub.Sub.TheVariants.{Part, Run}
 use Rattle.subtask_queue.specs.Subs.{token_of, block_of, is_of, has_block, is_unit, sub_of_task, sub_of, without_first}
-use Rattle.disk_core.proofs.HistoryUnits.{FinishesTask, is_here, pending-finished}
+use Rattle.history_laws.proofs.LeftLemmas.{FinishesTask, is_here, pending-finished}
 use Rattle.disk_core.proofs.Queued.{sub-token}
-
--- the first block of a unit
-abbrev pub task_block : Task → ℕ
-task_block (Moves u) = u.block
-task_block Syncs = 0
+use Rattle.history_laws.proofs.LeftLemmas.{blocks-tell, once, task_block}
 
 block-task : (size token : ℕ) (write : Bool) (task : Task) → block_of (sub_of_task size token write task) ≡ task_block task
 block-task size token write Syncs = refl
@@ -34,26 +30,6 @@ block-task size token write (Moves u) = elim u.whole as (λ v. block_of (if v th
 
 pub block-sub : (size : ℕ) (todo : Todo) → block_of (sub_of size todo) ≡ task_block todo.task
 block-sub size todo = block-task size todo.token (changes_bytes todo.kind) todo.task
-
--- units of one request have one first block where they have one first byte
-blocks-tell : (S : Setup) (r : Request) (i j : ℕ) (task other : Task) → IsSetup S → slice_get (tasks_of S r) i ≡ Some task → slice_get (tasks_of S r) j ≡ Some other → nat_eq (task_block task) (task_block other) ≡ nat_eq (task_low other) (task_low task)
-blocks-tell S r i j Syncs Syncs is here there = refl
-blocks-tell S r i j Syncs (Moves v) is here there = absurd (both_ways (is_flush r.asked.kind) (task-moving S r j v there) (task-sync S r i here))
-blocks-tell S r i j (Moves u) Syncs is here there = absurd (both_ways (is_flush r.asked.kind) (task-moving S r i u here) (task-sync S r j there))
-blocks-tell S r i j (Moves u) (Moves v) is here there =
-    let first = task-unit S r i u is here in
-    let second = task-unit S r j v is there in
-    elim (cases_eq u.block v.block) [
-      | inl same ↦
-          let low : v.low ≡ u.low = second.low ∙ ap (λ b. max (from_of S r) (b * size_of S)) (sym same) ∙ sym first.low in
-          eq-eqb u.block v.block same ∙ sym (eq-eqb v.low u.low low)
-      | inr other ↦
-          ne_eqb u.block v.block other
-          ∙ sym (ne_eqb v.low u.low (λ low.
-          let some = first.some in let more = second.some in
-          let one : u ≡ v = units-same S.geometry (from_of S r) (until_of S r) u.low u v is.geometry first second (omega arith) (omega arith) (omega arith) (omega arith) in
-          other (ap (λ (w : Span). w.block) one)))
-    ]
 
 test-unit : (token block : ℕ) (s : Sub) → is_unit token block s ≡ (nat_eq token (token_of s) && nat_eq block (block_of s))
 unfolding is_unit is_of has_block
@@ -82,17 +58,6 @@ finds S H t r task place todo q is named listed left =
           ap (λ b. b && nat_eq (task_block task) (task_block todo.task)) (flip t todo.token)
           ∙ ap (λ b. nat_eq todo.token t && b) (blocks-tell S r place left.place task todo.task is listed there)
     ]
-
-once : (t : ℕ) (task : Task) (x y : Todo) → IsBefore x y → is_here t task x ≡ true → is_here t task y ≡ false
-once t task x y (inl lower) here =
-    let parts = and_parts (nat_eq x.token t) (nat_eq (task_low x.task) (task_low task)) here in
-    let token = eqb-true x.token t parts.0 in
-    and_left (nat_eq y.token t) (nat_eq (task_low y.task) (task_low task)) (ne_eqb y.token t (λ same. absurd (omega arith)))
-once t task x y (inr before) here =
-    let parts = and_parts (nat_eq x.token t) (nat_eq (task_low x.task) (task_low task)) here in
-    let low = eqb-true (task_low x.task) (task_low task) parts.1 in
-    let lower = before.1 in
-    and_right (nat_eq y.token t) (nat_eq (task_low y.task) (task_low task)) (ne_eqb (task_low y.task) (task_low task) (λ same. absurd (omega arith)))
 
 -- taking all of them away takes the first, where there is at most one
 without-one : (p : Todo → Bool) (q : Sub → Bool) (f : Todo → Sub) (xs : List Todo) → Ordered IsBefore xs → ((i : ℕ) (x : Todo) → slice_get xs i ≡ Some x → q (f x) ≡ p x) → ((x y : Todo) → IsBefore x y → p x ≡ true → p y ≡ false)

@@ -26,18 +26,14 @@ use Rattle.disk_core.specs.State.{setup_of}
 use Rattle.disk_core.specs.Parts.{state_of}
 use Rattle.disk_core.specs.Moves.{IsDisk, IsFirst, HasPlace}
 use Rattle.disk_core.proofs.Failed.{units-owed, open-place}
-use Rattle.disk_core.proofs.HistoryUnits.{FinishesTask, left-falls}
+use Rattle.history_laws.proofs.LeftLemmas.{FinishesTask, left-falls}
 use Rattle.disk_core.proofs.Links.{disk-closed}
 use Rattle.disk_core.proofs.Opened.{open-record, open-marked}
-use Rattle.disk_core.proofs.Unqueued.{task_block, block-sub}
+use Rattle.disk_core.proofs.Unqueued.{block-sub}
+use Rattle.history_laws.proofs.LeftLemmas.{task_block}
 use Rattle.disk_core.proofs.Untouched.{told-whole}
 use Rattle.disk_core.proofs.Queued.{sub-token}
-
--- a unit that is left, and its command may be made
-pub record IsNext (S : Setup) (H : List Entry) (free : Bool) (todo : Todo) (r : Request) : Type 0 where
-  pub left : IsPending S H todo r
-  pub clear : is_runnable (is_held S H) free todo ≡ true
-  pub may : MayCommand S H todo.token (task_command H todo.token todo.kind todo.task)
+use Rattle.history_laws.proofs.OpenLemmas.{IsNext}
 
 module _ {M : Type 0} (device : M → Device) (prepared : M → ℕ → Type 0) (drive : DriveState M) (c : Core) (sound : IsDisk device prepared drive c) where
   abbrev S : Setup

@@ -25,6 +25,7 @@ use Rattle.disk_core.specs.Closing.{IsClosing, is_some_meant, is_queued, is_queu
 use Rattle.disk_core.proofs.Closed.{kept-ended, closing-step, open-outstanding, open-owed}
 use Rattle.disk_core.proofs.Staying.{revokes, holders-lent}
 use Rattle.disk_core.proofs.Walked.{Tells, closing-tells, queue-sorted, queue-below, queued-open, open-queued, open-answers}
+use Rattle.history_laws.proofs.EndedLemmas.{ended-none}
 
 below-then : (S : Setup) (H : List Entry) (e : Entry) (n u : ℕ) → u < n → marks_below S H e n u ≡ mark_of S (e ∷ H) u
 below-then S H e n u below = rw (lt-ltb u n below) refl
@@ -86,14 +87,6 @@ begins-at-none meant status c S H e late to_end = record {
   kept = refl;
   revokes = revokes-none c.gates;
 }
-
-ended-none : (S : Setup) (H : List Entry) (e : Entry) (from n : ℕ) → from ≤ n → ((u : ℕ) → from ≤ u → u < n → (is_outstanding S H u && is_some (ending S H e u)) ≡ false) → ended_before S H e n ≡ ended_before S H e from
-unfolding ended_before
-ended-none S H e from zero order none = ap (ended_before S H e) (let same : zero ≡ from = omega arith in same)
-ended-none S H e from (suc n) order none = elim (cases_eq from (suc n)) [
-  | inl same ↦ ap (ended_before S H e) (sym same)
-  | inr other ↦ rw (none n (omega (arith, other)) (omega arith)) (ended-none S H e from n (omega (arith, other)) (λ u above below. none u above (omega arith)))
-]
 
 module _ (meant : Meant) (status : Status) (S : Setup) (H : List Entry) (e : Entry) (late : ℕ) (initial c : Core) (from count : ℕ) (to_end : IsToEnd meant status S H e late initial) (so_far : SoFar S H e late initial c from count) where
   tokens-same : accepted (e ∷ H) ≡ accepted H

@@ -41,9 +41,9 @@ use Rattle.disk_core.specs.Storage.{IsStoring}
 use Rattle.disk_core.proofs.Admitted.{blocks-of}
 use Rattle.disk_core.proofs.Commanded.{entry_for, write-era}
 use Rattle.disk_core.proofs.Composed.{part-record, holder-is, part-in-record}
-use Rattle.disk_core.proofs.HistoryHeld.{part_of_range, part-listed, part-unmoved}
+use Rattle.history_laws.proofs.HoldingLemmas.{part_of_range, part-listed, part-unmoved}
 use Rattle.disk_core.proofs.HistoryStored.{stored-done, stored-failed}
-use Rattle.disk_core.proofs.HistoryUnits.{FinishesTask, unit-finishes}
+use Rattle.history_laws.proofs.LeftLemmas.{FinishesTask, unit-finishes}
 use Rattle.disk_core.proofs.Opened.{IsOpenRecord, IsHolderOf}
 use Rattle.disk_core.proofs.Parted.{part-there, group-there, medium-there}
 use Rattle.disk_core.proofs.Released.{same-but}

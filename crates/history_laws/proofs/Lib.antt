@@ -27,3 +27,14 @@ pub mod Worked
 pub mod PlainLemmas
 pub mod WeightLemmas
 pub mod LaterLemmas
+pub mod FetchLemmas
+pub mod OwingLemmas
+pub mod HoldingLemmas
+pub mod LeftLemmas
+pub mod CostLemmas
+pub mod QuietLemmas
+pub mod EndedLemmas
+pub mod FittingLemmas
+pub mod FreshLemmas
+pub mod OpenLemmas
+pub mod BytesLemmas

@@ -1,35 +1,36 @@
 -- What a done command that finishes one unit leaves of its token.
-use Rattle.std.proofs.Common.{◌≡◌, ◌≢◌, ℕ, zero, suc, ◌+◌, ◌<◌, ◌⊎◌, inl, inr, Bool, true, false, not, ◌&&◌, ◌||◌, List, [], ◌∷◌, slice_get, None, Some, refl, sym, ◌∙◌, ap, subst, arith}
-use Rattle.std.specs.Prelude.{filter, sum_by, nat_eq}
-use Rattle.std.specs.List.{list_all}
-use Rattle.std.proofs.lemmas.Bool.{cases_Bool, cases_eq, and_left, and_right, and_from, eq-eqb, ne_eqb, both_ways}
+use Rattle.std.proofs.Common.{Bool, List, None, Some, [], ap, arith, false, inl, inr, not, refl, slice_get, subst, suc, sym, true, zero, ℕ, ◌&&◌, ◌*◌, ◌+◌, ◌-◌, ◌<◌, ◌||◌, ◌∙◌, ◌∷◌, ◌≡◌, ◌≢◌, ◌⊎◌}
+use Rattle.std.proofs.lemmas.Bool.{and_from, and_left, and_parts, and_right, both_ways, cases_Bool, cases_eq, eq-eqb, eqb-true, ne_eqb}
 use Rattle.std.proofs.lemmas.List.Sums.{sum_by-cons}
-use Rattle.std.proofs.lemmas.Option.{same_Some, none-some}
-use Rattle.efi_status.specs.declared.Status.TheVariants.{Success}
+use Rattle.std.proofs.lemmas.Option.{none-some, same_Some}
+use Rattle.std.specs.List.{list_all}
+use Rattle.std.specs.Prelude.{filter, if◌then◌else◌, max, nat_eq, sum_by}
+use Rattle.disk_split.proofs.Shared.{units-same}
 use Rattle.disk_split.specs.declared.span.Span.{Span}
+use Rattle.efi_status.specs.declared.Status.TheVariants.{Success}
+use Rattle.history.specs.Commands.{is_moved, is_sync, is_transfer}
+use Rattle.history.specs.Marks.{IsOutstanding, is_complete, is_outstanding, mark_of, status_if}
+use Rattle.history.specs.Rules.{IsLegal}
+use Rattle.history.specs.Setup.{IsSetup, Setup, size_of}
+use Rattle.history.specs.Tasks.{Moves, Syncs, Task, Todo, is_finished, pending, tasks_of}
+use Rattle.history.specs.Tokens.{Request, from_of, is_flush, request, until_of}
 use Rattle.history.specs.declared.entry.Command.{Command}
 use Rattle.history.specs.declared.entry.Command.TheVariants.{Sync}
 use Rattle.history.specs.declared.entry.Entry.{Entry}
 use Rattle.history.specs.declared.entry.Entry.TheVariants.{Done}
-use Rattle.history.specs.Setup.{Setup, IsSetup}
-use Rattle.history.specs.Tokens.{Request, request, is_flush, from_of, until_of}
-use Rattle.history.specs.Commands.{is_transfer, is_sync, is_moved}
-use Rattle.history.specs.Marks.{mark_of, status_if, is_complete, is_outstanding, IsOutstanding}
-use Rattle.history.specs.Rules.{IsLegal}
-use Rattle.history.specs.Tasks.{Task, Moves, Syncs, tasks_of, is_finished, Todo, pending}
-use Rattle.history_laws.specs.Left.{task_bytes, left_of}
-use Rattle.history_laws.specs.Pending.{is_todo, task_low, Ordered}
-use Rattle.history_laws.specs.Told.{concerns}
-use Rattle.history_laws.specs.Units.{IsUnitCommand}
 use Rattle.history_laws.proofs.CountLemmas.{accepted-same}
 use Rattle.history_laws.proofs.EndLemmas.{mark-done}
 use Rattle.history_laws.proofs.FinishLemmas.{same-low}
 use Rattle.history_laws.proofs.NextLemmas.{outstanding-test}
 use Rattle.history_laws.proofs.OrderLemmas.{tasks-ordered}
-use Rattle.history_laws.proofs.PendingLemmas.{IsPending, filter-alike, pending-is, pending-keeps, todo-stays}
-use Rattle.history_laws.proofs.TaskLemmas.{complete-tasks, task-unit, task-sync, task-moving}
-use Rattle.history_laws.proofs.TokenLemmas.{request-same, mark-other, done_commands-other, done-concerns, has_done-done}
-use Rattle.history_laws.proofs.UnitLemmas.{unit-inside, moved-more}
+use Rattle.history_laws.proofs.PendingLemmas.{IsPending, filter-alike, finished-same, pending-is, pending-keeps, todo-stays}
+use Rattle.history_laws.proofs.TaskLemmas.{complete-tasks, task-moving, task-sync, task-unit}
+use Rattle.history_laws.proofs.TokenLemmas.{done-concerns, done_commands-other, done_commands-same, has_done-done, mark-other, request-same}
+use Rattle.history_laws.proofs.UnitLemmas.{moved-more, unit-inside}
+use Rattle.history_laws.specs.Left.{left_of, task_bytes}
+use Rattle.history_laws.specs.Pending.{IsBefore, Ordered, is_todo, task_low}
+use Rattle.history_laws.specs.Told.{concerns, is_done}
+use Rattle.history_laws.specs.Units.{IsUnitCommand}
 
 -- a done command finishes this unit of its token, and no other
 pub record FinishesTask (S : Setup) (H : List Entry) (t : ℕ) (c : Command) (r : Request) (task : Task) : Type 0 where
@@ -155,6 +156,7 @@ mark-finished S H t c r task is legal unmarked finishes =
 abbrev pub is_here : ℕ → Task → Todo → Bool
 is_here t task todo = nat_eq todo.token t && nat_eq (task_low todo.task) (task_low task)
 
+-- one unit that fails a test
 pub not-all : (test : Task → Bool) (tasks : List Task) (k : ℕ) (task : Task) → slice_get tasks k ≡ Some task → test task ≡ false → list_all test tasks ≡ false
 not-all test [] k task there fails = absurd (none-some task there)
 not-all test (other ∷ tasks) zero task there fails = and_left (test other) (list_all test tasks) (ap test (same_Some other task there) ∙ fails)
@@ -203,3 +205,50 @@ pending-finished S H t c r task is legal open_ finishes =
     pending-keeps S H (Done t c) refl
     ∙ filter-alike (is_todo S (Done t c ∷ H)) (λ todo. not (is_here t task todo)) (pending S H) (λ k todo there.
     let left = pending-is S H k todo there in left-test S H t c r task todo left.0 is legal open_ finishes left.1)
+
+-- an entry that does not concern the token leaves what is left of it
+pub left-other : (S : Setup) (H : List Entry) (e : Entry) (t : ℕ) (q : Request) → concerns H e t ≡ false → left_of S (e ∷ H) t q ≡ left_of S H t q
+unfolding left_of
+left-other S H e t q quiet = λ i. sum_by task_bytes (filter (λ task. not (finished-same S H (e ∷ H) t task (done_commands-other S H e t quiet) i)) (tasks_of S q))
+
+-- and so does one that is no done command
+pub left-done : (S : Setup) (H : List Entry) (e : Entry) (t : ℕ) (q : Request) → is_done e ≡ false → left_of S (e ∷ H) t q ≡ left_of S H t q
+unfolding left_of
+left-done S H e t q still = λ i. sum_by task_bytes (filter (λ task. not (finished-same S H (e ∷ H) t task (done_commands-same H e t still) i)) (tasks_of S q))
+
+-- the first block of a unit
+abbrev pub task_block : Task → ℕ
+task_block (Moves u) = u.block
+task_block Syncs = 0
+
+-- units of one request have one first block where they have one first byte
+pub blocks-tell : (S : Setup) (r : Request) (i j : ℕ) (task other : Task) → IsSetup S → slice_get (tasks_of S r) i ≡ Some task → slice_get (tasks_of S r) j ≡ Some other → nat_eq (task_block task) (task_block other) ≡ nat_eq (task_low other) (task_low task)
+blocks-tell S r i j Syncs Syncs is here there = refl
+blocks-tell S r i j Syncs (Moves v) is here there = absurd (both_ways (is_flush r.asked.kind) (task-moving S r j v there) (task-sync S r i here))
+blocks-tell S r i j (Moves u) Syncs is here there = absurd (both_ways (is_flush r.asked.kind) (task-moving S r i u here) (task-sync S r j there))
+blocks-tell S r i j (Moves u) (Moves v) is here there =
+    let first = task-unit S r i u is here in
+    let second = task-unit S r j v is there in
+    elim (cases_eq u.block v.block) [
+      | inl same ↦
+          let low : v.low ≡ u.low = second.low ∙ ap (λ b. max (from_of S r) (b * size_of S)) (sym same) ∙ sym first.low in
+          eq-eqb u.block v.block same ∙ sym (eq-eqb v.low u.low low)
+      | inr other ↦
+          ne_eqb u.block v.block other
+          ∙ sym (ne_eqb v.low u.low (λ low.
+          let some = first.some in let more = second.some in
+          let one : u ≡ v = units-same S.geometry (from_of S r) (until_of S r) u.low u v is.geometry first second (omega arith) (omega arith) (omega arith) (omega arith) in
+          other (ap (λ (w : Span). w.block) one)))
+    ]
+
+-- no two units of a token begin at one byte
+pub once : (t : ℕ) (task : Task) (x y : Todo) → IsBefore x y → is_here t task x ≡ true → is_here t task y ≡ false
+once t task x y (inl lower) here =
+    let parts = and_parts (nat_eq x.token t) (nat_eq (task_low x.task) (task_low task)) here in
+    let token = eqb-true x.token t parts.0 in
+    and_left (nat_eq y.token t) (nat_eq (task_low y.task) (task_low task)) (ne_eqb y.token t (λ same. absurd (omega arith)))
+once t task x y (inr before) here =
+    let parts = and_parts (nat_eq x.token t) (nat_eq (task_low x.task) (task_low task)) here in
+    let low = eqb-true (task_low x.task) (task_low task) parts.1 in
+    let lower = before.1 in
+    and_right (nat_eq y.token t) (nat_eq (task_low y.task) (task_low task)) (ne_eqb (task_low y.task) (task_low task) (λ same. absurd (omega arith)))

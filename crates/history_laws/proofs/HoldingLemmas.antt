@@ -1,38 +1,40 @@
 -- A token that holds a group is not complete.
-use Rattle.std.proofs.Common.{◌≡◌, ℕ, inl, inr, true, false, ◌||◌, List, [], ◌∷◌, slice_get, None, Some, option_map, refl, sym, ◌∙◌, ap, arith}
-use Rattle.std.specs.Prelude.{nat_eq}
-use Rattle.std.specs.List.{list_any}
-use Rattle.std.proofs.lemmas.Bool.{cases_eq, and_left, and_right, eq-eqb, ne_eqb, both_ways, or_parts}
+use Rattle.std.proofs.Common.{List, None, Some, [], ap, arith, false, if◌then◌else◌, inl, inr, option_map, refl, slice_get, sym, true, ℕ, ◌*◌, ◌+◌, ◌-◌, ◌||◌, ◌∙◌, ◌∷◌, ◌≡◌, ◌≤◌, ◌⊎◌}
+use Rattle.std.proofs.lemmas.Bool.{and_left, and_right, both_ways, cases_eq, eq-eqb, ne_eqb, or_parts}
 use Rattle.std.proofs.lemmas.Option.{slice_get-map}
-use Rattle.efi_status.specs.declared.Status.TheVariants.{Success}
-use Rattle.disk_split.specs.declared.span.Span.{Span}
+use Rattle.std.specs.List.{list_any}
+use Rattle.std.specs.Prelude.{nat_eq}
+use Rattle.disk_split.proofs.Shared.{unit-listed, units-same}
 use Rattle.disk_split.specs.Units.{IsUnit, units_of}
-use Rattle.disk_split.proofs.Shared.{units-same, unit-listed}
-use Rattle.history.specs.declared.entry.Kind.{Kind}
-use Rattle.history.specs.declared.entry.Kind.TheVariants.{Read, Write, Flush, Erase}
+use Rattle.disk_split.specs.declared.span.Span.{Span}
+use Rattle.efi_status.specs.declared.Status.TheVariants.{Success}
+use Rattle.history.specs.Commands.{done_commands, first_block, has_done, is_at, is_moved, is_store, is_transfer, moves}
+use Rattle.history.specs.Marks.{Holds, HoldsBy, fetches, mark_of, status_if, was_stored}
+use Rattle.history.specs.Rules.{HasPart, IsLegal}
+use Rattle.history.specs.Setup.{IsSetup, Setup}
+use Rattle.history.specs.Tasks.{Moves, is_finished, tasks_of}
+use Rattle.history.specs.Tokens.{Request, changes_bytes, from_of, request, until_of}
 use Rattle.history.specs.declared.entry.Command.{Command}
-use Rattle.history.specs.declared.entry.Command.TheVariants.{Fetch, Store, Put, Get, Wipe, Sync}
+use Rattle.history.specs.declared.entry.Command.TheVariants.{Fetch, Get, Put, Store, Sync, Wipe}
 use Rattle.history.specs.declared.entry.Entry.{Entry}
 use Rattle.history.specs.declared.entry.Entry.TheVariants.{Done}
-use Rattle.history.specs.Setup.{Setup, IsSetup}
-use Rattle.history.specs.Tokens.{Request, request, changes_bytes, from_of, until_of}
-use Rattle.history.specs.Commands.{first_block, is_transfer, is_store, is_at, moves, done_commands, has_done, is_moved}
-use Rattle.history.specs.Marks.{mark_of, status_if, Holds, was_stored}
-use Rattle.history.specs.Rules.{HasPart, IsLegal}
-use Rattle.history.specs.Tasks.{Moves, tasks_of, is_finished}
-use Rattle.history_laws.specs.Units.{IsTaskCommand, AreTaskCommands, is_span_command}
+use Rattle.history.specs.declared.entry.Kind.{Kind}
+use Rattle.history.specs.declared.entry.Kind.TheVariants.{Erase, Flush, Read, Write}
 use Rattle.history_laws.proofs.EndLemmas.{mark-done, open-request}
 use Rattle.history_laws.proofs.FinishLemmas.{same-low}
-use Rattle.history_laws.proofs.HolderLemmas.{fetched-part, changes-moving}
+use Rattle.history_laws.proofs.HolderLemmas.{changes-moving, fetched-part}
+use Rattle.history_laws.proofs.LeftLemmas.{not-all}
 use Rattle.history_laws.proofs.TaskLemmas.{complete-tasks}
-use Rattle.history_laws.proofs.TokenLemmas.{request-same, has_done-done}
-use Rattle.history_laws.proofs.UnitLemmas.{part_span, part-unit-at, done-tasks, is_within, moves-unit, unit-inside}
-use Rattle.disk_core.proofs.HistoryUnits.{not-all}
+use Rattle.history_laws.proofs.TicketLemmas.{holds-by-before}
+use Rattle.history_laws.proofs.TokenLemmas.{has_done-done, request-same}
+use Rattle.history_laws.proofs.UnitLemmas.{done-tasks, is_within, moves-unit, part-unit-at, part_span, unit-inside}
+use Rattle.history_laws.specs.Units.{AreTaskCommands, IsTaskCommand, is_span_command}
 
 -- the unit of a part
 abbrev pub part_of_range : Setup → Request → ℕ → Span
 part_of_range S r b = part_span S.geometry (from_of S r) (until_of S r) b
 
+-- the unit of a part stands among the token's units
 pub part-listed : (S : Setup) (r : Request) (b : ℕ) → IsSetup S → HasPart S r b → changes_bytes r.asked.kind ≡ true → (k : ℕ) × (slice_get (tasks_of S r) k ≡ Some (Moves (part_of_range S r b)))
 part-listed S r b is part changes =
     let unit = part-unit-at S.geometry (from_of S r) (until_of S r) b part in
@@ -104,3 +106,13 @@ held-open S H t c b is before legal unstored holds =
     let unmoved = part-unmoved S r b is part.0 part.1 (Done t c ∷ H) t legal named still in
     mark-done S H t c holds.outstanding.unmarked
     ∙ ap (λ v. status_if v Success) (complete-tasks S (Done t c ∷ H) t r is legal named ∙ not-all (is_finished S (Done t c ∷ H) t) (tasks_of S r) listed.0 (Moves (part_of_range S r b)) listed.1 unmoved)
+
+-- the holder of a ticket after a fetch is the token that fetched, where none held before
+pub new-holder : (S : Setup) (H : List Entry) (t b u c k : ℕ) → IsSetup S → IsLegal S (Done t (Fetch b) ∷ H) → (HoldsBy S H u c k → ⊥) → HoldsBy S (Done t (Fetch b) ∷ H) u c k → (t ≡ u) × (b ≡ c)
+new-holder S H t b u c k is legal none holds = by (holds-by-before S H (Done t (Fetch b)) u c k is legal holds)
+  where
+    by : HoldsBy S H u c k ⊎ ((Done t (Fetch b) ≡ Done u (Fetch c)) × (k ≡ fetches H)) → (t ≡ u) × (b ≡ c)
+    by (inl before) = absurd (none before)
+    by (inr (now, next)) =
+        let fetch : Fetch b ≡ Fetch c = cc in
+        (cc, cc)

@@ -1,27 +1,33 @@
 -- Each unfinished unit of a token still owes a command, and an open token was not handed back.
-use Rattle.std.proofs.Common.{◌≡◌, ◌⊎◌, ℕ, zero, suc, ◌≤◌, inl, inr, Bool, true, false, not, nat_eq, List, [], ◌∷◌, length, slice_get, None, Some, refl, sym, ◌∙◌, ap, arith}
-use Rattle.std.specs.Prelude.{filter, count_by, sum_by}
+use Rattle.std.proofs.Common.{Bool, List, None, Option, Some, [], ap, arith, false, inl, inr, length, nat_eq, not, refl, slice_get, suc, sym, true, zero, ℕ, ◌*◌, ◌+◌, ◌<◌, ◌∙◌, ◌∷◌, ◌≡◌, ◌≢◌, ◌≤◌, ◌⊎◌}
 use Rattle.std.proofs.lemmas.Bool.{cases_Bool, cases_eq, ne_eqb}
 use Rattle.std.proofs.lemmas.List.{length-map}
-use Rattle.std.proofs.lemmas.List.Sums.{sum_by-append, sum_by-cons, count_by-le-length}
-use Rattle.history.specs.declared.entry.Kind.{Kind}
-use Rattle.history.specs.declared.entry.Kind.TheVariants.{Read, Write, Flush, Erase}
+use Rattle.std.proofs.lemmas.List.Sums.{count_by-le-length, sum_by-append, sum_by-cons}
+use Rattle.std.specs.Prelude.{count_by, filter, sum_by}
+use Rattle.efi_status.specs.declared.Status.{Status}
+use Rattle.history.specs.Commands.{done_commands, has_done, is_at, is_get, is_put, is_store, is_transfer, is_wipe}
+use Rattle.history.specs.Marks.{is_outstanding, mark_of}
+use Rattle.history.specs.Room.{commands_owed, owed_by, part_owed, span_owed, task_owed}
+use Rattle.history.specs.Rules.{IsLegal, MayFollow}
+use Rattle.history.specs.Setup.{IsSetup, Setup}
+use Rattle.history.specs.Tasks.{Moves, Syncs, Task, Todo, is_finished, pending, tasks_of, todo_before, todo_of}
+use Rattle.history.specs.Tokens.{Request, accepted, is_flush, request, was_collected}
 use Rattle.history.specs.declared.entry.Command.{Command}
 use Rattle.history.specs.declared.entry.Entry.{Entry}
 use Rattle.history.specs.declared.entry.Entry.TheVariants.{Collect}
-use Rattle.history.specs.Setup.{Setup, IsSetup}
-use Rattle.history.specs.Tokens.{Request, accepted, request, was_collected, is_flush}
-use Rattle.history.specs.Commands.{is_store, is_put, is_get, is_wipe, is_transfer, is_at, has_done}
-use Rattle.history.specs.Marks.{mark_of, is_outstanding}
-use Rattle.history.specs.Rules.{MayFollow, IsLegal}
-use Rattle.history.specs.Tasks.{Task, Moves, Syncs, tasks_of, is_finished, Todo, todo_of, todo_before, pending}
-use Rattle.history.specs.Room.{part_owed, span_owed, task_owed, commands_owed}
-use Rattle.history_laws.proofs.TokenLemmas.{collected-same}
+use Rattle.history.specs.declared.entry.Kind.{Kind}
+use Rattle.history.specs.declared.entry.Kind.TheVariants.{Erase, Flush, Read, Write}
+use Rattle.history_laws.proofs.CountLemmas.{count-same}
 use Rattle.history_laws.proofs.EndLemmas.{mark-before}
-use Rattle.history_laws.proofs.UnitLemmas.{unmoved-undone, store-transfers, put-transfers, get-transfers, wipe-transfers}
-use Rattle.history_laws.proofs.TaskLemmas.{task-unit, task-moving}
-use Rattle.history_laws.proofs.PendingLemmas.{todo-closed, todo-open, todo-is, before-is}
-use Rattle.disk_core.proofs.Plain.{count-none}
+use Rattle.history_laws.proofs.OwedLemmas.{commands-same}
+use Rattle.history_laws.proofs.PendingLemmas.{before-is, todo-closed, todo-is, todo-open}
+use Rattle.history_laws.proofs.TaskLemmas.{task-moving, task-unit}
+use Rattle.history_laws.proofs.TokenLemmas.{collected-same}
+use Rattle.history_laws.proofs.UnitLemmas.{get-transfers, put-transfers, store-transfers, unmoved-undone, wipe-transfers}
+
+pub count-none : {X : Type 0} (test : X → Bool) (xs : List X) → ((k : ℕ) (x : X) → slice_get xs k ≡ Some x → test x ≡ false) → count_by test xs ≡ 0
+count-none test [] none = refl
+count-none test (x ∷ xs) none = count-same test x xs (none 0 x refl) ∙ count-none test xs (λ k y there. none (suc k) y there)
 
 part-owes : (fetched : Bool) → 1 ≤ part_owed fetched false
 part-owes true = omega arith
@@ -100,3 +106,10 @@ open-kept S (Collect tag u ∷ H) t (legal, (ended, kept)) unmarked = elim (case
     clash : false ≡ true → ⊥
     clash e = cc
 open-kept S (e ∷ H) t (legal, may) unmarked = collected-same H e t refl ∙ open-kept S H t legal (mark-before S H e t unmarked)
+
+-- what a token owes depends on its done commands alone
+pub owed-alike : (S : Setup) (H H' : List Entry) (t : ℕ) (o : Option Request) (m : Option Status) (collected : Bool) → done_commands H' t ≡ done_commands H t → owed_by S H' t o m collected ≡ owed_by S H t o m collected
+owed-alike S H H' t None m collected same = refl
+owed-alike S H H' t (Some r) None collected same = ap (λ n. n + 2) (commands-same S H H' t r same)
+owed-alike S H H' t (Some r) (Some status) true same = refl
+owed-alike S H H' t (Some r) (Some status) false same = refl
