@@ -35,37 +35,6 @@ pub revoke-is : (b : Bool) (s s' : Gates) (k : ℕ) → b ≡ is_some (gate_of s
 revoke-is true s s' k is done kept = rw (sym is) (done refl)
 revoke-is false s s' k is done kept = rw (sym is) (kept refl)
 
--- one holder is passed
-others-one : (token : ℕ) (h : Holder) (holders : List Holder) → nat_eq token h.token ≡ false → others token (h ∷ holders) ≡ h ∷ others token holders
-others-one token h holders other = rw other refl
-
-others-out : (token : ℕ) (h : Holder) (holders : List Holder) → nat_eq token h.token ≡ true → others token (h ∷ holders) ≡ others token holders
-others-out token h holders same = rw same refl
-
-pub passing-on : (token : ℕ) (holders : List Holder) (i : ℕ) (h : Holder) → slice_get holders i ≡ Some h → nat_eq token h.token ≡ false → passing token (suc i) holders ≡ passing token i holders
-passing-on token [] i h is other = absurd (clash is)
-  where
-    clash : None ≡ Some h → ⊥
-    clash e = cc
-passing-on token (x ∷ holders) zero h is other = sym (others-one token x holders (ap (λ o. nat_eq token (token_in o)) is ∙ other))
-  where
-    token_in : Option Holder → ℕ
-    token_in None = 0
-    token_in (Some y) = y.token
-passing-on token (x ∷ holders) (suc i) h is other = ap (λ rest. x ∷ rest) (passing-on token holders i h is other)
-
-pub passing-out : (token : ℕ) (holders : List Holder) (i : ℕ) (h : Holder) → slice_get holders i ≡ Some h → nat_eq token h.token ≡ true → passing token i (take i holders ++ drop (suc i) holders) ≡ passing token i holders
-passing-out token [] i h is same = absurd (clash is)
-  where
-    clash : None ≡ Some h → ⊥
-    clash e = cc
-passing-out token (x ∷ holders) zero h is same = sym (others-out token x holders (ap (λ o. nat_eq token (token_in o)) is ∙ same))
-  where
-    token_in : Option Holder → ℕ
-    token_in None = 0
-    token_in (Some y) = y.token
-passing-out token (x ∷ holders) (suc i) h is same = ap (λ rest. x ∷ rest) (passing-out token holders i h is same)
-
 pub passing-over : (token : ℕ) (holders : List Holder) (i : ℕ) → length holders ≤ i → passing token i holders ≡ holders
 passing-over token [] zero past = refl
 passing-over token [] (suc i) past = refl

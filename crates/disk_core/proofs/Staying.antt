@@ -103,15 +103,6 @@ revokes token holders s are =
       free = stay.free;
     }
 
--- where they are lent they are so afterwards
-pub revoked-lent : (token : ℕ) (holders : List Holder) (s : Gates) → AreLent s.held → AreLent (revoked token holders s).held
-unfolding revoked revoked_one
-revoked-lent token [] s are = are
-revoked-lent token (h ∷ holders) s are = elim (cases_Bool (nat_eq token h.token)) [
-  | inl same ↦ rw (same, revoked) (revoked-lent token holders (revoking s h.ticket) (one-stays h.ticket s are).1)
-  | inr other ↦ rw (other, revoked) (revoked-lent token holders s are)
-]
-
 pub holders-lent : (holders : List Holder) (held : List Gate) → map (λ h. h.ticket) holders ≡ map (λ g. g.ticket) held → Ordered IsEarlier holders → ((k : ℕ) (g : Gate) → gate_of held k ≡ Some g → g.out ≡ true) → AreLent held
 holders-lent holders held paired rising lent = record {
   lent = lent;

@@ -75,28 +75,6 @@ and-true : (p : Bool) → (p && true) ≡ p
 and-true true = refl
 and-true false = refl
 
--- an insertion ends none
-pub outstanding-insert : (S : Setup) (H : List Entry) (tag k t : ℕ) → is_outstanding S (Insert tag k ∷ H) t ≡ is_outstanding S H t
-unfolding ending
-outstanding-insert S H tag k t = outstanding-next S H (Insert tag k) t refl ∙ and-true (is_outstanding S H t)
-
--- the statuses with which they end
-pub mark-cancel : (S : Setup) (H : List Entry) (tag : ℕ) (view : View) (t : ℕ) → mark_of S H t ≡ None → has_view view (request H t) ≡ true → mark_of S (Cancel tag view ∷ H) t ≡ Some Aborted
-unfolding mark_of ending
-mark-cancel S H tag view t unmarked of = rw (unmarked, of)
-
-pub mark-reset : (S : Setup) (H : List Entry) (tag t : ℕ) → t < accepted H → mark_of S H t ≡ None → mark_of S (Reset tag ∷ H) t ≡ Some Aborted
-unfolding mark_of ending
-mark-reset S H tag t token unmarked = rw (unmarked, lt-ltb t (accepted H) token)
-
-pub mark-eject : (S : Setup) (H : List Entry) (tag t : ℕ) → t < accepted H → mark_of S H t ≡ None → mark_of S (Eject tag ∷ H) t ≡ Some NoMedia
-unfolding mark_of ending
-mark-eject S H tag t token unmarked = rw (unmarked, lt-ltb t (accepted H) token)
-
-pub mark-protect : (S : Setup) (H : List Entry) (tag t : ℕ) → mark_of S H t ≡ None → is_some_change (request H t) ≡ true → mark_of S (Protect tag true ∷ H) t ≡ Some WriteProtected
-unfolding mark_of ending
-mark-protect S H tag t unmarked of = rw (unmarked, of)
-
 -- lifting the protection ends none
 pub mark-unprotect : (S : Setup) (H : List Entry) (tag t : ℕ) → mark_of S (Protect tag false ∷ H) t ≡ mark_of S H t
 unfolding mark_of ending
@@ -230,14 +208,6 @@ era_count-within test k (e ∷ H) = rw (sum_by-cons) (by (nat_eq (media_id_of H)
     by true false less = omega arith
     by false true less = omega arith
     by false false less = omega arith
-
--- an era that has not begun counts nothing
-pub later-count : (test : Entry → Bool) (k : ℕ) (H : List Entry) → media_id_of H < k → era_count test k H ≡ 0
-unfolding era_count
-later-count test k [] later = refl
-later-count test k (e ∷ H) later =
-    let before : media_id_of H < k = omega (arith, later, media-id-rises H e) in
-    rw (ne_eqb (media_id_of H) k (λ same. absurd (omega (arith, same, before)))) (later-count test k H before)
 
 -- a medium that is out stays as it is
 pub out-stays : (S : Setup) (k : ℕ) (H : List Entry) (e : Entry) → IsLegal S H → MayFollow S H e → IsOut H k

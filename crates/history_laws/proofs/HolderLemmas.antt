@@ -154,17 +154,6 @@ holder-held S H t b holds = by (first_from (is_holder S H (group_start S.geometr
 pub unheld-from : (S : Setup) (H : List Entry) (b : ℕ) → is_held S H b ≡ false → IsUnheld S H b
 unheld-from S H b free t holds = both_ways (is_held S H b) free (holder-held S H t b holds)
 
-pub unheld-test : (S : Setup) (H : List Entry) (b : ℕ) → IsUnheld S H b → is_held S H b ≡ false
-unheld-test S H b free = false_from_ne_true (is_held S H b) (λ held. let (t, holds) = held-holder S H b held in free t holds)
-
--- an entry that does not concern a holder leaves it one
-pub holds-stays : (S : Setup) (H : List Entry) (e : Entry) (t b : ℕ) → concerns H e t ≡ false → Holds S H t b → Holds S (e ∷ H) t b
-holds-stays S H e t b quiet holds = record {
-  outstanding = record { token = omega (arith, holds.outstanding.token, accepted-rises H e); unmarked = mark-other S H e t quiet ∙ holds.outstanding.unmarked };
-  fetched = has_done-other S (is_at is_fetch b) H e t quiet ∙ holds.fetched;
-  unstored = has_done-other S (is_at is_store b) H e t quiet ∙ holds.unstored;
-}
-
 -- a done command that moves nothing and is no flush leaves its token open
 pub still-open : (S : Setup) (H : List Entry) (t : ℕ) (c : Command) (r : Request) → IsLegal S H → request H t ≡ Some r → is_flush r.asked.kind ≡ false → is_transfer c ≡ false → IsOutstanding S H t → mark_of S (Done t c ∷ H) t ≡ None
 still-open S H t c r legal named moving none open_ =
@@ -204,10 +193,3 @@ store-frees S H t u b is legal held holds = by (holds-before S H (Done t (Store 
         let same : u ≡ t = one-holder S H u t b is legal before held in
         let own : Holds S (Done t (Store b) ∷ H) t b = rw same at holds in
         both_ways (was_stored (Done t (Store b) ∷ H) t b) own.unstored (has_done-done (is_at is_store b) H t (Store b) ∙ or_left (nat_eq b b) (was_stored H t b) (eq-eqb b b refl))
-
--- an end frees all that its token held
-pub end-frees : (S : Setup) (H : List Entry) (t b : ℕ) (status : Status) → mark_of S H t ≡ Some status → Holds S H t b → ⊥
-end-frees S H t b status marked holds = clash (sym marked ∙ holds.outstanding.unmarked)
-  where
-    clash : Some status ≡ None → ⊥
-    clash e = cc

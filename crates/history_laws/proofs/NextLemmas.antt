@@ -8,7 +8,7 @@ use Rattle.history.specs.Tokens.{Request, accepted, request}
 use Rattle.history.specs.Marks.{mark_of, is_outstanding, IsOutstanding}
 use Rattle.history.specs.Tasks.{Task, tasks_of, is_finished, task_command}
 use Rattle.history.specs.Next.{first_open, next_task, next_turn}
-use Rattle.history_laws.proofs.ScanLemmas.{first_from-is, first_from-none, first_from-some, first_from-fails}
+use Rattle.history_laws.proofs.ScanLemmas.{first_from-none, first_from-some, first_from-fails}
 
 -- the test for an open token
 pub outstanding-test : (S : Setup) (H : List Entry) (t : ℕ) → IsOutstanding S H t → is_outstanding S H t ≡ true
@@ -29,12 +29,6 @@ ended-test S H t ended = and_right (nat_lt t (accepted H)) (is_none (mark_of S H
     by : (m : Option Status) → m ≢ None → is_none m ≡ false
     by None ne = absurd (ne refl)
     by (Some status) ne = refl
-
--- the first open token, where all before it have ended
-pub first-open-is : (S : Setup) (H : List Entry) (t : ℕ) → IsOutstanding S H t → ((u : ℕ) → u < t → mark_of S H u ≢ None) → first_open S H ≡ Some t
-unfolding first_open
-first-open-is S H t open_ before =
-    first_from-is (is_outstanding S H) 0 (accepted H) t (omega arith) (omega (arith, open_.token)) (λ u lo hi. ended-test S H u (before u hi)) (outstanding-test S H t open_)
 
 -- none where all have ended
 pub first-open-none : (S : Setup) (H : List Entry) → ((u : ℕ) → u < accepted H → mark_of S H u ≢ None) → first_open S H ≡ None
@@ -58,12 +52,6 @@ first-open-fails S H t none open_ =
     clash : true ≡ false → ⊥
     clash e = cc
 
--- the first element of a list that passes a test
-pub find-is : {X : Type 0} (test : X → Bool) (xs : List X) (k : ℕ) (x : X) → slice_get xs k ≡ Some x → test x ≡ true → ((j : ℕ) (y : X) → j < k → slice_get xs j ≡ Some y → test y ≡ false) → find test xs ≡ Some x
-find-is test [] k x there here before = cc
-find-is test (y ∷ xs) zero x there here before = let same : y ≡ x = cc in rw (same, here)
-find-is test (y ∷ xs) (suc k) x there here before = rw (before 0 y (omega arith) refl) (find-is test xs k x there here (λ j z less at. before (suc j) z (omega arith) at))
-
 -- it stands in the list, passes the test, and none before it does
 pub find-some : {X : Type 0} (test : X → Bool) (xs : List X) (x : X) → find test xs ≡ Some x → (k : ℕ) × (slice_get xs k ≡ Some x) × (test x ≡ true) × ((j : ℕ) (y : X) → j < k → slice_get xs j ≡ Some y → test y ≡ false)
 find-some test [] x is = cc
@@ -81,25 +69,6 @@ find-some {X} test (y ∷ xs) x is = elim (cases_Bool (test y)) [
     earlier : (k : ℕ) → ((j : ℕ) (z : X) → j < k → slice_get xs j ≡ Some z → test z ≡ false) → test y ≡ false → (j : ℕ) (z : X) → j < suc k → slice_get (y ∷ xs) j ≡ Some z → test z ≡ false
     earlier k before fails zero z less at = let same : y ≡ z = cc in rw (← same) fails
     earlier k before fails (suc j) z less at = before j z (omega arith) at
-
--- where nothing is found, each fails
-pub find-fails : {X : Type 0} (test : X → Bool) (xs : List X) (k : ℕ) (x : X) → find test xs ≡ None → slice_get xs k ≡ Some x → test x ≡ false
-find-fails test [] k x none there = cc
-find-fails test (y ∷ xs) zero x none there = elim (cases_Bool (test y)) [
-  | inl holds ↦ let e : Some y ≡ None = rw holds at none in cc
-  | inr fails ↦ let same : y ≡ x = cc in rw (← same) fails
-]
-find-fails test (y ∷ xs) (suc k) x none there = elim (cases_Bool (test y)) [
-  | inl holds ↦ let e : Some y ≡ None = rw holds at none in cc
-  | inr fails ↦ find-fails test xs k x (rw fails at none) there
-]
-
--- the unit of this place comes next, where it is not finished and those before it are
-pub next-task-is : (S : Setup) (H : List Entry) (t : ℕ) (r : Request) (k : ℕ) (task : Task) → slice_get (tasks_of S r) k ≡ Some task → is_finished S H t task ≡ false
-    → ((j : ℕ) (other : Task) → j < k → slice_get (tasks_of S r) j ≡ Some other → is_finished S H t other ≡ true) → next_task S H t r ≡ Some task
-unfolding next_task
-next-task-is S H t r k task there unfinished before =
-    find-is (λ other. not (is_finished S H t other)) (tasks_of S r) k task there (not_from_false (is_finished S H t task) unfinished) (λ j other less at. not_from_true (is_finished S H t other) (before j other less at))
 
 -- the unit that comes next is one of the request's, is not finished, and those before it are
 pub next-task-some : (S : Setup) (H : List Entry) (t : ℕ) (r : Request) (task : Task) → next_task S H t r ≡ Some task

@@ -155,11 +155,6 @@ before-is S H (suc n) k todo there = elim (get-appended (todo_before S H n) (tod
 pub pending-is : (S : Setup) (H : List Entry) (k : ℕ) (todo : Todo) → slice_get (pending S H) k ≡ Some todo → (r : Request) × IsPending S H todo r
 pending-is S H k todo there = (before-is S H (accepted H) k todo there).1
 
--- and is still to do
-pub pending-todo : (S : Setup) (H : List Entry) (todo : Todo) (r : Request) → IsPending S H todo r → is_todo S H todo ≡ true
-pending-todo S H todo r is =
-    and_from (is_outstanding S H todo.token) (not (is_finished S H todo.token todo.task)) (outstanding-test S H todo.token is.outstanding) (not_from_false (is_finished S H todo.token todo.task) is.unfinished)
-
 -- histories that tell the same done commands of a token tell the same of its units
 pub finished-same : (S : Setup) (H H' : List Entry) (t : ℕ) (task : Task) → done_commands H' t ≡ done_commands H t → is_finished S H' t task ≡ is_finished S H t task
 unfolding has_done
@@ -194,10 +189,6 @@ pending-collect S H tag t =
 pub pending-insert : (S : Setup) (H : List Entry) (tag k : ℕ) → pending S (Insert tag k ∷ H) ≡ pending S H
 pending-insert S H tag k =
     pending-same S H (Insert tag k) refl (λ todo r is. todo-stays S H (Insert tag k) todo r is (mark-other S H (Insert tag k) todo.token refl ∙ is.outstanding.unmarked) (done_commands-same H (Insert tag k) todo.token refl))
-
-pub pending-unprotect : (S : Setup) (H : List Entry) (tag : ℕ) → pending S (Protect tag false ∷ H) ≡ pending S H
-pending-unprotect S H tag =
-    pending-same S H (Protect tag false) refl (λ todo r is. todo-stays S H (Protect tag false) todo r is (mark-other S H (Protect tag false) todo.token refl ∙ is.outstanding.unmarked) (done_commands-same H (Protect tag false) todo.token refl))
 
 -- a done command that moves nothing and leaves its token open leaves the list, so a fetch does
 pub pending-still : (S : Setup) (H : List Entry) (t : ℕ) (c : Command) → is_transfer c ≡ false → is_sync c ≡ false → (mark_of S H t ≡ None → mark_of S (Done t c ∷ H) t ≡ None) → pending S (Done t c ∷ H) ≡ pending S H

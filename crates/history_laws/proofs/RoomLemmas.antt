@@ -168,11 +168,6 @@ ended-owed-most S H t status marked = rw marked (by (request H t) (was_collected
     by (Some r) true = omega arith
     by (Some r) false = omega arith
 
--- a token that is not accepted owes nothing
-pub unaccepted-owed : (S : Setup) (H : List Entry) (t : ℕ) → request H t ≡ None → token_owed S H t ≡ 0
-unfolding token_owed
-unaccepted-owed S H t unnamed = rw unnamed
-
 owed_by-same : (S : Setup) (H H' : List Entry) (t : ℕ) (o : Option Request) (m : Option Status) (collected : Bool) → done_commands H' t ≡ done_commands H t → owed_by S H' t o m collected ≡ owed_by S H t o m collected
 owed_by-same S H H' t None m collected same = refl
 owed_by-same S H H' t (Some r) None collected same = ap (λ n. n + 2) (commands-same S H H' t r same)

@@ -77,16 +77,6 @@ all_from-tiles test a z (u ∷ us) (low, some, more) same =
     let rest : all_from test u.high (z - u.high) ≡ list_all (λ v. test v.low) us = all_from-tiles test u.high z us more (λ k x v is from until. same (suc k) x v is from until) in
     rw (parts, ← low) (all_from-append test u.low (u.high - u.low) (z - u.high) ∙ rw (next, first, rest))
 
--- the least number of which a test holds
-pub first_from-is : (test : ℕ → Bool) (a n k : ℕ) → a ≤ k → k < a + n → ((j : ℕ) → a ≤ j → j < k → test j ≡ false) → test k ≡ true → first_from test a n ≡ Some k
-unfolding first_from
-first_from-is test a zero k from until before here = absurd (omega arith)
-first_from-is test a (suc n) k from until before here = elim (cases_eq a k) [
-  | inl same ↦ rw (same, here)
-  | inr other ↦
-      rw (before a (omega arith) (omega (arith, other))) (first_from-is test (a + 1) n k (omega (arith, other)) (omega arith) (λ j lo hi. before j (omega arith) hi) here)
-]
-
 -- none where it holds of none
 pub first_from-none : (test : ℕ → Bool) (a n : ℕ) → ((j : ℕ) → a ≤ j → j < a + n → test j ≡ false) → first_from test a n ≡ None
 unfolding first_from

@@ -49,10 +49,6 @@ pub request-other : (S : Setup) (H : List Entry) (e : Entry) (t : ℕ) → conce
 unfolding told
 request-other S H e t other = ap (λ (s : Told). s.named) (told-other S H e t other)
 
-pub collected-other : (S : Setup) (H : List Entry) (e : Entry) (t : ℕ) → concerns H e t ≡ false → was_collected (e ∷ H) t ≡ was_collected H t
-unfolding told
-collected-other S H e t other = ap (λ (s : Told). s.collected) (told-other S H e t other)
-
 pub done_commands-other : (S : Setup) (H : List Entry) (e : Entry) (t : ℕ) → concerns H e t ≡ false → done_commands (e ∷ H) t ≡ done_commands H t
 unfolding told
 done_commands-other S H e t other = ap (λ (s : Told). s.done) (told-other S H e t other)
@@ -60,10 +56,6 @@ done_commands-other S H e t other = ap (λ (s : Told). s.done) (told-other S H e
 pub has_done-other : (S : Setup) (test : Command → Bool) (H : List Entry) (e : Entry) (t : ℕ) → concerns H e t ≡ false → has_done test (e ∷ H) t ≡ has_done test H t
 unfolding has_done
 has_done-other S test H e t other = ap (list_any test) (done_commands-other S H e t other)
-
-pub commands_of-other : (S : Setup) (H : List Entry) (e : Entry) (t : ℕ) → concerns H e t ≡ false → commands_of (e ∷ H) t ≡ commands_of H t
-unfolding told
-commands_of-other S H e t other = ap (λ (s : Told). s.made) (told-other S H e t other)
 
 -- nor does it change what the token read
 pub bytes_read-other : (S : Setup) (H : List Entry) (e : Entry) (t x : ℕ) → concerns H e t ≡ false → bytes_read S (e ∷ H) t x ≡ bytes_read S H t x
@@ -83,9 +75,6 @@ done-concerns H u t c other = ne_eqb u t other
 
 pub fault-concerns : (H : List Entry) (u t : ℕ) (c : Command) (done : ℕ) → u ≢ t → concerns H (Fault u c done) t ≡ false
 fault-concerns H u t c done other = ne_eqb u t other
-
-pub collect-concerns : (H : List Entry) (tag u t : ℕ) → u ≢ t → concerns H (Collect tag u) t ≡ false
-collect-concerns H tag u t other = ne_eqb u t other
 
 -- an accept does not concern the tokens before it
 pub accept-concerns : (H : List Entry) (tag : ℕ) (view : View) (asked : Asked) (bytes : List ℕ) (t : ℕ) → t ≢ accepted H → concerns H (Accept tag view asked bytes) t ≡ false

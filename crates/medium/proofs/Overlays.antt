@@ -128,10 +128,6 @@ length-overlay held size n bytes sized long = length-joined (block_over held siz
 pub overlay-none : (held : ℕ → Option (List ℕ)) (size n : ℕ) (bytes : List ℕ) → ((b : ℕ) → held b ≡ None) → length bytes ≡ n * size → overlay held size n bytes ≡ bytes
 overlay-none held size n bytes none long = sym (joined-block_of (block_over held size bytes) size n bytes long (λ b less. rw (none b) refl))
 
--- the same blocks stand in place of others
-pub overlay-same : (held other : ℕ → Option (List ℕ)) (size n : ℕ) (bytes : List ℕ) → ((b : ℕ) → other b ≡ held b) → overlay other size n bytes ≡ overlay held size n bytes
-overlay-same held other size n bytes same = joined-same (block_over other size bytes) (block_over held size bytes) n (λ b less. rw (same b) refl)
-
 -- blocks that are held from now on patch the bytes
 pub overlay-held : (held other : ℕ → Option (List ℕ)) (size n : ℕ) (bytes : List ℕ) (block count : ℕ) (piece : List ℕ) → AreHeldFrom held other block count size piece → AreHeldLong held size → length bytes ≡ n * size → length piece ≡ count * size → block + count ≤ n → overlay other size n bytes ≡ patch (overlay held size n bytes) (block * size) piece
 overlay-held held other size n bytes block count piece from sized long whole fits = sym (joined-block_of (block_over other size bytes) size n (patch whole_bytes (block * size) piece) patched each) where

@@ -1,7 +1,7 @@
 -- Told bytes with saved blocks put back.
 use Rattle.std.proofs.Common.{◌≡◌, ◌≢◌, ℕ, ◌+◌, ◌*◌, ◌<◌, ◌≤◌, List, length, take, drop, Option, None, Some, IsSome, Result, Ok, Err, Bool, true, false, ◌⊎◌, if◌then◌else◌, refl, sym, ◌∙◌, ap, subst, arith, inl, inr, ⊎_elim}
 use Rattle.std.proofs.Math.Logic.{∥∥₁_map}
-use Rattle.medium.proofs.Overlays.{AreHeldLong, length-overlay, overlay-none, overlay-same, overlay-saved, overlay-covered, overlay-let_go, block-fits}
+use Rattle.medium.proofs.Overlays.{AreHeldLong, length-overlay, overlay-none, overlay-saved, overlay-covered, overlay-let_go, block-fits}
 use Rattle.medium.proofs.Held.{held-long}
 use Rattle.medium.specs.Blocks.{overlay, AreHeldFrom}
 use Rattle.medium.specs.BlockMap.{held_block}
@@ -70,11 +70,6 @@ cache-after d d' prepared prepared' saved saved' cache same shaped stay size hel
 pub kept-none : (cached : Bool) (saved : ℕ → Option (List ℕ)) (size n : ℕ) (now kept : Option (List ℕ)) → ((b : ℕ) → saved b ≡ None) → IsTold now (n * size) → kept ≡ now → (if cached then restored saved size n now else now) ≡ kept
 kept-none false saved size n now kept none told is = sym is
 kept-none true saved size n now kept none told is = restored-none saved size n now none told ∙ sym is
-
--- the same blocks are put back
-pub restored-same : (saved other : ℕ → Option (List ℕ)) (size n : ℕ) (now : Option (List ℕ)) → ((b : ℕ) → other b ≡ saved b) → restored other size n now ≡ restored saved size n now
-restored-same saved other size n None same = refl
-restored-same saved other size n (Some now) same = ap Some (overlay-same saved other size n now same)
 
 same-device : (d : Device) → IsSame d d
 same-device d = record { first = refl; size = refl; blocks = refl; cached = refl }

@@ -24,24 +24,12 @@ some-is : (o : Option (List ℕ)) → IsSome o → is_none o ≡ false
 some-is None some = absurd (some-none None some refl)
 some-is (Some x) some = refl
 
-is-some : (o : Option (List ℕ)) → IsSome o → is_some o ≡ true
-is-some None some = absurd (some-none None some refl)
-is-some (Some x) some = refl
-
 -- nothing was saved since then
 pub saved-none : (at_first : ℕ → Option (List ℕ)) (first end : ℕ) → AreSavedTo at_first at_first first end first
 saved-none at_first first end = record {
   kept = λ b some. some;
   closed = λ b low high some none. absurd (some-none (at_first b) some none);
   fresh = λ b low some none. absurd (some-none (at_first b) some none);
-}
-
--- the block was saved already
-pub saved-here : (saved : ℕ → Option (List ℕ)) (block end k : ℕ) → AreSavedTo saved saved block end k
-saved-here saved block end k = record {
-  kept = λ b some. some;
-  closed = λ b low high some none. absurd (some-none (saved b) some none);
-  fresh = λ b low some none. absurd (some-none (saved b) some none);
 }
 
 -- a block lies in a run, or before or behind it
@@ -54,36 +42,6 @@ place block run b = elim (cases_lt b block) [
 outside : (saved after : ℕ → Option (List ℕ)) (block run b : ℕ) → HoldsOthers block (block + run) saved after → (b < block) ⊎ (block + run ≤ b) → after b ≡ saved b
 outside saved after block run b others (inl low) = others.0 b low
 outside saved after block run b others (inr high) = others.1 b high
-
--- what was held stays, and a block that is held now and was not lies in the run
-in-run : (saved after : ℕ → Option (List ℕ)) (block run b : ℕ) → HoldsOthers block (block + run) saved after → IsSome (after b) → saved b ≡ None → (block ≤ b) × (b < block + run)
-in-run saved after block run b others is was = elim (place block run b) [
-  | inl here ↦ here
-  | inr there ↦ absurd (some-none (saved b) (subst (λ o. IsSome o) (outside saved after block run b others there) is) was)
-]
-
--- a longest run was saved from its first block on
-pub saved-run : (saved after : ℕ → Option (List ℕ)) (block end run : ℕ) → 0 < run → block + run ≤ end →
-    ((b : ℕ) → block ≤ b → b < block + run → saved b ≡ None) → (block + run < end → IsSome (saved (block + run))) →
-    ((b : ℕ) → block ≤ b → b < block + run → IsSome (after b)) → HoldsOthers block (block + run) saved after → AreSavedTo saved after block end (block + 1)
-saved-run saved after block end run some within none longest held others = record {
-  kept = λ b is. elim (place block run b) [
-    | inl here ↦ held b here.0 here.1
-    | inr there ↦ subst (λ o. IsSome o) (sym (outside saved after block run b others there)) is
-  ];
-  closed = λ b low high is was.
-      let here : (block ≤ b) × (b < block + run) = in-run saved after block run b others is was in
-      elim (cases_lt (b + 1) (block + run)) [
-        | inl next ↦ held (b + 1) (omega (arith, here.0)) next
-        | inr behind ↦
-            let last : block + run ≡ b + 1 = (let low = here.0 in let high = here.1 in omega arith) in
-            subst (λ n. IsSome (after n)) last (subst (λ o. IsSome o) (sym (others.1 (block + run) (omega arith))) (longest (omega arith)))
-      ];
-  fresh = λ b low is was.
-      let here : (block ≤ b) × (b < block + run) = in-run saved after block run b others is was in
-      let high = here.1 in
-      (omega arith, none (b - 1) (omega arith) (omega arith));
-}
 
 -- block k begins a run exactly where it is not saved once those before it are
 pub begins-where : (at_first saved : ℕ → Option (List ℕ)) (first end k : ℕ) → AreSavedTo at_first saved first end k → ((b : ℕ) → first ≤ b → b < k → IsSome (saved b)) → first ≤ k → k < end →
@@ -139,10 +97,6 @@ held-on saved after k b kept here before high = elim (cases_lt b k) [
   | inl low ↦ kept b (before low)
   | inr from ↦ (let same : k ≡ b = omega arith in subst (λ n. IsSome (after n)) same here)
 ]
-
--- counts of 64 bits add up
-pub adds-adds : (n a b : ℕ) → adds (adds n a) b ≡ adds n (a + b)
-adds-adds n a b = omega arith
 
 -- no command was made inside
 pub made-none : (d : Device) (saved : ℕ → Option (List ℕ)) (first n : ℕ) → first + n ≡ first → HasMade d (Ok tt) d (unsaved_runs saved first n)

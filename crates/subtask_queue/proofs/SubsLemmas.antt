@@ -79,10 +79,6 @@ unfolding AreBelow AreOf
 below-own token [] of = tt
 below-own token (s ∷ subs) of = (let h = of.0 in omega arith, below-own token subs of.1)
 
--- the units of a token stand below the next one
-pub AreBelow-added : (G : Geometry) (token : ℕ) (kind : Kind) (parts : Parts) (subs : List Sub) → AreBelow token subs → AreBelow (token + 1) (subs ++ subs_of_request G token kind parts)
-AreBelow-added G token kind parts subs below = below-append (token + 1) subs (subs_of_request G token kind parts) (below-more token (token + 1) subs (omega arith) below) (below-own token (subs_of_request G token kind parts) (own-request G token kind parts))
-
 pub AreBelow-next : (token : ℕ) (subs : List Sub) → AreBelow token subs → AreBelow (token + 1) subs
 AreBelow-next token subs below = below-more token (token + 1) subs (omega arith) below
 

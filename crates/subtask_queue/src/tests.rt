@@ -1,3 +1,6 @@
+//! The worked rows, with values that were worked out by hand.
+#![tactic(auto, unfolding(block_gate::specs::Gates::gate_of, block_gate::specs::Gates::is_block_held, block_gate::specs::Gates::idle_gates, block_gate::specs::Gates::holding, block_gate::specs::Gates::releasing, block_gate::specs::Gates::without_ticket, index_links::specs::Lists::is_among, crate::specs::Subs::AreBelow))]
+
 ghost use Rattle.std.specs.Prelude.{◌≡◌, ℕ, ◌+◌, ◌*◌, ◌<◌, ◌≤◌, ◌^◌, [], IfOk};
 ghost use Rattle.disk_split.specs.Units.{IsGeometry};
 ghost use Rattle.subtask_queue.specs.Subs.{AreBelow};
@@ -53,7 +56,6 @@ fn run(token: u64, block: u64, count: u32) -> Sub {
 }
 
 /// A write across two blocks, then one of the whole first block, over gates that hold nothing.
-#[tactic(auto, unfolding(crate::specs::Subs::AreBelow))]
 #[test]
 fn finds_the_first_that_may_run(rt: HostRuntime) -> Result<(), Fail> {
     let mut queue = Queue::make(rt.alloc());
@@ -68,8 +70,61 @@ fn finds_the_first_that_may_run(rt: HostRuntime) -> Result<(), Fail> {
     Ok(())
 }
 
+/// A write across two blocks, and one of the whole first block.
+fn two_writes(alloc: Global) -> Result<Queue, AllocError> {
+    let mut queue = Queue::make(alloc);
+    add(&mut queue, 0, Kind::Write, (510, 4), SINGLE)?;
+    add(&mut queue, 1, Kind::Write, (0, 512), SINGLE)?;
+    Ok(queue)
+}
+
+/// Two sets, one of which holds the first block.
+fn first_held(alloc: Global) -> Result<Gates, AllocError> {
+    let mut gates = Gates::make(alloc, 2, 512)?;
+    gates.hold(0, 0).fill(0);
+    Ok(gates)
+}
+
+/// Two sets, which hold the first two blocks.
+fn both_held(alloc: Global) -> Result<Gates, AllocError> {
+    let mut gates = Gates::make(alloc, 2, 512)?;
+    gates.hold(0, 0).fill(0);
+    gates.hold(1, 1).fill(0);
+    Ok(gates)
+}
+
+/// The same, after the first block was released.
+fn second_held(alloc: Global) -> Result<Gates, AllocError> {
+    let mut gates = Gates::make(alloc, 2, 512)?;
+    gates.hold(0, 0).fill(0);
+    gates.hold(1, 1).fill(0);
+    gates.release(0);
+    Ok(gates)
+}
+
+/// No free set: the only one holds a block that no unit needs.
+fn none_free(alloc: Global) -> Result<Gates, AllocError> {
+    let mut gates = Gates::make(alloc, 1, 512)?;
+    gates.hold(5, 0).fill(0);
+    Ok(gates)
+}
+
+/// Held blocks bar the units that touch them, and parts wait for a set.
+#[test]
+fn passes_over_what_may_not_run(rt: HostRuntime) -> Result<(), Fail> {
+    let queue = two_writes(rt.alloc())?;
+    let first = first_held(rt.alloc())?;
+    assert_eq!(rt; queue.next_runnable(&first), Some(part(0, 1, 0, 2)));
+    let both = both_held(rt.alloc())?;
+    assert_eq!(rt; queue.next_runnable(&both), None);
+    let second = second_held(rt.alloc())?;
+    assert_eq!(rt; queue.next_runnable(&second), Some(part(0, 0, 510, 2)));
+    let none = none_free(rt.alloc())?;
+    assert_eq!(rt; queue.next_runnable(&none), Some(run(1, 0, 1)));
+    Ok(())
+}
+
 /// A flush, an erase, and what a drop answers.
-#[tactic(auto, unfolding(crate::specs::Subs::AreBelow))]
 #[test]
 fn drops_all_units_of_a_token(rt: HostRuntime) -> Result<(), Fail> {
     let mut queue = Queue::make(rt.alloc());
@@ -89,7 +144,6 @@ fn drops_all_units_of_a_token(rt: HostRuntime) -> Result<(), Fail> {
 }
 
 /// Groups of eight blocks.
-#[tactic(auto, unfolding(crate::specs::Subs::AreBelow))]
 #[test]
 fn cuts_at_the_borders_of_groups(rt: HostRuntime) -> Result<(), Fail> {
     let mut queue = Queue::make(rt.alloc());

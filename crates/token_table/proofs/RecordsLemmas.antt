@@ -43,15 +43,7 @@ pub record_at-changed : (change : Record → Record) (s : Records) (n m : ℕ) �
 unfolding changed
 record_at-changed change s n m there = at-set s n m (option_map change (record_at s n)) there
 
-pub length-changed : (change : Record → Record) (s : Records) (n : ℕ) → length (changed change s n) ≡ length s
-unfolding changed
-length-changed change s n = length-set s n (option_map change (record_at s n))
-
 -- a record that is handed out is gone; the others stay
 pub record_at-without_record : (s : Records) (n m : ℕ) → n < length s → record_at (without_record s n) m ≡ (if nat_eq m n then None else record_at s m)
 unfolding without_record
 record_at-without_record s n m there = at-set s n m None there
-
-pub length-without_record : (s : Records) (n : ℕ) → length (without_record s n) ≡ length s
-unfolding without_record
-length-without_record s n = length-set s n None

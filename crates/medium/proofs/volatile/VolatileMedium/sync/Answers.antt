@@ -2,7 +2,7 @@ use Rattle.std.proofs.Common.{◌≡◌, ℕ, ◌*◌, ◌<◌, Option, None, So
 use Rattle.std.specs.Result.{is_ok}
 use Rattle.medium.specs.Counts.{adds}
 use Rattle.medium.specs.declared.block_failed.BlockFailed.{BlockFailed}
-use Rattle.medium.proofs.Restored.{IsCache, cache-none, cache-after, kept-none, restored-none, restored-same, same-from}
+use Rattle.medium.proofs.Restored.{IsCache, cache-none, cache-after, kept-none, restored-none, same-from}
 use Rattle.medium.specs.BlockMap.{held_block}
 use Rattle.medium.specs.Device.{Device, IsSame, IsTold}
 use Rattle.medium.proofs.volatile.VolatileMedium.sync.Goals as goal
