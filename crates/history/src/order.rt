@@ -6,7 +6,9 @@ use byte_lists::Bytes;
 pub enum Payload {
     /// The bytes of a write.
     Given(Bytes),
-    /// A read brings none.
+    /// A write of so many times this byte as it asks for bytes.
+    Fill(u8),
+    /// A request that is no write brings none.
     Nothing,
 }
 
@@ -21,4 +23,18 @@ pub enum Order {
     },
     /// Waits for the client's own tokens and collects them.
     Wait,
+    /// Ends the outstanding requests of the line's view on the medium with this id.
+    Cancel {
+        media_id: u32,
+    },
+    /// Ends all outstanding requests.
+    Reset,
+    /// Takes the medium out.
+    Eject,
+    /// Puts the next medium in.
+    Insert,
+    /// Sets or lifts write protection.
+    Protect {
+        on: bool,
+    },
 }

@@ -15,7 +15,7 @@ use Rattle.script_text.specs.Words.{number_of, hex_of}
 use Rattle.script_text.specs.Text.{hex_text, view_text}
 use Rattle.script_text.specs.Law.{IsWord64, IsShortView}
 use Rattle.script_text.proofs.Numbers.{own}
-use Rattle.script_text.proofs.FitLemmas.{both_true}
+use Rattle.script_text.proofs.Chains.{both_true}
 
 -- no element passes
 abbrev pub lacks : (ℕ → Bool) → List ℕ → Bool
@@ -102,7 +102,7 @@ view_back v s =
       number_back v.index s.index,
     ) refl
 
-lacks_both : (p : ℕ → Bool) (a b : List ℕ) → lacks p a ≡ true → lacks p b ≡ true → lacks p (a ++ b) ≡ true
+pub lacks_both : (p : ℕ → Bool) (a b : List ℕ) → lacks p a ≡ true → lacks p b ≡ true → lacks p (a ++ b) ≡ true
 lacks_both p [] b one two = two
 lacks_both p (x ∷ a) b one two =
     let (first, more) = both_true (not (p x)) (lacks p a) one in

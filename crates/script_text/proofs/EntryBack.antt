@@ -31,7 +31,7 @@ accepted_spread Erase asked bytes = asked_words asked []
 accepted_spread Flush asked bytes = codes "flush" ∷ []
 
 -- the words of an entry, one by one
-spread : ℕ → Entry → List (List ℕ)
+unfoldable pub spread : ℕ → Entry → List (List ℕ)
 spread per (Accept tag view asked bytes) = codes "accept" ∷ decimal tag ∷ view_text view ∷ accepted_spread asked.kind asked bytes
 spread per (Refuse tag view asked media_id status) = codes "refuse" ∷ decimal tag ∷ view_text view ∷ asked_words asked (decimal media_id ∷ name_of status ∷ [])
 spread per (Done token command) = done_words token command
@@ -59,7 +59,7 @@ refused_line : (asked : Asked) (more : List (List ℕ)) (a b c d : List ℕ) →
 unfolding line_of
 refused_line asked more a b c d = ap (λ t. a ++ (32 ∷ (b ++ (32 ∷ (c ++ (32 ∷ (d ++ (32 ∷ t)))))))) (asked_spread asked more)
 
-line_is : (per place : ℕ) (e : Entry) → line_text per place e ≡ line_of (decimal place ∷ spread per e)
+pub line_is : (per place : ℕ) (e : Entry) → line_text per place e ≡ line_of (decimal place ∷ spread per e)
 unfolding line_text entry_words spread
 line_is per place (Accept tag view asked bytes) = accepted_line asked.kind asked bytes (decimal place) (codes "accept") (decimal tag) (view_text view)
 line_is per place (Refuse tag view asked media_id status) = refused_line asked (decimal media_id ∷ name_of status ∷ []) (decimal place) (codes "refuse") (decimal tag) (view_text view)
@@ -73,7 +73,7 @@ line_is per place (Insert tag media_id) = refl
 line_is per place (Protect tag on) = refl
 
 -- words without a space and a line feed
-abbrev AreWords : List (List ℕ) → Type 0
+abbrev pub AreWords : List (List ℕ) → Type 0
 AreWords [] = Unit {0}
 AreWords (word ∷ more) = (lacks is_end word ≡ true) × AreWords more
 
@@ -114,7 +114,7 @@ accepted_are_words Write asked bytes s = asked_are_words asked (hex_text bytes �
 accepted_are_words Erase asked bytes s = asked_are_words asked [] s tt
 accepted_are_words Flush asked bytes s = (refl, tt)
 
-are_words : (per : ℕ) → IsWord64 per → (e : Entry) → IsWell e → AreWords (spread per e)
+pub are_words : (per : ℕ) → IsWord64 per → (e : Entry) → IsWell e → AreWords (spread per e)
 unfolding spread
 are_words per few (Accept tag view asked bytes) well = (refl, (decimal_lacks tag well.0, (view_lacks view well.1, accepted_are_words asked.kind asked bytes well.2)))
 are_words per few (Refuse tag view asked media_id status) well = (refl, (decimal_lacks tag well.0, (view_lacks view well.1, asked_are_words asked (decimal media_id ∷ name_of status ∷ []) well.2 (decimal_lacks media_id well.3, (name_lacks status, tt)))))

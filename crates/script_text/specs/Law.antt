@@ -1,6 +1,7 @@
 -- The lines of a report tell its entries (own profile).
-use Rattle.std.specs.Prelude.{◌≡◌, ℕ, ◌^◌, ◌<◌, List, []}
+use Rattle.std.specs.Prelude.{◌≡◌, ℕ, ◌^◌, ◌<◌, List, [], ◌∷◌, length, Option}
 use Rattle.hex.specs.Hex.{IsBytes}
+use Rattle.history.specs.Setup.{Setup, per_of}
 use Rattle.history.specs.declared.entry.View.{View}
 use Rattle.history.specs.declared.entry.Kind.{Kind}
 use Rattle.history.specs.declared.entry.Kind.TheVariants.{Read, Write, Flush, Erase}
@@ -10,7 +11,9 @@ use Rattle.history.specs.declared.entry.Command.{Command}
 use Rattle.history.specs.declared.entry.Command.TheVariants.{Fetch, Store, Put, Get, Wipe, Sync}
 use Rattle.history.specs.declared.entry.Entry.{Entry}
 use Rattle.history.specs.declared.entry.Entry.TheVariants.{Accept, Refuse, Done, Fault, Collect, Cancel, Reset, Eject, Insert, Protect}
+use Rattle.script_text.specs.declared.report.parts.KeptMedium.{KeptMedium}
 use Rattle.script_text.specs.Entries.{line_text}
+use Rattle.script_text.specs.Report.{report_text}
 
 -- a number of 64 bits
 abbrev pub IsWord64 : ℕ → Type 0
@@ -54,6 +57,17 @@ IsWell (Eject tag) = IsWord64 tag
 IsWell (Insert tag media_id) = IsWord64 tag × IsWord64 media_id
 IsWell (Protect tag on) = IsWord64 tag
 
+-- all of them
+abbrev pub AreWell : List Entry → Type 0
+AreWell [] = Unit {0}
+AreWell (e ∷ more) = IsWell e × AreWell more
+
 -- two entries of a disk with one line at one place are equal; its groups have so many blocks
 abbrev pub LinesTellEntries : Type 0
 LinesTellEntries = (per place : ℕ) (e f : Entry) → IsWord64 per → IsWord64 place → IsWell e → IsWell f → line_text per place e ≡ line_text per place f → e ≡ f
+
+-- two reports of a disk with one text have one list of entries, however their tokens ended and their media were kept
+abbrev pub ReportsTellEntries : Type 0
+ReportsTellEntries = (number blocks : ℕ) (image : List ℕ) (S : Setup) (H H' : List Entry) (given given' : List (Option (List ℕ))) (media media' : List KeptMedium)
+    → IsWord64 (per_of S) → IsWord64 (length H) → IsWord64 (length H') → AreWell H → AreWell H'
+    → report_text number image S blocks H given media ≡ report_text number image S blocks H' given' media' → H ≡ H'

@@ -1,5 +1,5 @@
 -- The report of a disk (own profile).
-use Rattle.std.specs.Prelude.{◌≡◌, ℕ, ◌+◌, ◌<◌, Bool, true, false, not, ◌&&◌, nat_eq, List, [], ◌∷◌, ◌++◌, length, map, reverse, slice_get, slice_index, codes, decimal, Option, Some, None, is_some, IfSome}
+use Rattle.std.specs.Prelude.{◌≡◌, ℕ, ◌+◌, ◌<◌, Bool, true, false, not, ◌&&◌, ◌==◌, nat_eq, if◌then◌else◌, List, [], ◌∷◌, ◌++◌, length, map, reverse, slice_get, slice_index, codes, decimal, Option, Some, None, is_some, IfSome}
 use Rattle.efi_status.specs.declared.Status.{Status}
 use Rattle.efi_status.specs.declared.Status.TheVariants.{Success}
 use Rattle.efi_status.specs.StatusTable.{name_of}
@@ -13,10 +13,14 @@ use Rattle.script_text.specs.declared.report.parts.TokenLine.{TokenLine}
 use Rattle.script_text.specs.Text.{line_of, hex_text, lines_text}
 use Rattle.script_text.specs.Entries.{entries_text}
 
--- the first line of a disk: its number from 1, its image, the size of a block in bytes, and its blocks
-unfoldable pub head_text : ℕ → List ℕ → ℕ → ℕ → List ℕ
-head_text number image size blocks =
-    line_of (codes "disk" ∷ decimal number ∷ image ∷ codes "size" ∷ decimal size ∷ codes "blocks" ∷ decimal blocks ∷ [])
+-- how many blocks a group has, where it has more than one
+abbrev pub group_words : ℕ → List (List ℕ)
+group_words per = if per == 1 then [] else codes "physical" ∷ decimal per ∷ []
+
+-- the first line of a disk: its number from 1, its image, the size of a block in bytes, its blocks, and the blocks of a group
+unfoldable pub head_text : ℕ → List ℕ → ℕ → ℕ → ℕ → List ℕ
+head_text number image size blocks per =
+    line_of (codes "disk" ∷ decimal number ∷ image ∷ codes "size" ∷ decimal size ∷ codes "blocks" ∷ decimal blocks ∷ group_words per)
 
 -- how a token ended; one that has not ended has no such word
 abbrev pub mark_words : Option Status → List (List ℕ) → List (List ℕ)
@@ -57,7 +61,7 @@ ended_text per H ends media = entries_text per (reverse H) ++ (ends_text ends ++
 
 -- the report of a disk
 unfoldable pub report_text : ℕ → List ℕ → Setup → ℕ → List Entry → List (Option (List ℕ)) → List KeptMedium → List ℕ
-report_text number image S blocks H given media = head_text number image (size_of S) blocks ++ body_text S H given media
+report_text number image S blocks H given media = head_text number image (size_of S) blocks (per_of S) ++ body_text S H given media
 
 -- what the lines of tokens give back
 abbrev pub givens_of : List TokenLine → List (Option (List ℕ))

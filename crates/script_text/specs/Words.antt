@@ -1,5 +1,5 @@
 -- The lines and words of a script, and what a word says (own profile).
-use Rattle.std.specs.Prelude.{ℕ, ◌-◌, ◌^◌, Bool, not, ◌&&◌, ◌||◌, ◌==◌, nat_le, if◌then◌else◌, List, [], length, map, filter, slice_index, codes, bytes_eq, Option, Some, None}
+use Rattle.std.specs.Prelude.{ℕ, ◌-◌, ◌^◌, Bool, not, ◌&&◌, ◌==◌, nat_le, if◌then◌else◌, List, [], length, map, filter, slice_index, codes, bytes_eq, Option, Some, None}
 use Rattle.std.specs.List.{slice_split, list_all}
 use Rattle.std.specs.Result.{result_ok}
 use Rattle.std.specs.Char.{is_ascii_digit}
@@ -36,9 +36,3 @@ hex_of word =
     if bytes_eq word (codes "-") then Some []
     else if nat_le 2 (length word) then result_ok (decode_of word)
     else None
-
--- the words that are wrong outside places of their own; this grammar has no such place
-abbrev pub is_fixed : List ℕ → Bool
-is_fixed word =
-    slice_index word 0 == 64 || bytes_eq word (codes "cached") || bytes_eq word (codes "protected")
-    || bytes_eq word (codes "part") || bytes_eq word (codes "on") || bytes_eq word (codes "off")

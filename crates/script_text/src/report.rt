@@ -4,5 +4,7 @@ pub mod entries;
 pub mod law;
 pub mod parts;
 pub mod pieces;
+pub mod table_writer;
+pub mod tables;
 pub mod tokens;
 pub mod writer;

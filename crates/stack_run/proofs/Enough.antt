@@ -54,8 +54,8 @@ weight-after_answer : (S : Setup) (H : List Entry) (asked : Asked) (payload : Pa
 unfolding after_answer
 weight-after_answer S H asked payload k = by (refusal_of S H (whole_view S k) asked k)
   where
-    by : (refusal : Option Status) → weight S (answer_of (whole_view S k) asked (payload_bytes payload) k refusal ∷ H) ≤ weight S H + (1 + 2 * asked.length)
-    by None = weight-accept S H 1 (whole_view S k) asked (payload_bytes payload)
+    by : (refusal : Option Status) → weight S (answer_of (whole_view S k) asked (payload_bytes asked.length payload) k refusal ∷ H) ≤ weight S H + (1 + 2 * asked.length)
+    by None = weight-accept S H 1 (whole_view S k) asked (payload_bytes asked.length payload)
     by (Some status) = omega (arith, weight-refuse S H 1 (whole_view S k) asked k status)
 
 after_line-lightens : (S : Setup) (s : Stand) → Lightens S s (after_line S s)
@@ -70,6 +70,11 @@ after_line-lightens S s = by s.history s.lines s.outcomes
     by H [] outcomes = inl refl
     by H (order.Request asked payload k ∷ rest) outcomes = inr (omega (arith, weight-after_answer S H asked payload k))
     by H (order.Wait ∷ rest) outcomes = waits H rest outcomes (first_open S H)
+    by H (order.Cancel k ∷ rest) outcomes = inr (omega arith)
+    by H (order.Reset ∷ rest) outcomes = inr (omega arith)
+    by H (order.Eject ∷ rest) outcomes = inr (omega arith)
+    by H (order.Insert ∷ rest) outcomes = inr (omega arith)
+    by H (order.Protect on ∷ rest) outcomes = inr (omega arith)
 
 round-lightens : (S : Setup) → IsSetup S → (s : Stand) → Lightens S s (a_round S s)
 round-lightens S some s = by (after_line-lightens S s) (after_step-lightens S some (after_line S s))

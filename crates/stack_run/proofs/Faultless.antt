@@ -49,6 +49,11 @@ after_line-alike S s made = by s.lines
     by [] = record { same = refl; made = made }
     by (order.Request asked payload k ∷ rest) = record { same = refl; made = made }
     by (order.Wait ∷ rest) = waits rest (first_open S s.history)
+    by (order.Cancel k ∷ rest) = record { same = refl; made = made }
+    by (order.Reset ∷ rest) = record { same = refl; made = made }
+    by (order.Eject ∷ rest) = record { same = refl; made = made }
+    by (order.Insert ∷ rest) = record { same = refl; made = made }
+    by (order.Protect on ∷ rest) = record { same = refl; made = made }
 
 after_turn-alike : (s : Stand) (turn : Turn) → AreMade s.outcomes → IsAlike (after_turn s turn) (after_turn (bare s) turn)
 after_turn-alike s turn made = record {

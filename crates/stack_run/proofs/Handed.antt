@@ -9,8 +9,8 @@ use Rattle.history.specs.Rules.{IsLegal}
 use Rattle.disk_core.specs.Facts.{MeetsEra}
 use Rattle.disk_core.proofs.Fresh.{fresh-era}
 use Rattle.image_store.specs.Place.{Place, Here, Missing, Taken, Untold, Image, ChangesOnly, IsTaking, GivesBlocks, put_place, whole_block_bytes}
-use Rattle.script_text.specs.declared.grammar.plans.DiskPlan.{DiskPlan}
-use Rattle.script_text.specs.declared.grammar.plans.ClientPlan.{ClientPlan}
+use Rattle.script_text.specs.declared.language.plans.DiskPlan.{DiskPlan}
+use Rattle.script_text.specs.declared.language.plans.ClientPlan.{ClientPlan}
 use Rattle.script_text.specs.Report.{givens_of, AreEnds}
 use Rattle.stack_run.specs.declared.refusal.NotRun.{NotRun}
 use Rattle.stack_run.specs.declared.serving.Run.{Run}

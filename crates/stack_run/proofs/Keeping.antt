@@ -275,7 +275,7 @@ keeps-refuse S H kinds ends view asked media_id status keeps = record {
 
 -- the request is accepted
 pub answers-accept : (S : Setup) (H H' : List Entry) (kinds kinds' : List Kind) (ends : List TokenLine) (view : View) (asked asked' : Asked) (bytes : List ℕ) (payload : Payload) (k : ℕ)
-    → Keeps S H kinds ends → H' ≡ Accept 1 view asked' bytes ∷ H → refusal_of S H view asked' k ≡ None → view ≡ whole_view S 1 → k ≡ 1 → asked' ≡ asked → bytes ≡ payload_bytes payload
+    → Keeps S H kinds ends → H' ≡ Accept 1 view asked' bytes ∷ H → refusal_of S H view asked' k ≡ None → view ≡ whole_view S 1 → k ≡ 1 → asked' ≡ asked → bytes ≡ payload_bytes asked.length payload
     → kinds' ≡ kinds ++ asked.kind ∷ [] → Answers S H H' asked payload k kinds' ends
 unfolding after_answer
 answers-accept S H H' kinds kinds' ends view asked asked' bytes payload k keeps entries unrefused whole one same brings added =

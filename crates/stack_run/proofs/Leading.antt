@@ -88,7 +88,7 @@ onto-after_answer : (S : Setup) (H : List Entry) (asked : Asked) (payload : Payl
 unfolding after_answer outcomes_onto
 onto-after_answer S H asked payload media_id more = by (refusal_of S H (whole_view S media_id) asked media_id)
   where
-    by : (refusal : Option Status) → outcomes_onto (answer_of (whole_view S media_id) asked (payload_bytes payload) media_id refusal ∷ H) more ≡ outcomes_onto H more
+    by : (refusal : Option Status) → outcomes_onto (answer_of (whole_view S media_id) asked (payload_bytes asked.length payload) media_id refusal ∷ H) more ≡ outcomes_onto H more
     by None = refl
     by (Some status) = refl
 
@@ -129,6 +129,11 @@ leads-step S H H' lines t stay first step = record {
     stays [] s given = refl
     stays (order.Wait ∷ rest) s given = rw first
     stays (order.Request asked payload media_id ∷ rest) s given = absurd s
+    stays (order.Cancel k ∷ rest) s given = absurd s
+    stays (order.Reset ∷ rest) s given = absurd s
+    stays (order.Eject ∷ rest) s given = absurd s
+    stays (order.Insert ∷ rest) s given = absurd s
+    stays (order.Protect on ∷ rest) s given = absurd s
 
 -- a wait while no token is outstanding
 pub leads-wait : (S : Setup) (H : List Entry) (rest : List Order) → first_open S H ≡ None → Leads S H (order.Wait ∷ rest) (after_own_collects H) rest

@@ -1,21 +1,30 @@
 -- What of a source was read so far.
-use Rattle.std.proofs.Common.{◌≡◌, ℕ, ◌<◌, ◌⊎◌, List, [], ◌++◌, take, length, Option, None, Some, Result, Ok, Err, is_ok, refl, sym, ◌∙◌, ap, append_assoc, inl, inr, arith, length-append}
+use Rattle.std.proofs.Common.{◌≡◌, ℕ, ◌<◌, ◌⊎◌, List, [], ◌++◌, take, length, Option, None, Some, Result, Ok, Err, true, false, is_ok, refl, sym, ◌∙◌, ap, append_assoc, inl, inr, arith, length-append}
 use Rattle.std.proofs.lemmas.List.{append-nil}
 use Rattle.std.proofs.lemmas.Bool.{lt-ltb, false≢true}
 use Rattle.image_store.specs.Edge.{TakesFront}
-use Rattle.script_text.specs.declared.grammar.limits.TheConstants.{SCRIPT_BYTES}
-use Rattle.script_text.specs.declared.grammar.plans.DiskPlan.{DiskPlan}
-use Rattle.script_text.specs.declared.grammar.refusal.Reason.{Reason}
-use Rattle.script_text.specs.declared.grammar.refusal.Reason.TheVariants.{Size}
-use Rattle.script_text.specs.Script.{script_of}
+use Rattle.script_text.specs.Limits.{most_script_bytes}
+use Rattle.script_text.specs.declared.language.plans.DiskPlan.{DiskPlan}
+use Rattle.script_text.specs.declared.language.refusal.Reason.{Reason}
+use Rattle.script_text.specs.declared.language.refusal.Reason.TheVariants.{Size}
+use Rattle.script_text.specs.declared.language.refusal.Reason.TheVariants as why
+use Rattle.script_text.specs.declared.language.reader.ScriptReader.{ScriptReader}
+use Rattle.script_text.specs.Whole.{script_of}
+use Rattle.script_text.specs.Fed.{WasFed}
+use Rattle.stack_run.specs.Simple.{is_simple, said_of}
 use Rattle.image_store.specs.Place.{Image}
-use Rattle.stack_run.specs.Reading.{SourceReads, SourceSays, IsReadOut, IsScript}
+use Rattle.stack_run.specs.Reading.{SourceReads, SourceSays, IsReadOut, IsScript, IsRefused, FedBy}
 use Rattle.stack_run.specs.Program.{IsToldRefused, IsToldLacking, LacksImage}
 
 -- the bytes so far, and what is left behind them, are what was left
 abbrev pub SoFar : Option (List ℕ) → Option (List ℕ) → List ℕ → Type 0
 SoFar (Some left) now bytes = (rest : List ℕ) × (now ≡ Some rest) × (left ≡ bytes ++ rest)
 SoFar None now bytes = now ≡ None
+
+-- nothing yet
+pub so-far-none : (left : Option (List ℕ)) → SoFar left left []
+so-far-none None = refl
+so-far-none (Some left) = (left, refl, refl)
 
 -- one more piece
 pub so-far-more : (left now new : Option (List ℕ)) (bytes out : List ℕ) (n : ℕ) → SoFar left now bytes → TakesFront now new n out → SoFar left new (bytes ++ take n out)
@@ -36,38 +45,63 @@ so-far-ended (Some left) now new bytes out (rest, is, whole) front some =
     (more, new_is, whole ∙ ap (λ xs. bytes ++ xs) (none ∙ sym no_more), inl no_more)
 
 -- as much as a script may not have
-pub so-far-long : (left now : Option (List ℕ)) (bytes : List ℕ) → SoFar left now bytes → SCRIPT_BYTES < length bytes → SourceReads left now bytes
+pub so-far-long : (left now : Option (List ℕ)) (bytes : List ℕ) → SoFar left now bytes → most_script_bytes < length bytes → SourceReads left now bytes
 so-far-long None now bytes is long = is
 so-far-long (Some left) now bytes (rest, is, whole) long = (rest, is, whole, inr long)
 
 -- as many bytes as a script may not have are refused, whatever they are
-too-long : (bytes : List ℕ) → SCRIPT_BYTES < length bytes → script_of bytes ≡ Err (0, Size)
-unfolding script_of
-too-long bytes long = rw (lt-ltb SCRIPT_BYTES (length bytes) long) refl
+too-long : (bytes : List ℕ) → most_script_bytes < length bytes → said_of bytes ≡ Err (0, Size)
+unfolding said_of script_of
+too-long bytes long = rw (lt-ltb most_script_bytes (length bytes) long) refl
 
-says-same : (left bytes rest : List ℕ) (said : Result (List DiskPlan) (ℕ × Reason)) → left ≡ bytes ++ rest → (rest ≡ []) ⊎ (SCRIPT_BYTES < length bytes) → script_of bytes ≡ said → script_of left ≡ said
-says-same left bytes rest said whole (inl none) says = ap script_of (whole ∙ (rw none (append-nil bytes))) ∙ says
+says-same : (left bytes rest : List ℕ) (said : Result (List DiskPlan) (ℕ × Reason)) → left ≡ bytes ++ rest → (rest ≡ []) ⊎ (most_script_bytes < length bytes) → said_of bytes ≡ said → said_of left ≡ said
+says-same left bytes rest said whole (inl none) says = ap said_of (whole ∙ (rw none (append-nil bytes))) ∙ says
 says-same left bytes rest said whole (inr long) says =
-    let longer : SCRIPT_BYTES < length left = rw (whole, length-append bytes rest) (omega (arith, long)) in
+    let longer : most_script_bytes < length left = rw (whole, length-append bytes rest) (omega (arith, long)) in
     too-long left longer ∙ (sym (too-long bytes long) ∙ says)
 
 -- what was read says what all bytes say that were left
-pub says-whole : (left now : Option (List ℕ)) (bytes : List ℕ) (said : Result (List DiskPlan) (ℕ × Reason)) → SourceReads left now bytes → script_of bytes ≡ said → SourceSays left said
+pub says-whole : (left now : Option (List ℕ)) (bytes : List ℕ) (said : Result (List DiskPlan) (ℕ × Reason)) → SourceReads left now bytes → said_of bytes ≡ said → SourceSays left said
 says-whole (Some left) now bytes said (rest, is, whole, ended) says = says-same left bytes rest said whole ended says
 says-whole None now bytes said reads says = (bytes, says)
 
-read-out-by : (now : Option (List ℕ)) (bytes rest : List ℕ) (plans : List DiskPlan) → now ≡ Some rest → (rest ≡ []) ⊎ (SCRIPT_BYTES < length bytes) → script_of bytes ≡ Ok plans → now ≡ Some []
+read-out-by : (now : Option (List ℕ)) (bytes rest : List ℕ) (plans : List DiskPlan) → now ≡ Some rest → (rest ≡ []) ⊎ (most_script_bytes < length bytes) → said_of bytes ≡ Ok plans → now ≡ Some []
 read-out-by now bytes rest plans is (inl none) says = is ∙ ap Some none
 read-out-by now bytes rest plans is (inr long) says =
     absurd (false≢true (ap is_ok (sym (too-long bytes long) ∙ says)))
 
-read-out : (left now : Option (List ℕ)) (bytes : List ℕ) (plans : List DiskPlan) → SourceReads left now bytes → script_of bytes ≡ Ok plans → IsReadOut left now
+read-out : (left now : Option (List ℕ)) (bytes : List ℕ) (plans : List DiskPlan) → SourceReads left now bytes → said_of bytes ≡ Ok plans → IsReadOut left now
 read-out (Some left) now bytes plans (rest, is, whole, ended) says = read-out-by now bytes rest plans is ended says
 read-out None now bytes plans reads says = reads
 
 -- a script was read
-pub script-read : (left now : Option (List ℕ)) (bytes : List ℕ) (plans : List DiskPlan) → SourceReads left now bytes → script_of bytes ≡ Ok plans → IsScript left now plans
+pub script-read : (left now : Option (List ℕ)) (bytes : List ℕ) (plans : List DiskPlan) → SourceReads left now bytes → said_of bytes ≡ Ok plans → IsScript left now plans
 script-read left now bytes plans reads says = record { says = says-whole left now bytes (Ok plans) reads says; out = read-out left now bytes plans reads says }
+
+-- a reader was fed what was read so far, and no call failed
+pub record SoFed (left now : Option (List ℕ)) (reader : ScriptReader) (count faults faults' : ℕ) : Type 0 where
+  pub bytes : List ℕ
+  pub so_far : SoFar left now bytes
+  pub fed : WasFed reader bytes
+  pub counted : count ≡ length bytes
+  pub quiet : faults' ≡ faults
+
+-- what was read is refused
+pub script-refused : (left now : Option (List ℕ)) (bytes : List ℕ) (fault : ℕ × Reason) → SourceReads left now bytes → said_of bytes ≡ Err fault → IsRefused left now
+script-refused left now bytes (line, reason) reads says = record { line = line; reason = reason; says = says-whole left now bytes (Err (line, reason)) reads says; bytes = bytes; reads = reads }
+
+-- a script that this version runs, and one that it does not run
+pub runs : (bytes : List ℕ) (plans : List DiskPlan) → script_of bytes ≡ Ok plans → is_simple plans ≡ true → said_of bytes ≡ Ok plans
+unfolding said_of
+runs bytes plans says simple = rw (says, simple) refl
+
+pub runs-not : (bytes : List ℕ) (plans : List DiskPlan) → script_of bytes ≡ Ok plans → is_simple plans ≡ false → said_of bytes ≡ Err (0, why.Order)
+unfolding said_of
+runs-not bytes plans says simple = rw (says, simple) refl
+
+pub says-not : (bytes : List ℕ) (fault : ℕ × Reason) → script_of bytes ≡ Err fault → said_of bytes ≡ Err fault
+unfolding said_of
+says-not bytes fault says = rw says refl
 
 -- a script is not refused
 pub not-refused : (left : Option (List ℕ)) (plans : List DiskPlan) → SourceSays left (Ok plans) → IsToldRefused left → ⊥

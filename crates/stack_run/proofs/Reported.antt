@@ -5,7 +5,7 @@ use Rattle.image_store.specs.Edge.{Appends, AppendsFront, PutsText}
 use Rattle.disk_split.specs.declared.geometry.Geometry.{Geometry}
 use Rattle.history.specs.declared.entry.Entry.{Entry}
 use Rattle.history.specs.Setup.{Setup, per_of}
-use Rattle.script_text.specs.declared.grammar.plans.DiskPlan.{DiskPlan}
+use Rattle.script_text.specs.declared.language.plans.DiskPlan.{DiskPlan}
 use Rattle.script_text.specs.Report.{head_text, body_text, report_text}
 use Rattle.stack_run.specs.Serving.{report_of, blocks_alone}
 
@@ -38,10 +38,12 @@ put-behind old mid new front rest (Ok x) first put = both-written old mid new fr
 put-behind old mid new front rest (Err e) first put = body-front old mid new front rest first put
 
 -- the report of the disk is its first line and the lines behind it
-pub report-parts : (plan : DiskPlan) (S : Setup) (blocks : ℕ) (H : List Entry) (given : List (Option (List ℕ))) → S.geometry ≡ blocks_alone plan
-    → report_of plan S blocks H given ≡ head_text 1 plan.image plan.size blocks ++ body_text S H given (record { name = plan.image; bytes = blocks * plan.size } ∷ [])
+pub report-parts : (plan : DiskPlan) (S : Setup) (blocks : ℕ) (H : List Entry) (given : List (Option (List ℕ))) → S.geometry ≡ blocks_alone plan → plan.physical ≡ 1
+    → report_of plan S blocks H given ≡ head_text 1 plan.image plan.size blocks plan.physical ++ body_text S H given (record { name = plan.image; bytes = blocks * plan.size } ∷ [])
 unfolding report_of report_text
-report-parts plan S blocks H given is = ap (λ (g : Geometry). head_text 1 plan.image g.size blocks ++ body_text S H given (record { name = plan.image; bytes = blocks * plan.size } ∷ [])) is
+report-parts plan S blocks H given is one =
+    ap (λ (g : Geometry). head_text 1 plan.image g.size blocks g.per ++ body_text S H given (record { name = plan.image; bytes = blocks * plan.size } ∷ [])) is
+    ∙ ap (λ n. head_text 1 plan.image plan.size blocks n ++ body_text S H given (record { name = plan.image; bytes = blocks * plan.size } ∷ [])) (sym one)
 
 pub alone : (plan : DiskPlan) (S : Setup) → S.geometry ≡ blocks_alone plan → per_of S ≡ 1
 alone plan S is = ap (λ (g : Geometry). g.per) is

@@ -16,7 +16,7 @@ use Rattle.history.specs.Tokens.{accepted, request, was_collected}
 use Rattle.history.specs.Marks.{mark_of}
 use Rattle.history.specs.Next.{first_open}
 use Rattle.script_text.specs.declared.report.parts.TokenLine.{TokenLine}
-use Rattle.script_text.specs.Fit.{IsOrder, AreOrders}
+use Rattle.stack_run.specs.Simple.{IsOrder, AreOrders}
 use Rattle.script_text.specs.Report.{givens_of, AreEnds, IsGiven, AreGiven}
 use Rattle.stack_run.specs.Plain.{whole_view, after_answer, outcomes_of, plain_history}
 use Rattle.stack_run.specs.Leading.{Leads, IsStep}

@@ -41,3 +41,8 @@ abbrev pub Stay : List Order → Type 0
 Stay [] = Unit {0}
 Stay (order.Wait ∷ rest) = Unit {0}
 Stay (order.Request asked payload media_id ∷ rest) = ⊥
+Stay (order.Cancel k ∷ rest) = ⊥
+Stay (order.Reset ∷ rest) = ⊥
+Stay (order.Eject ∷ rest) = ⊥
+Stay (order.Insert ∷ rest) = ⊥
+Stay (order.Protect on ∷ rest) = ⊥

@@ -4,3 +4,4 @@ pub mod Plain
 pub mod Program
 pub mod Reading
 pub mod Serving
+pub mod Simple

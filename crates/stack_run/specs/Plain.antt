@@ -1,6 +1,6 @@
 -- The one history that the plain schedule makes of a client's lines (own profile). A history stands newest entry first.
 -- The disk has one client. Its tag is 1, and each of its lines is for the whole of the medium that the line names.
-use Rattle.std.specs.Prelude.{ℕ, zero, suc, ◌+◌, ◌*◌, Bool, true, false, not, nat_eq, ◌&&◌, if◌then◌else◌, List, [], ◌∷◌, Option, None, Some, is_none}
+use Rattle.std.specs.Prelude.{ℕ, zero, suc, ◌+◌, ◌*◌, Bool, true, false, not, nat_eq, ◌&&◌, if◌then◌else◌, List, [], ◌∷◌, replicate, Option, None, Some, is_none}
 use Rattle.efi_status.specs.declared.Status.{Status}
 use Rattle.history.specs.declared.entry.View.{View}
 use Rattle.history.specs.declared.entry.Asked.{Asked}
@@ -9,7 +9,7 @@ use Rattle.history.specs.declared.entry.Entry.TheVariants.{Accept, Refuse, Done,
 use Rattle.history.specs.declared.order.Order.{Order}
 use Rattle.history.specs.declared.order.Order.TheVariants as order
 use Rattle.history.specs.declared.order.Payload.{Payload}
-use Rattle.history.specs.declared.order.Payload.TheVariants.{Given, Nothing}
+use Rattle.history.specs.declared.order.Payload.TheVariants.{Given, Fill, Nothing}
 use Rattle.history.specs.Setup.{Setup, size_of, blocks_of}
 use Rattle.history.specs.Tokens.{Request, accepted, request, was_collected}
 use Rattle.history.specs.Rules.{refusal_of}
@@ -40,9 +40,11 @@ stand H lines outcomes = record { history = H; lines = lines; outcomes = outcome
 abbrev pub whole_view : Setup → ℕ → View
 whole_view S k = record { start = 0; length = blocks_of S k * size_of S; media_id = k; index = 0 }
 
-abbrev pub payload_bytes : Payload → List ℕ
-payload_bytes (Given bytes) = bytes
-payload_bytes Nothing = []
+-- the bytes of a request of this length
+abbrev pub payload_bytes : ℕ → Payload → List ℕ
+payload_bytes n (Given bytes) = bytes
+payload_bytes n (Fill b) = replicate n b
+payload_bytes n Nothing = []
 
 abbrev pub answer_of : View → Asked → List ℕ → ℕ → Option Status → Entry
 answer_of view asked bytes media_id None = Accept 1 view asked bytes
@@ -51,7 +53,7 @@ answer_of view asked bytes media_id (Some status) = Refuse 1 view asked media_id
 -- a request is accepted or refused
 unfoldable pub after_answer : Setup → List Entry → Asked → Payload → ℕ → List Entry
 after_answer S H asked payload k =
-    answer_of (whole_view S k) asked (payload_bytes payload) k (refusal_of S H (whole_view S k) asked k) ∷ H
+    answer_of (whole_view S k) asked (payload_bytes asked.length payload) k (refusal_of S H (whole_view S k) asked k) ∷ H
 
 abbrev pub collect_one : (ℕ → Bool) → List Entry → ℕ → Option Request → Bool → List Entry
 collect_one test H t None was = H
@@ -80,10 +82,16 @@ abbrev pub after_wait : Option ℕ → List Entry → List Order → List Outcom
 after_wait (Some t) H rest outcomes = stand H (order.Wait ∷ rest) outcomes
 after_wait None H rest outcomes = stand (after_own_collects H) rest outcomes
 
+-- a request is answered and a wait waits; this version has no other lines, and would pass them over
 abbrev pub after_lines : Setup → List Entry → List Order → List Outcome → Stand
 after_lines S H [] outcomes = stand H [] outcomes
 after_lines S H (order.Request asked payload k ∷ rest) outcomes = stand (after_answer S H asked payload k) rest outcomes
 after_lines S H (order.Wait ∷ rest) outcomes = after_wait (first_open S H) H rest outcomes
+after_lines S H (order.Cancel k ∷ rest) outcomes = stand H rest outcomes
+after_lines S H (order.Reset ∷ rest) outcomes = stand H rest outcomes
+after_lines S H (order.Eject ∷ rest) outcomes = stand H rest outcomes
+after_lines S H (order.Insert ∷ rest) outcomes = stand H rest outcomes
+after_lines S H (order.Protect on ∷ rest) outcomes = stand H rest outcomes
 
 -- the first half of a round: the client takes its next line, where it has one left
 unfoldable pub after_line : Setup → Stand → Stand
@@ -142,6 +150,11 @@ plain_from (suc n) S s = if is_over S s then after_all_collects s.history else p
 abbrev pub line_rounds : Order → ℕ
 line_rounds (order.Request asked payload k) = 2 + 2 * asked.length
 line_rounds order.Wait = 1
+line_rounds (order.Cancel k) = 1
+line_rounds order.Reset = 1
+line_rounds order.Eject = 1
+line_rounds order.Insert = 1
+line_rounds (order.Protect on) = 1
 
 -- as many rounds as these lines can need, however the commands end
 unfoldable pub rounds : List Order → ℕ

@@ -3,10 +3,10 @@ use Rattle.std.specs.Prelude.{◌≡◌, ℕ, ◌⊎◌, Bool, false, List, [], 
 use Rattle.medium.specs.Counts.{Rose}
 use Rattle.image_store.specs.Edge.{Appends, AppendsFront}
 use Rattle.image_store.specs.Place.{Image, ChangesOnly}
-use Rattle.script_text.specs.declared.grammar.plans.DiskPlan.{DiskPlan}
-use Rattle.script_text.specs.declared.grammar.plans.ClientPlan.{ClientPlan}
-use Rattle.script_text.specs.declared.grammar.refusal.Reason.{Reason}
-use Rattle.script_text.specs.Script.{script_of}
+use Rattle.script_text.specs.declared.language.plans.DiskPlan.{DiskPlan}
+use Rattle.script_text.specs.declared.language.plans.ClientPlan.{ClientPlan}
+use Rattle.script_text.specs.declared.language.refusal.Reason.{Reason}
+use Rattle.stack_run.specs.Simple.{said_of}
 use Rattle.stack_run.specs.declared.refusal.Refusal.{Refusal}
 use Rattle.stack_run.specs.declared.refusal.Refusal.TheVariants.{Words, Script, Image as ImageOf, Source, Memory}
 use Rattle.stack_run.specs.Reading.{IsScript, OfOne}
@@ -76,12 +76,12 @@ SaidLacksImage (Err fault) at = ⊥
 
 -- the source tells its bytes, and they are refused as a script
 abbrev pub IsToldRefused : Option (List ℕ) → Type 0
-IsToldRefused (Some left) = IsErr (script_of left)
+IsToldRefused (Some left) = IsErr (said_of left)
 IsToldRefused None = ⊥
 
 -- the source tells its bytes, and they are a script for whose disk there is no image of one block
 abbrev pub IsToldLacking : Option (List ℕ) → (List ℕ → Image) → Type 0
-IsToldLacking (Some left) at = SaidLacksImage (script_of left) at
+IsToldLacking (Some left) at = SaidLacksImage (said_of left) at
 IsToldLacking None at = ⊥
 
 -- what serving a disk may answer

@@ -1,20 +1,22 @@
 -- What of a source is read, and what it says (own profile).
 use Rattle.std.specs.Prelude.{◌≡◌, ℕ, ◌<◌, ◌⊎◌, List, [], ◌∷◌, ◌++◌, length, Option, None, Some, Result, Ok, Err}
-use Rattle.script_text.specs.declared.grammar.limits.TheConstants.{SCRIPT_BYTES}
-use Rattle.script_text.specs.declared.grammar.plans.DiskPlan.{DiskPlan}
-use Rattle.script_text.specs.declared.grammar.plans.ClientPlan.{ClientPlan}
-use Rattle.script_text.specs.declared.grammar.refusal.Reason.{Reason}
-use Rattle.script_text.specs.Script.{script_of}
+use Rattle.script_text.specs.Limits.{most_script_bytes}
+use Rattle.script_text.specs.declared.language.plans.DiskPlan.{DiskPlan}
+use Rattle.script_text.specs.declared.language.plans.ClientPlan.{ClientPlan}
+use Rattle.script_text.specs.declared.language.refusal.Reason.{Reason}
+use Rattle.script_text.specs.declared.language.reader.ScriptReader.{ScriptReader}
+use Rattle.script_text.specs.Fed.{WasFed}
+use Rattle.stack_run.specs.Simple.{said_of}
 
 -- all bytes that were left were read, or more of them than a script may have
 abbrev pub SourceReads : Option (List ℕ) → Option (List ℕ) → List ℕ → Type 0
-SourceReads (Some left) now bytes = (rest : List ℕ) × (now ≡ Some rest) × (left ≡ bytes ++ rest) × ((rest ≡ []) ⊎ (SCRIPT_BYTES < length bytes))
+SourceReads (Some left) now bytes = (rest : List ℕ) × (now ≡ Some rest) × (left ≡ bytes ++ rest) × ((rest ≡ []) ⊎ (most_script_bytes < length bytes))
 SourceReads None now bytes = now ≡ None
 
 -- what all bytes say that were left; where these are not told, what some bytes say
 abbrev pub SourceSays : Option (List ℕ) → Result (List DiskPlan) (ℕ × Reason) → Type 0
-SourceSays (Some left) said = script_of left ≡ said
-SourceSays None said = (bytes : List ℕ) × (script_of bytes ≡ said)
+SourceSays (Some left) said = said_of left ≡ said
+SourceSays None said = (bytes : List ℕ) × (said_of bytes ≡ said)
 
 -- the source was read to its end
 abbrev pub IsReadOut : Option (List ℕ) → Option (List ℕ) → Type 0
@@ -26,11 +28,19 @@ pub record IsScript (left left' : Option (List ℕ)) (plans : List DiskPlan) : T
   pub says : SourceSays left (Ok plans)
   pub out : IsReadOut left left'
 
--- the source is refused as a script
-pub record IsRefused (left : Option (List ℕ)) : Type 0 where
+-- the source was read out, and is refused as a script
+pub record IsRefused (left left' : Option (List ℕ)) : Type 0 where
   pub line : ℕ
   pub reason : Reason
   pub says : SourceSays left (Err (line, reason))
+  pub bytes : List ℕ
+  pub reads : SourceReads left left' bytes
+
+-- the reader was fed what was read
+pub record FedBy (left left' : Option (List ℕ)) (reader : ScriptReader) : Type 0 where
+  pub bytes : List ℕ
+  pub reads : SourceReads left left' bytes
+  pub fed : WasFed reader bytes
 
 -- these are one disk with one client, and this holds of the two
 pub record OfOne (plans : List DiskPlan) (P : DiskPlan → ClientPlan → Type 0) : Type 0 where

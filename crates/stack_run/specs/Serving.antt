@@ -11,8 +11,8 @@ use Rattle.history.specs.Rules.{IsLegal}
 use Rattle.history.specs.Room.{faults}
 use Rattle.disk_core.specs.Facts.{MeetsEra}
 use Rattle.image_store.specs.Place.{Place, Here, Missing, Taken, Untold, Image, IsShort, MayBeShort, ChangesOnly, whole_block_bytes, tail_of}
-use Rattle.script_text.specs.declared.grammar.plans.DiskPlan.{DiskPlan}
-use Rattle.script_text.specs.declared.grammar.plans.ClientPlan.{ClientPlan}
+use Rattle.script_text.specs.declared.language.plans.DiskPlan.{DiskPlan}
+use Rattle.script_text.specs.declared.language.plans.ClientPlan.{ClientPlan}
 use Rattle.script_text.specs.Report.{givens_of, AreEnds, AreGiven, report_text}
 use Rattle.stack_run.specs.declared.serving.Run.{Run}
 use Rattle.stack_run.specs.Plain.{outcomes_of, plain_history}

@@ -6,7 +6,7 @@ ghost use Rattle.history.specs.Next.{first_open};
 ghost use Rattle.disk_core.specs.Calls.{asked_of, bytes_of};
 ghost use Rattle.disk_core.specs.Facts.{AreFacts};
 ghost use Rattle.disk_core.specs.Turns.{IsIdle, KeepsGates};
-ghost use Rattle.script_text.specs.Fit.{IsRequest, IsOrder, AreOrders};
+ghost use Rattle.stack_run.specs.Simple.{IsRequest, IsOrder, AreOrders};
 ghost use Rattle.script_text.specs.Report.{givens_of, AreEnds, AreGiven};
 ghost use Rattle.stack_run.specs.Plain.{payload_bytes, whole_view, outcomes_of, plain_history};
 ghost use Rattle.stack_run.specs.Keeping.{StepsOnce, Waits, Keeps, Answers, TakesLine};
@@ -81,13 +81,17 @@ fn whole_medium<M: Medium>(disk: &Disk<M>) -> View
 fn ask_of(alloc: Global, asked: &Asked, payload: &Payload) -> Result<Ask, AllocError>
     requires { IsRequest asked.now payload.now 1 }
     ensures asked { IfOk result (λ ask. asked_of ask ≡ asked.now) }
-    ensures bytes { IfOk result (λ ask. bytes_of ask ≡ payload_bytes payload.now) }
+    ensures bytes { IfOk result (λ ask. bytes_of ask ≡ payload_bytes asked.now.length payload.now) }
     ensures most { IfOk result (λ ask. (asked_of ask).length ≤ 2 ^ 24) }
 {
     match payload {
         Payload::Given(bytes) => Ok(Ask::Write {
             at: asked.at,
             buffer: Vec::from_slice(alloc, bytes.as_slice())?,
+        }),
+        Payload::Fill(byte) => Ok(Ask::Write {
+            at: asked.at,
+            buffer: vec![in alloc; *byte; asked.length as usize]?,
         }),
         Payload::Nothing => Ok(Ask::Read {
             at: asked.at,
@@ -155,6 +159,11 @@ fn take_line<M: Medium>(
             collect_rest(disk, kept)?;
             Ok(())
         }
+        Order::Cancel { .. } => unreachable!(),
+        Order::Reset => unreachable!(),
+        Order::Eject => unreachable!(),
+        Order::Insert => unreachable!(),
+        Order::Protect { .. } => unreachable!(),
     }
 }
 

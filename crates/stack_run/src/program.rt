@@ -2,16 +2,17 @@ ghost use Rattle.std.specs.Prelude.{◌≡◌, ℕ, ◌≤◌, ◌++◌, ◌⊎�
 ghost use Rattle.medium.specs.Counts.{Rose};
 ghost use Rattle.image_store.specs.Edge.{Appends, PutsText, HasCauseOf};
 ghost use Rattle.image_store.specs.Place.{IsFree};
-ghost use Rattle.script_text.specs.Fit.{AreDisks, IsSingle};
+ghost use Rattle.script_text.specs.Fitting.{AreDisks};
+ghost use Rattle.stack_run.specs.Simple.{is_simple, IsSingle};
 ghost use Rattle.stack_run.specs.Reading.{IsRefused, OfOne};
 ghost use Rattle.stack_run.specs.Serving.{Served};
 ghost use Rattle.stack_run.specs.Program.{is_plain, status_of, refusal_text, WritesLine, WritesRefusal, OfScript, ImageFailed, SinkFailed, MemoryRanOut, LacksImage, IsToldRefused, IsToldLacking, IsServingStatus};
 
-use crate::reading::{ReadFault, read_source};
+use crate::reading::{NotRead, read_source};
 use crate::refusal::{Refusal, Unserved};
 use crate::serving::serve;
 use image_store::{Images, PutFault, Sink, Source};
-use script_text::{Script, ScriptRefused, read_script};
+use script_text::Script;
 use std::alloc::Global;
 
 // Whether the words are the one word `plain`.
@@ -89,6 +90,7 @@ fn refuse<O: Sink>(refusal: Refusal, name: &str, out: &mut O) -> u8
 fn run_script<I: Images, O: Sink>(alloc: Global, script: &Script, images: &mut I, out: &mut O) -> u8
     requires free { (name : List ℕ) → IsFree (I.at images.old name).place }
     requires single { IsSingle script.now.disks }
+    requires simple { is_simple script.now.disks ≡ true }
     requires fit { AreDisks script.now.disks }
     ensures done { result ≡ 0 → OfOne script.now.disks (λ plan client. Served plan client (I.at images.old) (I.at images.new) (Appends (O.wrote out.old) (O.wrote out.new))) }
     ensures image { result ≡ 3 → OfOne script.now.disks (ImageFailed (I.at images.old) (I.at images.new) (O.wrote out.old) (O.wrote out.new) (O.faults out.old) (O.faults out.new)) }
@@ -112,7 +114,8 @@ fn run_script<I: Images, O: Sink>(alloc: Global, script: &Script, images: &mut I
 /// report. It answers the program's status (own profile), and each status with its cause:
 ///
 /// - 0: the report, the image and every other image are those of one legal history, the plain run of the script.
-/// - 1 where the words are others, 2 where the script is refused, 4 where the source failed: no image has changed.
+/// - 1 where the words are others, 2 where the source was read out and its script is refused, or is none of one disk with
+///   one medium and one client that writes, reads and waits; 4 where the source failed: no image has changed.
 /// - 3 where the image is missing, shorter than a block or failed, and is then where it was; or where the lines ran and
 ///   it could not be put back. Nothing but the line of this refusal is written.
 /// - 5 where the sink failed: the image is as after 0, and a front of the report was written.
@@ -129,7 +132,7 @@ pub fn run_plain<I: Images, R: Source, O: Sink>(
     ensures words { result ≡ 1 → is_plain (map string_bytes words.now) ≡ false }
     ensures words_exactly { is_plain (map string_bytes words.now) ≡ false → (result ≡ 1) ⊎ (result ≡ 6) }
     ensures words_line { result ≡ 1 → WritesRefusal (refusal_text Refusal.Words []) (I.at images.old) (I.at images.new) (O.wrote out.old) (O.wrote out.new) (O.faults out.old) (O.faults out.new) }
-    ensures script { result ≡ 2 → IsRefused (R.left script.old) }
+    ensures script { result ≡ 2 → IsRefused (R.left script.old) (R.left script.new) }
     ensures script_exactly { is_plain (map string_bytes words.now) ≡ true → IsToldRefused (R.left script.old) → (result ≡ 2) ⊎ ((result ≡ 4) ⊎ (result ≡ 6)) }
     ensures script_line { result ≡ 2 → WritesRefusal (refusal_text Refusal.Script []) (I.at images.old) (I.at images.new) (O.wrote out.old) (O.wrote out.new) (O.faults out.old) (O.faults out.new) }
     ensures image { result ≡ 3 → OfScript (R.left script.old) (R.left script.new) (ImageFailed (I.at images.old) (I.at images.new) (O.wrote out.old) (O.wrote out.new) (O.faults out.old) (O.faults out.new)) }
@@ -144,14 +147,10 @@ pub fn run_plain<I: Images, R: Source, O: Sink>(
     if !is_plain_run(words) {
         return refuse(Refusal::Words, "", out);
     }
-    let bytes = match read_source(alloc, script) {
-        Ok(bytes) => bytes,
-        Err(ReadFault::Failed) => return refuse(Refusal::Source, "", out),
-        Err(ReadFault::Memory) => return refuse(Refusal::Memory, "", out),
-    };
-    match read_script(alloc, &bytes) {
+    match read_source(alloc, script) {
         Ok(read) => run_script(alloc, &read, images, out),
-        Err(ScriptRefused::Fault { .. }) => refuse(Refusal::Script, "", out),
-        Err(ScriptRefused::Memory) => refuse(Refusal::Memory, "", out),
+        Err(NotRead::Failed) => refuse(Refusal::Source, "", out),
+        Err(NotRead::Refused) => refuse(Refusal::Script, "", out),
+        Err(NotRead::Memory) => refuse(Refusal::Memory, "", out),
     }
 }

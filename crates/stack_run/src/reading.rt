@@ -1,11 +1,14 @@
-ghost use Rattle.std.specs.Prelude.{◌≡◌, ℕ, ◌+◌, ◌<◌, ◌≤◌, length, IfOk, IsErrOf};
+ghost use Rattle.std.specs.Prelude.{◌≡◌, true, IfOk, IsErrOf};
+ghost use Rattle.std.specs.List.{list_all};
 ghost use Rattle.image_store.specs.Edge.{HasCauseOf};
-ghost use Rattle.script_text.specs.declared.grammar.limits.TheConstants.{SCRIPT_BYTES};
-ghost use Rattle.stack_run.specs.Reading.{SourceReads};
+ghost use Rattle.script_text.specs.Fitting.{AreDisks};
+ghost use Rattle.stack_run.specs.Reading.{FedBy, IsScript, IsRefused};
+ghost use Rattle.stack_run.specs.Simple.{brings_simply, is_simple_request, is_simple_order, is_simple_client, are_simple_clients, is_simple_disk, is_simple, IsSingle};
 
+use history::{Kind, Order, Payload, UnitKind};
 use image_store::Source;
-use script_text::SCRIPT_BYTES;
-use std::alloc::{AllocError, Global};
+use script_text::{ClientPlan, DiskPlan, SCRIPT_BYTES, Script, ScriptReader, ScriptRefused};
+use std::alloc::Global;
 
 /// Why a source could not be read (own profile).
 #[derive(Clone, Copy, Debug, PartialEq, Eq)]
@@ -16,28 +19,155 @@ pub enum ReadFault {
     Memory,
 }
 
+/// Why a source gave no script (own profile).
+#[derive(Clone, Copy, Debug, PartialEq, Eq)]
+pub enum NotRead {
+    /// It failed.
+    Failed,
+    /// What it gave is refused as a script.
+    Refused,
+    /// Memory ran out.
+    Memory,
+}
+
 // How many bytes are asked for at once.
 const PIECE: usize = 4096;
 
-// SourceReads the source to its end, or to one byte more than a script may have.
-pub fn read_source<R: Source>(alloc: Global, source: &mut R) -> Result<Vec<u8>, ReadFault>
-    ensures read { IfOk result (λ bytes. SourceReads (R.left source.old) (R.left source.new) bytes.items) }
+// Feeds the source to a reader, to its end or to more bytes than a script may have.
+pub fn feed_source<R: Source>(alloc: Global, source: &mut R) -> Result<ScriptReader, ReadFault>
+    ensures fed { IfOk result (FedBy (R.left source.old) (R.left source.new)) }
     ensures cause { HasCauseOf ReadFault.Failed (R.faults source.old) (R.faults source.new) result }
 {
-    let mut bytes = Vec::new(alloc);
+    let mut reader = ScriptReader::make(alloc);
+    let mut count = 0;
     let mut piece = [0; PIECE];
-    'pieces: while bytes.len() as u64 <= SCRIPT_BYTES {
-        let count = match source.next(&mut piece) {
-            Ok(count) => count,
+    'pieces: while count <= SCRIPT_BYTES {
+        let more = match source.next(&mut piece) {
+            Ok(more) => more,
             Err(_) => return Err(ReadFault::Failed),
         };
-        if count == 0 {
-            return Ok(bytes);
+        if more == 0 {
+            return Ok(reader);
         }
-        match bytes.extend_from_slice(&piece[..count]) {
+        match reader.feed(&piece[..more]) {
             Ok(()) => {}
             Err(_) => return Err(ReadFault::Memory),
         }
+        count += more as u64;
     }
-    Ok(bytes)
+    Ok(reader)
+}
+
+// Reads a script that this version runs. It is refused only once the source was read out.
+pub fn read_source<R: Source>(alloc: Global, source: &mut R) -> Result<Script, NotRead>
+    ensures script { IfOk result (λ script. IsScript (R.left source.old) (R.left source.new) script.disks) }
+    ensures fit { IfOk result (λ script. AreDisks script.disks) }
+    ensures simple { IfOk result (λ script. is_simple script.disks ≡ true) }
+    ensures single { IfOk result (λ script. IsSingle script.disks) }
+    ensures refused { IsErrOf result NotRead.Refused → IsRefused (R.left source.old) (R.left source.new) }
+    ensures cause { HasCauseOf NotRead.Failed (R.faults source.old) (R.faults source.new) result }
+{
+    let reader = match feed_source(alloc, source) {
+        Ok(reader) => reader,
+        Err(ReadFault::Failed) => return Err(NotRead::Failed),
+        Err(ReadFault::Memory) => return Err(NotRead::Memory),
+    };
+    match reader.finish() {
+        Ok(script) => {
+            if is_simple(&script) {
+                Ok(script)
+            } else {
+                Err(NotRead::Refused)
+            }
+        }
+        Err(ScriptRefused::Fault { .. }) => Err(NotRead::Refused),
+        Err(ScriptRefused::Memory) => Err(NotRead::Memory),
+    }
+}
+
+// Whether this version runs the script.
+fn is_simple(script: &Script) -> bool
+    ensures { result ≡ is_simple script.now.disks }
+{
+    match script.disks.as_slice() {
+        [disk] => is_simple_disk(disk),
+        _ => false,
+    }
+}
+
+fn is_simple_disk(disk: &DiskPlan) -> bool
+    ensures { result ≡ is_simple_disk disk.now }
+{
+    !disk.cached
+        && !disk.protected
+        && disk.physical == 1
+        && disk.spares.as_slice().is_empty()
+        && are_simple_clients(disk.clients.as_slice())
+}
+
+fn are_simple_clients(clients: &[ClientPlan]) -> bool
+    ensures { result ≡ are_simple_clients clients.now }
+{
+    match clients {
+        [client] => is_simple_client(client),
+        _ => false,
+    }
+}
+
+fn is_simple_client(client: &ClientPlan) -> bool
+    ensures { result ≡ is_simple_client client.now }
+{
+    client.part.is_none() && are_simple_orders(client.orders.as_slice())
+}
+
+fn are_simple_orders(orders: &[Order]) -> bool
+    ensures { result ≡ list_all is_simple_order orders.now }
+{
+    orders.iter().all(|order| is_simple_order(order))
+}
+
+fn is_simple_order(order: &Order) -> bool
+    ensures { result ≡ is_simple_order order.now }
+{
+    match order {
+        Order::Request {
+            asked,
+            payload,
+            media_id,
+        } => is_simple_request(asked.kind, asked.unit, payload) && *media_id == 1,
+        Order::Wait => true,
+        Order::Cancel { .. } => false,
+        Order::Reset => false,
+        Order::Eject => false,
+        Order::Insert => false,
+        Order::Protect { .. } => false,
+    }
+}
+
+fn is_simple_request(kind: Kind, unit: UnitKind, payload: &Payload) -> bool
+    ensures { result ≡ is_simple_request kind unit payload.now }
+{
+    match unit {
+        UnitKind::Blocks => false,
+        UnitKind::Bytes => brings_simply(kind, payload),
+    }
+}
+
+fn brings_simply(kind: Kind, payload: &Payload) -> bool
+    ensures { result ≡ brings_simply kind payload.now }
+{
+    match kind {
+        Kind::Read => match payload {
+            Payload::Given(_) => false,
+            Payload::Fill(_) => false,
+            Payload::Nothing => true,
+        },
+        Kind::Write => match payload {
+            Payload::Given(_) => true,
+            Payload::Fill(_) => true,
+            Payload::Nothing => false,
+        },
+        Kind::Flush => false,
+        Kind::Erase => false,
+    }
 }

@@ -4,7 +4,8 @@ ghost use Rattle.medium.specs.Device.{IsFresh};
 ghost use Rattle.image_store.specs.Edge.{Appends, AppendsFront, HasCauseOf, PutsText};
 ghost use Rattle.image_store.specs.Place.{IsFree, IsTaken, IsTaking, ChangesOnly, MayBeShort, put_place};
 ghost use Rattle.history.specs.Setup.{Setup};
-ghost use Rattle.script_text.specs.Fit.{IsDisk, AreOrders};
+ghost use Rattle.script_text.specs.Fitting.{IsDisk};
+ghost use Rattle.stack_run.specs.Simple.{AreOrders};
 ghost use Rattle.script_text.specs.Report.{AreEnds};
 ghost use Rattle.stack_run.specs.Serving.{RanOver, RanSome, RanDisk, Served, ImageFails, MayLeave, LacksBlock, blocks_alone, disk_over, run_report};
 
@@ -163,6 +164,7 @@ fn write_report<O: Sink>(
     out: &mut O,
 ) -> Result<(), ReportFault>
     requires fits { run.now.blocks * plan.now.size < 2 ^ 64 }
+    requires alone { plan.now.physical ≡ 1 }
     ensures text { (S : Setup) → S.geometry ≡ blocks_alone plan.now → AreEnds S run.now.history.entries run.now.ends.items
         → PutsText (O.wrote out.old) (O.wrote out.new) result (run_report plan.now S run.now) }
     ensures cause { HasCauseOf ReportFault.Failed (O.faults out.old) (O.faults out.new) result }
@@ -187,6 +189,7 @@ pub fn serve<I: Images, O: Sink>(
     out: &mut O,
 ) -> Result<(), Unserved>
     requires disk { IsDisk plan.now }
+    requires alone { plan.now.physical ≡ 1 }
     requires orders { AreOrders client.now.orders }
     requires free { IsFree (I.at images.old plan.now.image).place }
     ensures served { OnOk result (Served plan.now client.now (I.at images.old) (I.at images.new) (Appends (O.wrote out.old) (O.wrote out.new))) }

@@ -14,10 +14,15 @@ pub fn head_line(
     image: &str,
     size: u32,
     blocks: u64,
+    physical: u32,
 ) -> Result<String, AllocError>
-    ensures { IfOk result (λ text. string_bytes text ≡ head_text number image.now size blocks) }
+    ensures { IfOk result (λ text. string_bytes text ≡ head_text number image.now size blocks physical) }
 {
-    format!(in alloc; "disk {number} {image} size {size} blocks {blocks}\n")
+    if physical == 1 {
+        format!(in alloc; "disk {number} {image} size {size} blocks {blocks}\n")
+    } else {
+        format!(in alloc; "disk {number} {image} size {size} blocks {blocks} physical {physical}\n")
+    }
 }
 
 /// The line of a token. The error is want of memory.

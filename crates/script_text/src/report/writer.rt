@@ -5,7 +5,7 @@ ghost use Rattle.script_text.specs.Held.{AddsText};
 ghost use Rattle.script_text.specs.Entries.{entries_text};
 ghost use Rattle.script_text.specs.Report.{head_text, body_text, ended_text, ends_text, media_text, givens_of, AreEnds};
 
-use crate::grammar::plans::DiskPlan;
+use crate::language::plans::DiskPlan;
 use crate::report::entries::entry_line;
 use crate::report::parts::{KeptMedium, ReportFault, TokenLine};
 use crate::report::{pieces, tokens};
@@ -13,7 +13,8 @@ use history::{Entry, History};
 use image_store::Sink;
 use std::alloc::Global;
 
-/// Writes the first line of a disk: its number from 1, its image, its block size in bytes, and its blocks (own profile).
+/// Writes the first line of a disk: its number from 1, its image, its block size in bytes, its blocks, and the blocks of
+/// a group where it has more than one (own profile).
 /// After a fault a front of the line was written. `Failed` comes only where the sink's faults rose.
 #[tactic(auto, using(crate::proofs::HeldText::none_put))]
 pub fn report_head<O: Sink>(
@@ -23,10 +24,17 @@ pub fn report_head<O: Sink>(
     blocks: u64,
     out: &mut O,
 ) -> Result<(), ReportFault>
-    ensures text { PutsText (O.wrote out.old) (O.wrote out.new) result (head_text number plan.now.image plan.now.size blocks) }
+    ensures text { PutsText (O.wrote out.old) (O.wrote out.new) result (head_text number plan.now.image plan.now.size blocks plan.now.physical) }
     ensures cause { HasCauseOf ReportFault.Failed (O.faults out.old) (O.faults out.new) result }
 {
-    match tokens::head_line(alloc, number, plan.image.as_str(), plan.size, blocks) {
+    match tokens::head_line(
+        alloc,
+        number,
+        plan.image.as_str(),
+        plan.size,
+        blocks,
+        plan.physical,
+    ) {
         Ok(line) => pieces::put(out, line.as_str()),
         Err(_) => Err(ReportFault::Memory),
     }

@@ -2,7 +2,8 @@ ghost use Rattle.std.specs.Prelude.{◌≡◌, false, [], reverse, IfOk};
 ghost use Rattle.script_text.specs.Report.{AreEnds};
 
 use super::NAME_OF_255;
-use crate::grammar::plans::{DiskPlan, Items, Name};
+use crate::language::names::{Items, Name};
+use crate::language::plans::DiskPlan;
 use crate::report::entries::entry_line;
 use crate::report::parts::{KeptMedium, ReportFault, TokenLine};
 use crate::report::pieces;
@@ -338,6 +339,11 @@ fn whole_report(rt: HostRuntime) -> Result<(), Fail> {
     let plan = DiskPlan {
         image: Name::copy_of(alloc, NAME_OF_255)?,
         size: 512,
+        workers: 1,
+        cached: false,
+        protected: false,
+        physical: 8,
+        spares: Items::from_vec(Vec::new(alloc)),
         clients: Items::from_vec(Items::from_vec(Vec::new(alloc)).into_vec()),
     };
     let media = [
@@ -358,7 +364,7 @@ fn whole_report(rt: HostRuntime) -> Result<(), Fail> {
         Ok(())
     );
     let expected = format!(in alloc;
-        "disk 3 {NAME_OF_255} size 512 blocks 2\n{LINES}medium 1 {NAME_OF_255} kept 1024\nmedium 2 b.img kept 512\n"
+        "disk 3 {NAME_OF_255} size 512 blocks 2 physical 8\n{LINES}medium 1 {NAME_OF_255} kept 1024\nmedium 2 b.img kept 512\n"
     )?;
     assert_eq!(rt; out.bytes(), expected.as_bytes());
     Ok(())
@@ -410,5 +416,52 @@ fn sink_that_fails(rt: HostRuntime) -> Result<(), Fail> {
         let first = entry_line(alloc, 1, 0, &Entry::Reset { tag: 0 })?;
         assert_eq!(rt; out.bytes().starts_with(first.as_bytes()), failing > 0);
     }
+    Ok(())
+}
+
+const LAST: View = View {
+    start: u64::MAX,
+    length: u64::MAX,
+    media_id: u32::MAX,
+    index: u32::MAX,
+};
+
+const ALL_ASKED: Asked = Asked {
+    kind: Kind::Erase,
+    unit: UnitKind::Blocks,
+    at: u64::MAX,
+    length: u64::MAX,
+};
+
+#[test]
+fn numbers_at_their_ends(rt: HostRuntime) -> Result<(), Fail> {
+    let alloc = rt.alloc();
+    let command = Command::Wipe {
+        block: u64::MAX,
+        count: u32::MAX,
+    };
+    let refused = Entry::Refuse {
+        tag: u32::MAX,
+        view: LAST,
+        asked: ALL_ASKED,
+        media_id: u32::MAX,
+        status: Status::BadBufferSize,
+    };
+    let line = entry_line(alloc, 8, u64::MAX, &refused)?;
+    assert_eq!(rt;
+        line.as_str(),
+        "18446744073709551615 refuse 4294967295 18446744073709551615+18446744073709551615@4294967295/4294967295 \
+            erase blocks 18446744073709551615 18446744073709551615 4294967295 EFI_BAD_BUFFER_SIZE\n"
+    );
+    let fault = Entry::Fault {
+        token: u64::MAX,
+        command,
+        done: u32::MAX,
+    };
+    let line = entry_line(alloc, 8, 0, &fault)?;
+    assert_eq!(rt;
+        line.as_str(),
+        "0 fault 18446744073709551615 wipe 18446744073709551615 4294967295 4294967295\n"
+    );
     Ok(())
 }

@@ -1,7 +1,7 @@
 use super::{ALL_WRITTEN, FIRST, Given, Row, UNCHANGED};
 
 /// Runs that end without their report.
-pub const REFUSALS: [Row; 13] = [
+pub const REFUSALS: [Row; 15] = [
     Row {
         given: Given {
             words: &[],
@@ -40,7 +40,7 @@ pub const REFUSALS: [Row; 13] = [
     },
     Row {
         given: Given {
-            script: "",
+            script: "disk a.img 512 1\nclient\nflush\n",
             ..FIRST
         },
         status: 2,
@@ -111,6 +111,26 @@ pub const REFUSALS: [Row; 13] = [
         },
         status: 4,
         written: "source\n",
+        left: UNCHANGED,
+    },
+    // A faulty script is read to its end all the same.
+    Row {
+        given: Given {
+            script: "frob\n",
+            source_fails: &[1],
+            ..FIRST
+        },
+        status: 4,
+        written: "source\n",
+        left: UNCHANGED,
+    },
+    Row {
+        given: Given {
+            script: "",
+            ..FIRST
+        },
+        status: 2,
+        written: "script\n",
         left: UNCHANGED,
     },
     // The image is put back before the report is written.

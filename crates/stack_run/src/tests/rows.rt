@@ -88,7 +88,7 @@ pub const ROWS: [Row; 8] = [
     },
     Row {
         given: Given {
-            script: "disk a.img 512 1\nclient\nwrite 512 *\n",
+            script: "disk a.img 512 1\nclient\nfill 512 1024 5A\n",
             image: Some(2048),
             star: "5a",
             times: 1024,

@@ -1,19 +1,20 @@
-use Rattle.std.proofs.Common.{rules, arith, ◌≡◌, ◌∙◌, take, ◌++◌}
-use Rattle.std.proofs.lemmas.Grind.{common_steps}
-use Rattle.stack_run.proofs.Read.{so-far-more, so-far-ended, so-far-long}
+use Rattle.std.proofs.Common.{sym, ◌∙◌}
+use Rattle.script_text.specs.declared.language.refusal.Reason.TheVariants as why
+use Rattle.stack_run.proofs.Read.{script-read, script-refused, runs, runs-not, says-not}
 use Rattle.stack_run.proofs.reading.read_source.Goals as goal
 
-pub returns-then-count-eq0-clause-read : goal.returns-then-count-eq0-clause-read
-returns-then-count-eq0-clause-read g c =
-    so-far-ended (g.R.Source.left c.args.source.now) (g.R.Source.left c.pieces.source) (g.R.Source.left c.next.new.self) c.pieces.bytes.items c.next.new.out c.pieces.invariant.0 (rw c.if-count-eq0.true at c.in-Ok.ensures.taken.1) (search (rules, common_steps))
+pub returns-then-is_simple-clause-script : goal.returns-then-is_simple-clause-script
+returns-then-is_simple-clause-script g c =
+    let fed = c.in-Ok.ensures.fed in
+    script-read _ _ fed.bytes c.in-Ok-finish.script.disks fed.reads (runs fed.bytes c.in-Ok-finish.script.disks (c.in-Ok-finish.ensures.tells fed.bytes fed.fed) (sym c.is_simple.ensures ∙ c.if-is_simple.true))
 
-pub pieces-preserved : goal.pieces-preserved
-pieces-preserved g c =
-    let piece : c.extend_from_slice.new.self.items ≡ c.pieces.bytes.items ++ take c.in-Ok.count c.next.new.out = search (rules, common_steps) in (
-      rw piece (so-far-more (g.R.Source.left c.args.source.now) (g.R.Source.left c.pieces.source) (g.R.Source.left c.next.new.self) c.pieces.bytes.items c.next.new.out c.in-Ok.count c.pieces.invariant.0 c.in-Ok.ensures.taken.1),
-      c.in-Ok.ensures.cause.quiet ∙ c.pieces.invariant.1,
-    )
+pub returns-else-is_simple-clause-refused : goal.returns-else-is_simple-clause-refused
+returns-else-is_simple-clause-refused g c =
+    let fed = c.in-Ok.ensures.fed in
+    λ _. script-refused _ _ fed.bytes (0, why.Order) fed.reads (runs-not fed.bytes c.in-Ok-finish.script.disks (c.in-Ok-finish.ensures.tells fed.bytes fed.fed) (sym c.is_simple.ensures ∙ c.if-is_simple.false))
 
-pub returns-clause-read : goal.returns-clause-read
-returns-clause-read g c =
-    so-far-long (g.R.Source.left c.args.source.now) (g.R.Source.left c.pieces.source) c.pieces.bytes.items c.pieces.invariant.0 (omega (arith, c.pieces-test.false, c.len.ensures, c.pieces.bytes.ok.0))
+pub returns-in-Err-Fault-clause-refused : goal.returns-in-Err-Fault-clause-refused
+returns-in-Err-Fault-clause-refused g c =
+    let fed = c.in-Ok.ensures.fed in
+    let told = c.in-Err-Fault.ensures.tells fed.bytes fed.fed in
+    λ _. script-refused _ _ fed.bytes (c.in-Err-Fault.field-0-0, c.in-Err-Fault.field-0-1) fed.reads (says-not fed.bytes (c.in-Err-Fault.field-0-0, c.in-Err-Fault.field-0-1) (rw c.in-Err-Fault.field-0-is at told))

@@ -1,0 +1,27 @@
+use Rattle.std.proofs.Common.{arith, refl, ◌∙◌}
+use Rattle.script_text.specs.Held.{AddsText}
+use Rattle.script_text.proofs.LineLoops.{none_added, one_added, stopped_in, all_added}
+use Rattle.script_text.proofs.Causes.{earlier_cause}
+use Rattle.script_text.proofs.report.table_writer.add_children.Goals as goal
+
+pub loop-child-init : goal.loop-child-init
+loop-child-init g c = record { added = none_added _ _ _ _ _; quiet = refl }
+
+pub returns-in-Err-clause-text : goal.returns-in-Err-clause-text
+unfolding AddsText
+returns-in-Err-clause-text g c =
+    stopped_in _ _ _ _ c.loop-child.child-index _ _ _ _ _ _ c.loop-child.invariant.added c.loop-child-test.true c.child-item.is (omega arith) (c.in-Err.ensures.text _ c.child_line.ensures)
+
+pub returns-in-Err-clause-cause : goal.returns-in-Err-clause-cause
+returns-in-Err-clause-cause g c = earlier_cause _ _ _ _ _ c.loop-child.invariant.quiet c.in-Err.ensures.cause
+
+pub loop-child-preserved : goal.loop-child-preserved
+unfolding AddsText
+loop-child-preserved g c = record {
+  added = one_added _ _ _ _ c.loop-child.child-index _ _ _ _ _ _ _ c.loop-child.invariant.added c.loop-child-test.true c.child-item.is (omega arith) (c.in-Ok.ensures.text _ c.child_line.ensures);
+  quiet = c.in-Ok.ensures.cause.quiet ∙ c.loop-child.invariant.quiet;
+}
+
+pub returns-clause-text : goal.returns-clause-text
+unfolding AddsText
+returns-clause-text g c = all_added _ _ _ _ _ _ _ _ c.loop-child.invariant.added c.loop-child-test.false

@@ -1,0 +1,7 @@
+-- Bytes of one line (own profile).
+use Rattle.std.specs.Prelude.{ℕ, Bool, not, ◌==◌, List}
+use Rattle.std.specs.List.{list_all}
+
+-- bytes without a line feed (10)
+abbrev pub is_one_line : List ℕ → Bool
+is_one_line bytes = list_all (λ b. not (b == 10)) bytes
