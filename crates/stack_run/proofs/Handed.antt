@@ -96,11 +96,12 @@ same-size d d' H meets = meets.size
 -- the lines ran, and the image was put back
 pub ran-disk : (plan : DiskPlan) (client : ClientPlan) (old mid new : Image) (d d' : Device) (run : Run)
     → IsTaking old.place mid.place plan.size false d → mid.worn ≡ old.worn → RanOver (disk_over d) client.orders d' run
-    → new.place ≡ put_place {E = NotRun} mid.place d'.kept (Ok tt) → new.worn ≡ adds mid.worn d'.failed → RanDisk plan client old new run
-ran-disk plan client old mid new d d' run taking worn ran put worn2 = record {
+    → new.place ≡ put_place {E = NotRun} mid.place d'.kept (Ok tt) → new.worn ≡ adds mid.worn d'.failed → new.faults ≡ old.faults → RanDisk plan client old new run
+ran-disk plan client old mid new d d' run taking worn ran put worn2 quiet = record {
   setup = disk_over d;
   ran = ran-plain plan client old mid new d d' run taking worn ran worn2;
   image = leaves old.place mid.place new.place plan.size d d' run.history.entries taking ran.meets put;
+  quiet = quiet;
   blocks = ran.blocks ∙ same-blocks d d' run.history.entries ran.meets;
   fits = rw (ran.blocks, sym (same-size d d' run.history.entries ran.meets ∙ taking.size)) ran.fits;
   geometry = geometry-is plan d taking.size;
@@ -129,6 +130,7 @@ served-by plan client at at' Writes run ran others writes = record {
   given = givens_of run.ends.items;
   ran = ran.ran;
   image = ran.image;
+  quiet = ran.quiet;
   others = others;
   report = rw (sym ran.blocks) (writes ran.setup ran.geometry ran.ends);
 }

@@ -1,8 +1,7 @@
 -- The one disk and the one client of a script that this version runs.
-use Rattle.std.proofs.Common.{◌≡◌, ℕ, Bool, true, false, not, ◌&&◌, nat_eq, is_none, List, [], ◌∷◌, length, get_or, Option, Some, None, Ok, Err, refl, ap, arith}
+use Rattle.std.proofs.Common.{◌≡◌, ℕ, Bool, true, false, not, ◌&&◌, nat_eq, is_none, List, [], ◌∷◌, length, get_or, refl, arith}
 use Rattle.std.specs.List.{list_all}
 use Rattle.std.proofs.lemmas.Bool.Decides.{nat_tests}
-use Rattle.history.specs.declared.entry.Asked.{Asked}
 use Rattle.history.specs.declared.entry.Kind.{Kind}
 use Rattle.history.specs.declared.entry.Kind.TheVariants.{Read, Write, Flush, Erase}
 use Rattle.history.specs.declared.entry.UnitKind.{UnitKind}
@@ -15,8 +14,7 @@ use Rattle.script_text.specs.declared.language.plans.DiskPlan.{DiskPlan}
 use Rattle.script_text.specs.declared.language.plans.ClientPlan.{ClientPlan}
 use Rattle.script_text.specs.Fitting as fit
 use Rattle.script_text.specs.Fitting.{AreDisks, AreClients, IsDisk}
-use Rattle.script_text.specs.Whole.{script_of}
-use Rattle.stack_run.specs.Simple.{brings_simply, is_simple_request, is_simple_order, is_simple_client, are_simple_clients, has_no_name, is_simple_disk, is_simple, said_of, Brings, IsRequest, IsOrder, AreOrders, IsSingle}
+use Rattle.stack_run.specs.Simple.{is_simple_request, is_simple_order, are_simple_clients, has_no_name, is_simple_disk, is_simple, Brings, IsOrder, AreOrders, IsSingle}
 
 both : (a b : Bool) → (a && b) ≡ true → (a ≡ true) × (b ≡ true)
 both true b is = (refl, is)

@@ -1,7 +1,6 @@
 -- What ran over a disk, read off its facts.
-use Rattle.std.proofs.Common.{◌≡◌, ℕ, ◌*◌, ◌^◌, ◌<◌, List, [], ◌∷◌, map, slice_get, Option, Some, sym, ◌∙◌, ap, subst}
+use Rattle.std.proofs.Common.{◌≡◌, ◌*◌, ◌^◌, ◌<◌, List, [], ◌∷◌, map, slice_get, Some, sym, ◌∙◌, ap, subst}
 use Rattle.medium.specs.Device.{Device}
-use Rattle.history.specs.declared.entry.Entry.{Entry}
 use Rattle.history.specs.declared.order.Order.{Order}
 use Rattle.history.specs.Setup.{Setup}
 use Rattle.history.specs.Rules.{IsLegal}

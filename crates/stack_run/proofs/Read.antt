@@ -13,7 +13,7 @@ use Rattle.script_text.specs.Whole.{script_of}
 use Rattle.script_text.specs.Fed.{WasFed}
 use Rattle.stack_run.specs.Simple.{is_simple, said_of}
 use Rattle.image_store.specs.Place.{Image}
-use Rattle.stack_run.specs.Reading.{SourceReads, SourceSays, IsReadOut, IsScript, IsRefused, FedBy}
+use Rattle.stack_run.specs.Reading.{SourceReads, SourceSays, IsReadOut, IsScript, IsRefused}
 use Rattle.stack_run.specs.Program.{IsToldRefused, IsToldLacking, LacksImage}
 
 -- the bytes so far, and what is left behind them, are what was left

@@ -91,23 +91,25 @@ run_report plan S run = report_of plan S run.blocks run.history.entries (givens_
 abbrev pub disk_report : DiskPlan → Setup → List Entry → List (Option (List ℕ)) → List ℕ
 disk_report plan S H given = report_of plan S (blocks_of S 1) H given
 
--- the lines ran over the image to their end, and it was put back
+-- the lines ran over the image to their end, and it was put back: no call of its name failed
 pub record RanDisk (plan : DiskPlan) (client : ClientPlan) (old new : Image) (run : Run) : Type 0 where
   pub setup : Setup
   pub ran : RanPlain plan client old new setup run.history.entries (givens_of run.ends.items)
   pub image : Leaves setup run.history.entries old.place new.place
+  pub quiet : new.faults ≡ old.faults
   pub blocks : run.blocks ≡ blocks_of setup 1
   pub fits : run.blocks * plan.size < 2 ^ 64
   pub geometry : setup.geometry ≡ blocks_alone plan
   pub ends : AreEnds setup run.history.entries run.ends.items
 
--- the images are those of one history, and so is the report, which was written so
+-- the images are those of one history, and so is the report, which was written so; no call of the image's name failed
 pub record Served (plan : DiskPlan) (client : ClientPlan) (at at' : List ℕ → Image) (Writes : List ℕ → Type 0) : Type 0 where
   pub setup : Setup
   pub history : List Entry
   pub given : List (Option (List ℕ))
   pub ran : RanPlain plan client (at plan.image) (at' plan.image) setup history given
   pub image : Leaves setup history (at plan.image).place (at' plan.image).place
+  pub quiet : (at' plan.image).faults ≡ (at plan.image).faults
   pub others : ChangesOnly plan.image at at'
   pub report : Writes (disk_report plan setup history given)
 

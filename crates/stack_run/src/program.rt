@@ -96,6 +96,7 @@ fn run_script<I: Images, O: Sink>(alloc: Global, script: &Script, images: &mut I
     ensures image { result ≡ 3 → OfOne script.now.disks (ImageFailed (I.at images.old) (I.at images.new) (O.wrote out.old) (O.wrote out.new) (O.faults out.old) (O.faults out.new)) }
     ensures lacks { LacksImage script.now.disks (I.at images.old) → (result ≡ 3) ⊎ (result ≡ 6) }
     ensures sink { result ≡ 5 → OfOne script.now.disks (SinkFailed (I.at images.old) (I.at images.new) (O.wrote out.old) (O.wrote out.new) (O.faults out.old) (O.faults out.new)) }
+    ensures quiet { result ≡ 0 → O.faults out.new ≡ O.faults out.old }
     ensures memory { result ≡ 6 → OfOne script.now.disks (MemoryRanOut (I.at images.old) (I.at images.new)) }
     ensures few { IsServingStatus result }
     ensures again { (name : List ℕ) → IsFree (I.at images.new name).place }
@@ -131,6 +132,7 @@ pub fn run_plain<I: Images, R: Source, O: Sink>(
     ensures done { result ≡ 0 → OfScript (R.left script.old) (R.left script.new) (λ plan client. Served plan client (I.at images.old) (I.at images.new) (Appends (O.wrote out.old) (O.wrote out.new))) }
     ensures words { result ≡ 1 → is_plain (map string_bytes words.now) ≡ false }
     ensures words_exactly { is_plain (map string_bytes words.now) ≡ false → (result ≡ 1) ⊎ (result ≡ 6) }
+    ensures words_unread { result ≡ 1 → script.new ≡ script.old }
     ensures words_line { result ≡ 1 → WritesRefusal (refusal_text Refusal.Words []) (I.at images.old) (I.at images.new) (O.wrote out.old) (O.wrote out.new) (O.faults out.old) (O.faults out.new) }
     ensures script { result ≡ 2 → IsRefused (R.left script.old) (R.left script.new) }
     ensures script_exactly { is_plain (map string_bytes words.now) ≡ true → IsToldRefused (R.left script.old) → (result ≡ 2) ⊎ ((result ≡ 4) ⊎ (result ≡ 6)) }
@@ -138,8 +140,10 @@ pub fn run_plain<I: Images, R: Source, O: Sink>(
     ensures image { result ≡ 3 → OfScript (R.left script.old) (R.left script.new) (ImageFailed (I.at images.old) (I.at images.new) (O.wrote out.old) (O.wrote out.new) (O.faults out.old) (O.faults out.new)) }
     ensures image_exactly { is_plain (map string_bytes words.now) ≡ true → IsToldLacking (R.left script.old) (I.at images.old) → (result ≡ 3) ⊎ ((result ≡ 4) ⊎ (result ≡ 6)) }
     ensures source { result ≡ 4 → Rose (R.faults script.old) (R.faults script.new) }
+    ensures source_exactly { (R.faults script.new ≡ R.faults script.old) ⊎ ((result ≡ 4) ⊎ (result ≡ 6)) }
     ensures source_line { result ≡ 4 → WritesRefusal (refusal_text Refusal.Source []) (I.at images.old) (I.at images.new) (O.wrote out.old) (O.wrote out.new) (O.faults out.old) (O.faults out.new) }
     ensures sink { result ≡ 5 → OfScript (R.left script.old) (R.left script.new) (SinkFailed (I.at images.old) (I.at images.new) (O.wrote out.old) (O.wrote out.new) (O.faults out.old) (O.faults out.new)) }
+    ensures sink_quiet { result ≡ 0 → O.faults out.new ≡ O.faults out.old }
     ensures memory { result ≡ 6 → (I.at images.new ≡ I.at images.old) ⊎ OfScript (R.left script.old) (R.left script.new) (MemoryRanOut (I.at images.old) (I.at images.new)) }
     ensures few { result ≤ 6 }
     ensures again { (name : List ℕ) → IsFree (I.at images.new name).place }

@@ -82,6 +82,7 @@ fn take_image<I: Images>(alloc: Global, plan: &DiskPlan, images: &mut I) -> Resu
     ensures image { IsErrOf result NotRun.Image → Rose (I.at images.old plan.now.image).faults (I.at images.new plan.now.image).faults ⊎ MayBeShort (I.at images.old plan.now.image).place plan.now.size }
     ensures lacks { LacksBlock plan.now.size (I.at images.old plan.now.image).place → IsErr result }
     ensures later { (I.at images.old plan.now.image).faults ≤ (I.at images.new plan.now.image).faults }
+    ensures quiet { OnOk result ((I.at images.new plan.now.image).faults ≡ (I.at images.old plan.now.image).faults) }
     ensures worn { (I.at images.new plan.now.image).worn ≡ (I.at images.old plan.now.image).worn }
     ensures others { ChangesOnly plan.now.image (I.at images.old) (I.at images.new) }
 {

@@ -1,25 +1,39 @@
 use super::{ALL_WRITTEN, FIRST, Given, Patch, Row, UNCHANGED};
 use medium::Planned;
 
+const FIRST_REPORT: &str = "disk 1 a.img size 512 blocks 2\n\
+    0 accept 1 0+1024@1/0 write bytes 510 4 aabbccdd\n\
+    1 fetch 0 0\n\
+    2 store 0 0\n\
+    3 fetch 0 1\n\
+    4 store 0 1\n\
+    5 collect 1 0\n\
+    6 accept 1 0+1024@1/0 read bytes 508 8\n\
+    7 get 1 0 1\n\
+    8 get 1 1 1\n\
+    9 collect 1 1\n\
+    token 0 EFI_SUCCESS\n\
+    token 1 EFI_SUCCESS 0000aabbccdd0000\n\
+    medium 1 a.img kept 1024\n";
+
 /// Scripts that are run. A command fails in the last row alone.
-pub const ROWS: [Row; 8] = [
+pub const ROWS: [Row; 9] = [
     Row {
         given: FIRST,
         status: 0,
-        written: "disk 1 a.img size 512 blocks 2\n\
-            0 accept 1 0+1024@1/0 write bytes 510 4 aabbccdd\n\
-            1 fetch 0 0\n\
-            2 store 0 0\n\
-            3 fetch 0 1\n\
-            4 store 0 1\n\
-            5 collect 1 0\n\
-            6 accept 1 0+1024@1/0 read bytes 508 8\n\
-            7 get 1 0 1\n\
-            8 get 1 1 1\n\
-            9 collect 1 1\n\
-            token 0 EFI_SUCCESS\n\
-            token 1 EFI_SUCCESS 0000aabbccdd0000\n\
-            medium 1 a.img kept 1024\n",
+        written: FIRST_REPORT,
+        left: ALL_WRITTEN,
+    },
+    // The line of the write lies in two pieces of 4,096 bytes.
+    Row {
+        given: Given {
+            script: "#*\ndisk a.img 512 1\nclient\nwrite 510 aabbccdd\nwait\nread 508 8\n",
+            star: "x",
+            times: 4060,
+            ..FIRST
+        },
+        status: 0,
+        written: FIRST_REPORT,
         left: ALL_WRITTEN,
     },
     Row {

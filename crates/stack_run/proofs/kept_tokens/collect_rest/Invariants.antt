@@ -1,4 +1,4 @@
-use Rattle.std.proofs.Common.{◌≡◌, ◌-◌, length}
+use Rattle.std.proofs.Common.{◌-◌, length}
 use Rattle.disk_core.specs.Turns.{KeepsGates}
 use Rattle.stack_run.specs.Keeping.{CollectsFirst}
 use Rattle.stack_run.proofs.kept_tokens.collect_rest.Given as goal

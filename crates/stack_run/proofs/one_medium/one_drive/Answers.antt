@@ -1,4 +1,4 @@
-use Rattle.std.proofs.Common.{◌≡◌, List, [], ◌∷◌, ◌++◌, ◌∙◌, ap, refl}
+use Rattle.std.proofs.Common.{◌≡◌, [], ◌∷◌, ◌++◌, ◌∙◌, ap, refl}
 use Rattle.stack_run.proofs.Alone.{all-one, one-setup}
 use Rattle.stack_run.proofs.one_medium.one_drive.Goals as goal
 

@@ -1,4 +1,3 @@
-use Rattle.std.proofs.Common.{◌≡◌}
 use Rattle.history.specs.Room.{owed_entries}
 use Rattle.disk_core.specs.Turns.{KeepsGates}
 use Rattle.stack_run.specs.Keeping.{Waits}

@@ -1,4 +1,4 @@
-use Rattle.std.proofs.Common.{◌≡◌, [], drop}
+use Rattle.std.proofs.Common.{[], drop}
 use Rattle.disk_core.specs.Turns.{KeepsGates}
 use Rattle.stack_run.specs.Leading.{Leads}
 use Rattle.stack_run.specs.Keeping.{Keeps}

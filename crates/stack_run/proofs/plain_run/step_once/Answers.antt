@@ -1,4 +1,4 @@
-use Rattle.disk_core.specs.declared.answers.Stored.TheVariants.{Did, Stale, Foreign, Strange}
+use Rattle.disk_core.specs.declared.answers.Stored.TheVariants.{Stale, Foreign, Strange}
 use Rattle.stack_run.proofs.Stepping.{did, stored-at-once, answered, never-idle, drained}
 use Rattle.stack_run.proofs.plain_run.step_once.Goals as goal
 

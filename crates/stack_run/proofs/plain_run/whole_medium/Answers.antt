@@ -1,5 +1,4 @@
-use Rattle.std.proofs.Common.{◌≡◌, ◌∙◌, refl, arith}
-use Rattle.drive.specs.Drives.{medium_with}
+use Rattle.std.proofs.Common.{◌∙◌, refl, arith}
 use Rattle.stack_run.proofs.Alone.{first-medium, some-first}
 use Rattle.stack_run.proofs.Running.{first-id, whole-is}
 use Rattle.stack_run.proofs.plain_run.whole_medium.Goals as goal

@@ -1,5 +1,5 @@
 use Rattle.std.proofs.Common.{inr}
-use Rattle.stack_run.proofs.Read.{not-refused, lacks-image, not-lacking, three-or-six}
+use Rattle.stack_run.proofs.Read.{not-refused, lacks-image, three-or-six}
 use Rattle.stack_run.proofs.program.run_plain.Goals as goal
 
 pub returns-in-Ok-clause-done : goal.returns-in-Ok-clause-done

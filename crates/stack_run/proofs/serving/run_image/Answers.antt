@@ -1,4 +1,4 @@
-use Rattle.std.proofs.Common.{arith, inr}
+use Rattle.std.proofs.Common.{arith, inr, ◌∙◌}
 use Rattle.medium.specs.Counts.{Rose}
 use Rattle.stack_run.proofs.Handed.{ran-disk, not-put-back, ran-in-part, same-fault}
 use Rattle.stack_run.proofs.serving.run_image.Goals as goal
@@ -9,6 +9,7 @@ returns-in-Ok-put-clause-ran g c =
     (g.I.Images.at c.args.images.now c.args.plan.now.image) (g.I.Images.at c.take_image.new.images c.args.plan.now.image) (g.I.Images.at c.put_image-put.new.images c.args.plan.now.image)
     (g.I.M.Medium.device c.in-Ok.medium) (g.I.M.Medium.device c.run_medium-medium.result.0) c.in-Some.run' c.in-Ok.ensures.taken c.in-Ok.ensures.worn
     (rw (c.in-Some.is, c.as_slice.ensures) at c.run_medium-medium.ensures.over) c.in-Ok-put.ensures.place c.in-Ok-put.ensures.worn
+    (c.in-Ok-put.ensures.cause.quiet ∙ c.in-Ok.ensures.quiet)
 
 pub returns-in-Err-put-clause-image : goal.returns-in-Err-put-clause-image
 returns-in-Err-put-clause-image g c is =
