@@ -1,5 +1,5 @@
 -- Lists with a last item changed, and sums over them.
-use Rattle.std.proofs.Common.{◌≡◌, ℕ, ◌+◌, ◌-◌, ◌<◌, Bool, true, false, List, [], ◌∷◌, length, set, get_or, sum_by, slice_get, not, ◌==◌, Some, None, refl, ap, sym, ◌∙◌, arith, rules}
+use Rattle.std.proofs.Common.{◌≡◌, ℕ, suc, ◌+◌, ◌-◌, ◌<◌, ◌&&◌, Bool, true, false, List, [], ◌∷◌, length, set, get_or, sum_by, slice_get, not, ◌==◌, Some, None, refl, ap, sym, ◌∙◌, arith, rules}
 use Rattle.std.proofs.lemmas.Bool.Decides.{nat_tests}
 use Rattle.std.proofs.lemmas.List.Sums.{sum_by-cons, sum_by_push}
 use Rattle.std.proofs.lemmas.Option.{get_or_from_slice_get, slice_get-get_or}
@@ -66,3 +66,16 @@ some_last (x ∷ y ∷ more) has = some_last (y ∷ more) refl
 pub some_length : {X : Type 0} (xs : List X) → has_some xs ≡ true → 0 < length xs
 some_length [] has = absurd (cc)
 some_length (x ∷ xs) has = omega arith
+
+-- two tests that the last item passes
+pub last_both : {X : Type 0} (one two : X → Bool) (xs : List X) → last_is one xs ≡ true → last_is two xs ≡ true → last_is (λ x. one x && two x) xs ≡ true
+unfolding last_is
+last_both one two [] first second = absurd (cc)
+last_both one two (x ∷ []) first second = rw (first, second) refl
+last_both one two (x ∷ y ∷ more) first second = last_both one two (y ∷ more) first second
+
+pub length_on_last : {X : Type 0} (f : X → X) (xs : List X) → length (on_last f xs) ≡ length xs
+unfolding on_last
+length_on_last f [] = refl
+length_on_last f (x ∷ []) = refl
+length_on_last f (x ∷ y ∷ more) = ap (λ n. suc n) (length_on_last f (y ∷ more))

@@ -8,6 +8,7 @@ pub mod LastLemmas
 pub mod Numbers
 pub mod TokenEnds
 pub mod Tokens
+pub mod TaggedReads
 pub mod Causes
 pub mod PlannedSums
 pub mod Pieces
@@ -17,5 +18,7 @@ pub mod Chains
 pub mod NamesOf
 pub mod LineFits
 pub mod PlansFit
+pub mod Together
 pub mod ReportBack
 pub mod Padded
+pub mod HexPieces

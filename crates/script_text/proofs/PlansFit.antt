@@ -12,7 +12,7 @@ use Rattle.script_text.specs.declared.language.line.Line.{Line}
 use Rattle.script_text.specs.declared.language.line.Line.TheVariants.{Disk, Spare, Client, Asks}
 use Rattle.script_text.specs.declared.language.plans.DiskPlan.{DiskPlan}
 use Rattle.script_text.specs.declared.language.plans.ClientPlan.{ClientPlan}
-use Rattle.script_text.specs.Limits.{most_request_bytes, most_name_bytes, most_disks, most_workers, most_script_bytes}
+use Rattle.script_text.specs.Limits.{most_request_bytes, most_name_bytes, most_disks, most_media, most_clients, most_workers, most_script_bytes}
 use Rattle.script_text.specs.Words.{lines_of}
 use Rattle.script_text.specs.Wording.{line_of_bytes}
 use Rattle.script_text.specs.Last.{on_last, last_is, has_some}
@@ -20,7 +20,7 @@ use Rattle.script_text.specs.Planned.{new_disk, new_client, add_spare, add_clien
 use Rattle.script_text.specs.Replies.{◌>>=◌}
 use Rattle.script_text.specs.Whole.{planned_if, line_says, at_line, lines_say, script_of}
 use Rattle.script_text.specs.Fitting.{IsName, AreNames, IsMedium, IsOrder, AreOrders, AreClients, IsDisk, AreDisks}
-use Rattle.script_text.proofs.LastLemmas.{some_last}
+use Rattle.script_text.proofs.LastLemmas.{some_last, last_both, length_on_last}
 use Rattle.script_text.proofs.Chains.{then_ok, else_ok, next_ok, ok_same, both_true, none_true, was_true}
 use Rattle.script_text.proofs.LineFits.{IsAimed, medium_of, IsPrintable, IsLine, line_fits}
 
@@ -95,13 +95,22 @@ disk_fits plans next image size workers flags all printable is =
       workers = workers_are workers some few;
       group = group;
       spares = tt;
+      media = omega arith;
       clients = tt;
+      count = omega arith;
     }))
 
 no_clients : (media : ℕ) (clients : List ClientPlan) → not (has_some clients) ≡ true → AreClients media clients
 unfolding AreClients
 no_clients media [] none = tt
 no_clients media (client ∷ more) none = absurd (cc)
+
+-- one more, where there was room for it
+pub one_more : {X : Type 0} (xs : List X) (x : X) (most : ℕ) → nat_lt (length xs) most ≡ true → length (xs ++ x ∷ []) ≤ most
+one_more xs x most room = let count = length-append xs (x ∷ []) in grind (arith, nat_tests, count)
+
+pushed_within : (spares : List (List ℕ)) (image : List ℕ) (most : ℕ) → nat_lt (length spares + 1) most ≡ true → length (spares ++ image ∷ []) + 1 ≤ most
+pushed_within spares image most room = let count = length-append spares (image ∷ []) in grind (arith, nat_tests, count)
 
 spare_fits : (plans next : List DiskPlan) (image : List ℕ) → AreDisks plans → IsPrintable image → planned_spare plans image ≡ Ok next → AreDisks next
 unfolding planned_spare
@@ -111,16 +120,19 @@ spare_fits plans next image all printable is =
     let (room, added) = then_ok (has_medium_room plans) _ Limit next rest in
     let (some, none) = none_true (not (has_some plans)) (has_client plans) placed in
     let clear = last_not (λ disk. has_some disk.clients) plans (was_true (has_some plans) some) none in
+    let both = last_both (λ disk. not (has_some disk.clients)) (λ disk. nat_lt (length disk.spares + 1) most_media) plans clear room in
     let name = name_is image plans printable (was_true (is_new_name image plans) named) in
     rw (← ok_same (on_last (add_spare image) plans) next added)
-    (disks_on_last (add_spare image) (λ disk. not (has_some disk.clients)) (λ disk clear d. record {
+    (disks_on_last (add_spare image) (λ disk. not (has_some disk.clients) && nat_lt (length disk.spares + 1) most_media) (λ disk is d. record {
       name = d.name;
       size = d.size;
       workers = d.workers;
       group = d.group;
       spares = names_pushed disk.spares image d.spares name;
-      clients = no_clients (length (disk.spares ++ image ∷ []) + 1) disk.clients clear;
-    }) plans clear all)
+      media = pushed_within disk.spares image most_media (both_true _ _ is).1;
+      clients = no_clients (length (disk.spares ++ image ∷ []) + 1) disk.clients (both_true _ _ is).0;
+      count = d.count;
+    }) plans both all)
 
 client_fits : (plans next : List DiskPlan) (number : ℕ) (part : Option ℕ) → AreDisks plans → planned_client number plans part ≡ Ok next → AreDisks next
 unfolding planned_client
@@ -128,14 +140,16 @@ client_fits plans next number part all is =
     let (some, rest) = else_ok (not (has_some plans)) _ why.Order next is in
     let (room, added) = then_ok (has_client_room plans) _ Limit next rest in
     rw (← ok_same (on_last (add_client (new_client part number)) plans) next added)
-    (disks_on_last (add_client (new_client part number)) (λ disk. true) (λ disk _ d. record {
+    (disks_on_last (add_client (new_client part number)) (λ disk. nat_lt (length disk.clients) most_clients) (λ disk is d. record {
       name = d.name;
       size = d.size;
       workers = d.workers;
       group = d.group;
       spares = d.spares;
+      media = d.media;
       clients = clients_pushed (length disk.spares + 1) disk.clients part number d.clients;
-    }) plans (some_last plans (was_true (has_some plans) some)) all)
+      count = one_more disk.clients (new_client part number) most_clients is;
+    }) plans room all)
 
 -- the disk has the medium of a last word
 aims : Option ℕ → DiskPlan → Bool
@@ -183,6 +197,8 @@ order_fits plans next one mark all fits is =
       workers = d.workers;
       group = d.group;
       spares = d.spares;
+      media = d.media;
+      count = rw (length_on_last (add_order one) disk.clients) d.count;
       clients = clients_on_last (length disk.spares + 1) one (order_is (length disk.spares + 1) (medium_of mark) one (on_medium mark disk there) few fits) disk.clients d.clients;
     }) plans (aimed plans mark (was_true (has_client plans) has) (was_true (is_well_aimed plans mark) well)) all)
 
@@ -207,14 +223,22 @@ at_line_ok : (n : ℕ) (r : Result (List DiskPlan) Reason) (x : List DiskPlan) �
 at_line_ok n (Ok y) x is = ap Ok (ok_same y x is)
 at_line_ok n (Err e) x is = absurd (cc)
 
-lines_fit : (n : ℕ) (plans next : List DiskPlan) (lines : List (List ℕ)) → AreDisks plans → lines_say n plans lines ≡ Ok next → AreDisks next
-unfolding lines_say
-lines_fit n plans next [] all is = rw (← ok_same plans next is) all
-lines_fit n plans next (line ∷ rest) all is =
-    let (more, one, last) = next_ok (at_line n (line_says n plans line)) (λ more. lines_say (n + 1) more rest) next is in
-    lines_fit (n + 1) more next rest (says_fit n plans more line all (at_line_ok n (line_says n plans line) more one)) last
+-- what each line keeps
+abbrev pub LinesKeep : (List DiskPlan → Type 0) → Type 0
+LinesKeep P = (n : ℕ) (plans next : List DiskPlan) (line : List ℕ) → P plans → line_says n plans line ≡ Ok next → P next
 
--- the plans of a script
+lines_kept : (P : List DiskPlan → Type 0) → LinesKeep P → (n : ℕ) (plans next : List DiskPlan) (lines : List (List ℕ)) → P plans → lines_say n plans lines ≡ Ok next → P next
+unfolding lines_say
+lines_kept P keep n plans next [] all is = rw (← ok_same plans next is) all
+lines_kept P keep n plans next (line ∷ rest) all is =
+    let (more, one, last) = next_ok (at_line n (line_says n plans line)) (λ more. lines_say (n + 1) more rest) next is in
+    lines_kept P keep (n + 1) more next rest (keep n plans more line all (at_line_ok n (line_says n plans line) more one)) last
+
+-- what holds of no plans and is kept by each line holds of the plans of a script
+pub script_keeps : (P : List DiskPlan → Type 0) → LinesKeep P → P [] → (bytes : List ℕ) (plans : List DiskPlan) → script_of bytes ≡ Ok plans → P plans
+unfolding script_of
+script_keeps P keep none bytes plans is = lines_kept P keep 1 [] plans (lines_of bytes) none (else_ok (nat_lt most_script_bytes (length bytes)) _ (0, Size) plans is).1
+
 pub plans_fit : (bytes : List ℕ) (plans : List DiskPlan) → script_of bytes ≡ Ok plans → AreDisks plans
-unfolding script_of AreDisks
-plans_fit bytes plans is = lines_fit 1 [] plans (lines_of bytes) tt (else_ok (nat_lt most_script_bytes (length bytes)) _ (0, Size) plans is).1
+unfolding AreDisks
+plans_fit bytes plans is = script_keeps AreDisks says_fit tt bytes plans is

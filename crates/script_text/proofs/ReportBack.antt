@@ -11,7 +11,7 @@ use Rattle.efi_status.specs.declared.Status.{Status}
 use Rattle.script_text.specs.declared.report.parts.KeptMedium.{KeptMedium}
 use Rattle.script_text.specs.Text.{line_of, lines_text}
 use Rattle.script_text.specs.Entries.{line_text, entry_words, entries_text}
-use Rattle.script_text.specs.Report.{head_text, token_text, tokens_text, medium_text, media_text, body_text, report_text}
+use Rattle.script_text.specs.Report.{head_text, token_text, gives_bytes, given_if, tokens_text, medium_text, media_text, body_text, report_text}
 use Rattle.script_text.specs.Law.{IsWord64, IsWell, AreWell, ReportsTellEntries}
 use Rattle.script_text.proofs.Chains.{both_true}
 use Rattle.script_text.proofs.Back.{lacks, is_end, cut_word, decimal_digits, decimal_lacks, lacks_both}
@@ -110,10 +110,10 @@ unfolding lines_text medium_text line_of
 media_tail id [] = refl
 media_tail id (medium ∷ more) = refl
 
-tokens_tail : (mark : ℕ → Option Status) (t : ℕ) (given : List (Option (List ℕ))) (media : List KeptMedium) → starts_with_digit (lines_text (λ u. token_text u (mark u)) t given ++ lines_text medium_text 1 media) ≡ false
+tokens_tail : (mark : ℕ → Option Status) (gives : ℕ → Bool) (t : ℕ) (given : List (Option (List ℕ))) (media : List KeptMedium) → starts_with_digit (lines_text (λ u bytes. token_text u (mark u) (given_if (gives u) bytes)) t given ++ lines_text medium_text 1 media) ≡ false
 unfolding lines_text token_text line_of
-tokens_tail mark t [] media = media_tail 1 media
-tokens_tail mark t (one ∷ more) media = refl
+tokens_tail mark gives t [] media = media_tail 1 media
+tokens_tail mark gives t (one ∷ more) media = refl
 
 true_false : (b : Bool) → b ≡ true → b ≡ false → ⊥
 true_false b is isnt = let same : true ≡ false = sym is ∙ isnt in cc
@@ -162,5 +162,5 @@ reports_tell_entries number blocks image S H H' given given' media media' few n 
     let count : IsWord64 (0 + length (reverse H)) = omega (arith, length-reverse H) in
     let count' : IsWord64 (0 + length (reverse H')) = omega (arith, length-reverse H') in
     let turned : reverse H ≡ reverse H' =
-    same_entries (per_of S) 0 (reverse H) (reverse H') _ _ few count count' (well_reversed H one) (well_reversed H' two) (tokens_tail (mark_of S H) 0 given media) (tokens_tail (mark_of S H') 0 given' media') bodies in
+    same_entries (per_of S) 0 (reverse H) (reverse H') _ _ few count count' (well_reversed H one) (well_reversed H' two) (tokens_tail (mark_of S H) (gives_bytes S H) 0 given media) (tokens_tail (mark_of S H') (gives_bytes S H') 0 given' media') bodies in
     sym (reverse-reverse H) ∙ ap reverse turned ∙ reverse-reverse H'

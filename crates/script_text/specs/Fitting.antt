@@ -1,6 +1,6 @@
 -- What holds of the plans of a script (own profile).
-use Rattle.std.specs.Prelude.{◌≡◌, ℕ, ◌+◌, ◌^◌, ◌<◌, ◌≤◌, Bool, true, List, [], ◌∷◌, length, nat_le, ◌&&◌}
-use Rattle.std.specs.List.{list_all}
+use Rattle.std.specs.Prelude.{◌≡◌, ℕ, ◌+◌, ◌^◌, ◌<◌, ◌≤◌, Bool, true, List, [], ◌∷◌, ◌++◌, length, nat_le, ◌&&◌, bytes_eq}
+use Rattle.std.specs.List.{list_all, IsDistinct}
 use Rattle.history.specs.declared.entry.Asked.{Asked}
 use Rattle.history.specs.declared.entry.Kind.{Kind}
 use Rattle.history.specs.declared.entry.Kind.TheVariants.{Read, Write, Flush, Erase}
@@ -13,8 +13,8 @@ use Rattle.history.specs.declared.order.Payload.TheVariants.{Given, Fill, Nothin
 use Rattle.medium.specs.Device.{is_block_size}
 use Rattle.script_text.specs.declared.language.plans.DiskPlan.{DiskPlan}
 use Rattle.script_text.specs.declared.language.plans.ClientPlan.{ClientPlan}
-use Rattle.script_text.specs.Limits.{most_request_bytes, most_name_bytes, most_workers}
-use Rattle.script_text.specs.Planned.{is_group_size}
+use Rattle.script_text.specs.Limits.{most_request_bytes, most_requested_bytes, most_name_bytes, most_disks, most_media, most_clients, most_workers}
+use Rattle.script_text.specs.Planned.{is_group_size, requested}
 
 -- the bytes of a name: the printable ones without a space
 abbrev pub is_name_byte : ℕ → Bool
@@ -74,8 +74,21 @@ pub record IsDisk (disk : DiskPlan) : Type 0 where
   pub workers : (1 ≤ disk.workers) × (disk.workers ≤ most_workers)
   pub group : is_group_size disk.physical ≡ true
   pub spares : AreNames disk.spares
+  pub media : length disk.spares + 1 ≤ most_media
   pub clients : AreClients (length disk.spares + 1) disk.clients
+  pub count : length disk.clients ≤ most_clients
 
 unfoldable pub AreDisks : List DiskPlan → Type 0
 AreDisks [] = Unit {0}
 AreDisks (disk ∷ more) = IsDisk disk × AreDisks more
+
+-- the images of all media in order
+unfoldable pub images_of : List DiskPlan → List (List ℕ)
+images_of [] = []
+images_of (disk ∷ more) = disk.image ∷ (disk.spares ++ images_of more)
+
+-- all disks together: how many they are, what their lines ask for, and no two media of one image
+pub record FitTogether (disks : List DiskPlan) : Type 0 where
+  pub few : length disks ≤ most_disks
+  pub asked : requested disks ≤ most_requested_bytes
+  pub images : IsDistinct bytes_eq (images_of disks)

@@ -1,9 +1,10 @@
 -- The report of a disk (own profile).
-use Rattle.std.specs.Prelude.{◌≡◌, ℕ, ◌+◌, ◌<◌, Bool, true, false, not, ◌&&◌, ◌==◌, nat_eq, if◌then◌else◌, List, [], ◌∷◌, ◌++◌, length, map, reverse, slice_get, slice_index, codes, decimal, Option, Some, None, is_some, IfSome}
+use Rattle.std.specs.Prelude.{◌≡◌, ℕ, ◌+◌, ◌<◌, Bool, true, false, not, ◌&&◌, ◌==◌, nat_eq, if◌then◌else◌, List, [], ◌∷◌, ◌++◌, length, map, reverse, slice_get, slice_index, codes, decimal, Option, Some, None, is_some, unwrap_or, filter_map, IfSome}
 use Rattle.efi_status.specs.declared.Status.{Status}
 use Rattle.efi_status.specs.declared.Status.TheVariants.{Success}
 use Rattle.efi_status.specs.StatusTable.{name_of}
 use Rattle.history.specs.declared.entry.Entry.{Entry}
+use Rattle.history.specs.declared.entry.Entry.TheVariants.{Accept}
 use Rattle.history.specs.Setup.{Setup, size_of, per_of}
 use Rattle.history.specs.Tokens.{Request, accepted, request, is_read, from_of}
 use Rattle.history.specs.Marks.{mark_of}
@@ -35,9 +36,26 @@ given_words (Some bytes) = hex_text bytes ∷ []
 unfoldable pub token_text : ℕ → Option Status → Option (List ℕ) → List ℕ
 token_text token mark given = line_of (codes "token" ∷ decimal token ∷ mark_words mark (given_words given))
 
--- the lines of the tokens in order, with what each gave back
+abbrev pub is_success : Option Status → Bool
+is_success (Some Success) = true
+is_success mark = false
+
+abbrev pub is_tagged_read : Option Request → Bool
+is_tagged_read None = false
+is_tagged_read (Some r) = is_read r.asked.kind && not (nat_eq r.tag 0)
+
+-- the token gives its bytes back in the report: a successful read whose tag is not 0
+unfoldable pub gives_bytes : Setup → List Entry → ℕ → Bool
+gives_bytes S H t = is_tagged_read (request H t) && is_success (mark_of S H t)
+
+-- what a token gives back in the report, where it gives its bytes
+abbrev pub given_if : Bool → Option (List ℕ) → Option (List ℕ)
+given_if true given = given
+given_if false given = None
+
+-- the lines of the tokens in order, with the bytes of those that give them
 abbrev pub tokens_text : Setup → List Entry → List (Option (List ℕ)) → List ℕ
-tokens_text S H given = lines_text (λ t. token_text t (mark_of S H t)) 0 given
+tokens_text S H given = lines_text (λ t bytes. token_text t (mark_of S H t) (given_if (gives_bytes S H t) bytes)) 0 given
 
 -- a medium that was kept: its id, its name, and its bytes in whole blocks
 unfoldable pub medium_text : ℕ → KeptMedium → List ℕ
@@ -51,13 +69,30 @@ media_text media = lines_text medium_text 1 media
 unfoldable pub body_text : Setup → List Entry → List (Option (List ℕ)) → List KeptMedium → List ℕ
 body_text S H given media = entries_text (per_of S) (reverse H) ++ (tokens_text S H given ++ media_text media)
 
+-- whether a request that was accepted is a read whose tag is not 0
+abbrev pub tagged_read : Entry → Option Bool
+tagged_read (Accept tag view asked bytes) = Some (is_read asked.kind && not (nat_eq tag 0))
+tagged_read e = None
+
+-- the same of each token in order, from entries of which the oldest stands first
+unfoldable pub tagged_reads : List Entry → List Bool
+tagged_reads entries = filter_map tagged_read entries
+
+-- the same of one token; what is no token is none
+abbrev pub is_tagged : List Bool → ℕ → Bool
+is_tagged tagged t = unwrap_or (slice_get tagged t) false
+
+-- the line of a token that ended so, with the bytes of a tagged read that succeeded
+abbrev pub end_text : ℕ → Bool → TokenLine → List ℕ
+end_text t tagged end = token_text t (Some end.status) (given_if (tagged && is_success (Some end.status)) end.given)
+
 -- the lines of tokens that ended so
-abbrev pub ends_text : List TokenLine → List ℕ
-ends_text ends = lines_text (λ t end. token_text t (Some end.status) end.given) 0 ends
+abbrev pub ends_text : List Bool → List TokenLine → List ℕ
+ends_text tagged ends = lines_text (λ t end. end_text t (is_tagged tagged t) end) 0 ends
 
 -- the lines behind the first, with groups of so many blocks
 unfoldable pub ended_text : ℕ → List Entry → List TokenLine → List KeptMedium → List ℕ
-ended_text per H ends media = entries_text per (reverse H) ++ (ends_text ends ++ media_text media)
+ended_text per H ends media = entries_text per (reverse H) ++ (ends_text (tagged_reads (reverse H)) ends ++ media_text media)
 
 -- the report of a disk
 unfoldable pub report_text : ℕ → List ℕ → Setup → ℕ → List Entry → List (Option (List ℕ)) → List KeptMedium → List ℕ
@@ -71,18 +106,6 @@ givens_of tokens = map (λ line. line.given) tokens
 pub record AreEnds (S : Setup) (H : List Entry) (tokens : List TokenLine) : Type 0 where
   pub count : length tokens ≡ accepted H
   pub each : (t : ℕ) → IfSome (slice_get tokens t) (λ line. mark_of S H t ≡ Some line.status)
-
-abbrev pub is_success : Option Status → Bool
-is_success (Some Success) = true
-is_success mark = false
-
-abbrev pub is_tagged_read : Option Request → Bool
-is_tagged_read None = false
-is_tagged_read (Some r) = is_read r.asked.kind && not (nat_eq r.tag 0)
-
--- the token gives its bytes back in the report: a successful read whose tag is not 0
-unfoldable pub gives_bytes : Setup → List Entry → ℕ → Bool
-gives_bytes S H t = is_tagged_read (request H t) && is_success (mark_of S H t)
 
 -- these are the bytes that the token read, as far as its medium tells them
 pub record AreBytesRead (S : Setup) (H : List Entry) (t : ℕ) (r : Request) (bytes : List ℕ) : Type 0 where

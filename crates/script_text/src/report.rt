@@ -1,6 +1,7 @@
 //! The text of a report.
 
 pub mod entries;
+pub mod hexadecimal;
 pub mod law;
 pub mod parts;
 pub mod pieces;

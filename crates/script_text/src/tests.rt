@@ -1,3 +1,4 @@
+mod lines;
 mod reports;
 mod scripts;
 mod tables;

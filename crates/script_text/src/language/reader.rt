@@ -59,7 +59,7 @@ pub struct ScriptReader {
 
 impl ScriptReader {
     ghost use Rattle.std.specs.Prelude.{ℕ, List, [], ◌++◌, IfOk, OnOk, OnErr, Err, alloc_error};
-    ghost use Rattle.script_text.specs.Fitting.{AreDisks};
+    ghost use Rattle.script_text.specs.Fitting.{AreDisks, FitTogether};
     ghost use Rattle.script_text.specs.declared.language.refusal.ScriptRefused.TheVariants.{Memory};
     ghost use Rattle.script_text.specs.Replies.{Tells};
     ghost use Rattle.script_text.specs.Whole.{script_of};
@@ -84,7 +84,8 @@ impl ScriptReader {
     /// Reads one more piece. The error is want of memory, and then every later call answers it too.
     #[tactic(auto, unfolding(crate::specs::Fed::WasFed, crate::specs::Fed::IsSpent))]
     pub fn feed(&mut self, piece: &[u8]) -> Result<(), AllocError>
-        ensures fed { OnOk result ((bytes : List ℕ) → WasFed self.old bytes → WasFed self.new (bytes ++ piece.now)) }
+        ensures fed { OnOk result ((bytes : List ℕ) → WasFed self.old bytes
+            → WasFed self.new (bytes ++ piece.now)) }
         ensures spent { OnErr result (IsSpent self.new) }
         ensures again { IsSpent self.old → result ≡ Err alloc_error }
     {
@@ -99,10 +100,13 @@ impl ScriptReader {
     }
 
     /// What all pieces joined say as a script; or want of memory, in this call or in an earlier one.
-    #[tactic(auto, using(crate::proofs::PlansFit::plans_fit), unfolding(crate::specs::Fed::WasFed, crate::specs::Fed::IsSpent))]
+    #[tactic(auto, using(crate::proofs::PlansFit::plans_fit, crate::proofs::Together::plans_fit_together), unfolding(crate::specs::Fed::WasFed, crate::specs::Fed::IsSpent))]
     pub fn finish(self) -> Result<Script, ScriptRefused>
         ensures tells { (bytes : List ℕ) → WasFed self bytes → Tells result (script_of bytes) }
-        ensures fit { (bytes : List ℕ) → WasFed self bytes → IfOk result (λ script. AreDisks script.disks) }
+        ensures fit { (bytes : List ℕ) → WasFed self bytes
+            → IfOk result (λ script. AreDisks script.disks) }
+        ensures together { (bytes : List ℕ) → WasFed self bytes
+            → IfOk result (λ script. FitTogether script.disks) }
         ensures again { IsSpent self → result ≡ Err Memory }
     {
         let ScriptReader { state, alloc } = self;

@@ -5,17 +5,17 @@ use std::alloc::AllocError;
 pub enum Reason {
     /// A byte is not allowed, the first word is unknown, the number of words is wrong, or a fixed word has no place there.
     Form,
-    /// A word that must be a number of 64 bits is none.
+    /// A word that must be a number is none, or its value is too large.
     Number,
     /// A word that must be bytes is no even number of hexadecimal digits, nor `-`.
     Hex,
-    /// A client before any disk, or a request before any client. At line 0: the script has no disk, or its disk no client.
+    /// A spare or a client before any disk, a spare behind a client of its disk, or another line before a client of its disk.
     Order,
     /// An image's name is too long, or stands earlier in the script.
     Name,
-    /// A medium that the disk does not have.
+    /// A last word `@K` that names no medium of the disk, or stands in a line of a client on a part.
     Medium,
-    /// A size, a number of workers, disks or clients, or an amount of bytes is outside its limits.
+    /// A size, a number of workers, disks, media or clients, the blocks of a group, or an amount of bytes is outside its limits.
     Limit,
     /// The script is too long, at line 0.
     Size,

@@ -1,6 +1,6 @@
 ghost use Rattle.std.specs.Prelude.{◌≡◌, ℕ, List, IfOk, map};
 ghost use Rattle.std.specs.List.{concat};
-ghost use Rattle.script_text.specs.Fitting.{AreDisks};
+ghost use Rattle.script_text.specs.Fitting.{AreDisks, FitTogether};
 ghost use Rattle.script_text.specs.Replies.{Tells};
 ghost use Rattle.script_text.specs.Whole.{script_of};
 
@@ -11,10 +11,11 @@ use std::alloc::Global;
 
 /// Reads a script that is there as one piece (own profile). It answers the plans that the bytes say, or the first faulty
 /// line with the first reason that holds, or want of memory.
-#[tactic(auto, using(crate::proofs::PlansFit::plans_fit))]
+#[tactic(auto, using(crate::proofs::PlansFit::plans_fit, crate::proofs::Together::plans_fit_together))]
 pub fn read_script(alloc: Global, bytes: &[u8]) -> Result<Script, ScriptRefused>
     ensures tells { Tells result (script_of bytes.now) }
     ensures fit { IfOk result (λ script. AreDisks script.disks) }
+    ensures together { IfOk result (λ script. FitTogether script.disks) }
 {
     let mut reader = ScriptReader::make(alloc);
     match reader.feed(bytes) {

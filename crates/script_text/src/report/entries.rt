@@ -1,10 +1,11 @@
 #![tactic(auto, unfolding(crate::specs::Text::line_of, crate::specs::Text::hex_text, crate::specs::Text::view_text, crate::specs::Text::asked_text, crate::specs::Text::kind_text, crate::specs::Text::unit_text, crate::specs::Entries::line_text, crate::specs::Entries::entry_words))]
 
 ghost use Rattle.std.specs.Prelude.{◌≡◌, ◌∷◌, [], decimal, string_bytes, Some, IfOk};
-ghost use Rattle.script_text.specs.Text.{hex_text, kind_text, unit_text};
+ghost use Rattle.script_text.specs.Text.{kind_text, unit_text};
 ghost use Rattle.script_text.specs.Entries.{line_text};
 ghost use Rattle.history.specs.declared.entry.Entry.TheVariants.{Accept, Refuse, Done, Fault, Protect};
 
+use crate::report::hexadecimal::push_hex;
 use efi_status::Status;
 use history::{Asked, Command, Entry, Kind, UnitKind, View};
 use std::alloc::{AllocError, Global};
@@ -73,16 +74,6 @@ fn unit_word(unit: UnitKind) -> &'static str
     }
 }
 
-/// Bytes in lower-case hexadecimal digits, and `-` for none. The error is want of memory.
-pub fn hex_text(alloc: Global, bytes: &[u8]) -> Result<String, AllocError>
-    ensures { IfOk result (λ text. string_bytes text ≡ hex_text bytes.now) }
-{
-    if bytes.is_empty() {
-        return String::from_str(alloc, "-");
-    }
-    hex::encode(alloc, bytes)
-}
-
 /// The line of an entry. The error is want of memory.
 pub fn entry_line(alloc: Global, per: u32, place: u64, entry: &Entry) -> Result<String, AllocError>
     ensures { IfOk result (λ text. string_bytes text ≡ line_text per place entry.now) }
@@ -144,7 +135,8 @@ fn accept_line(
     asked: Asked,
     bytes: &[u8],
 ) -> Result<String, AllocError>
-    ensures { IfOk result (λ text. string_bytes text ≡ line_text per place (Accept tag view asked bytes.now)) }
+    ensures { IfOk result (λ text.
+        string_bytes text ≡ line_text per place (Accept tag view asked bytes.now)) }
 {
     let view = ViewText { view };
     let kind = asked.kind;
@@ -152,8 +144,10 @@ fn accept_line(
     match kind {
         Kind::Read | Kind::Erase => format!(in alloc; "{place} accept {tag} {view} {asked}\n"),
         Kind::Write => {
-            let bytes = hex_text(alloc, bytes)?;
-            format!(in alloc; "{place} accept {tag} {view} {asked} {bytes}\n")
+            let mut line = format!(in alloc; "{place} accept {tag} {view} {asked} ")?;
+            push_hex(alloc, &mut line, bytes)?;
+            line.push_str("\n")?;
+            Ok(line)
         }
         Kind::Flush => format!(in alloc; "{place} accept {tag} {view} flush\n"),
     }
@@ -169,7 +163,8 @@ fn refuse_line(
     media_id: u32,
     status: Status,
 ) -> Result<String, AllocError>
-    ensures { IfOk result (λ text. string_bytes text ≡ line_text per place (Refuse tag view asked media_id status)) }
+    ensures { IfOk result (λ text.
+        string_bytes text ≡ line_text per place (Refuse tag view asked media_id status)) }
 {
     let view = ViewText { view };
     let asked = AskedText { asked };
@@ -206,7 +201,8 @@ fn fault_line(
     command: Command,
     done: u32,
 ) -> Result<String, AllocError>
-    ensures { IfOk result (λ text. string_bytes text ≡ line_text per place (Fault token command done)) }
+    ensures { IfOk result (λ text.
+        string_bytes text ≡ line_text per place (Fault token command done)) }
 {
     match command {
         Command::Fetch { block } => {

@@ -21,10 +21,11 @@ pub fn put<O: Sink>(out: &mut O, text: &str) -> Result<(), ReportFault>
     }
 }
 
-/// AddsText a line to what is held back, and puts that where it is a piece.
+/// Adds a line to what is held back, and puts that where it is a piece.
 #[tactic(auto, using(crate::proofs::HeldText::none_put, crate::proofs::HeldText::still_held, crate::proofs::HeldText::all_put), unfolding(crate::specs::Held::AddsText))]
 pub fn add<O: Sink>(held: &mut String, out: &mut O, line: &str) -> Result<(), ReportFault>
-    ensures text { AddsText (O.wrote out.old) (string_bytes held.old) result (O.wrote out.new) (string_bytes held.new) line.now }
+    ensures text { AddsText (O.wrote out.old) (string_bytes held.old) result
+        (O.wrote out.new) (string_bytes held.new) line.now }
     ensures cause { HasCauseOf ReportFault.Failed (O.faults out.old) (O.faults out.new) result }
 {
     match held.push_str(line) {
@@ -43,7 +44,7 @@ pub fn add<O: Sink>(held: &mut String, out: &mut O, line: &str) -> Result<(), Re
     }
 }
 
-/// AddsText a line that was made, or hands its want of memory on.
+/// Adds a line that was made, or hands its want of memory on.
 #[tactic(auto, using(crate::proofs::HeldText::none_put), unfolding(crate::specs::Held::AddsText))]
 pub fn add_made<O: Sink>(
     held: &mut String,
@@ -51,7 +52,8 @@ pub fn add_made<O: Sink>(
     made: Result<String, AllocError>,
 ) -> Result<(), ReportFault>
     ensures text { (line : List ℕ) → IfOk made (λ text. string_bytes text ≡ line)
-        → AddsText (O.wrote out.old) (string_bytes held.old) result (O.wrote out.new) (string_bytes held.new) line }
+        → AddsText (O.wrote out.old) (string_bytes held.old) result
+        (O.wrote out.new) (string_bytes held.new) line }
     ensures cause { HasCauseOf ReportFault.Failed (O.faults out.old) (O.faults out.new) result }
 {
     match made {

@@ -24,7 +24,8 @@ pub fn report_head<O: Sink>(
     blocks: u64,
     out: &mut O,
 ) -> Result<(), ReportFault>
-    ensures text { PutsText (O.wrote out.old) (O.wrote out.new) result (head_text number plan.now.image plan.now.size blocks plan.now.physical) }
+    ensures text { PutsText (O.wrote out.old) (O.wrote out.new) result
+        (head_text number plan.now.image plan.now.size blocks plan.now.physical) }
     ensures cause { HasCauseOf ReportFault.Failed (O.faults out.old) (O.faults out.new) result }
 {
     match tokens::head_line(
@@ -52,12 +53,14 @@ pub fn report_body<O: Sink>(
     out: &mut O,
 ) -> Result<(), ReportFault>
     ensures text { (S : Setup) → per_of S ≡ per → AreEnds S history.now.entries ends.now
-        → PutsText (O.wrote out.old) (O.wrote out.new) result (body_text S history.now.entries (givens_of ends.now) media.now) }
+        → PutsText (O.wrote out.old) (O.wrote out.new) result
+        (body_text S history.now.entries (givens_of ends.now) media.now) }
     ensures cause { HasCauseOf ReportFault.Failed (O.faults out.old) (O.faults out.new) result }
 {
     put_body(alloc, per, history, ends, media, out)
 }
 
+#[tactic(auto, using(crate::proofs::HeldText::none_put))]
 fn put_body<O: Sink>(
     alloc: Global,
     per: u32,
@@ -66,15 +69,21 @@ fn put_body<O: Sink>(
     media: &[KeptMedium],
     out: &mut O,
 ) -> Result<(), ReportFault>
-    ensures text { PutsText (O.wrote out.old) (O.wrote out.new) result (ended_text per history.now.entries ends.now media.now) }
+    ensures text { PutsText (O.wrote out.old) (O.wrote out.new) result
+        (ended_text per history.now.entries ends.now media.now) }
     ensures cause { HasCauseOf ReportFault.Failed (O.faults out.old) (O.faults out.new) result }
 {
+    let entries = history.entries();
+    let tagged = match tokens::tagged_reads(alloc, entries) {
+        Ok(tagged) => tagged,
+        Err(_) => return Err(ReportFault::Memory),
+    };
     let mut held = String::new(alloc);
-    match add_entries(alloc, per, history.entries(), &mut held, out) {
+    match add_entries(alloc, per, entries, &mut held, out) {
         Ok(()) => {}
         Err(fault) => return Err(fault),
     }
-    match add_tokens(alloc, ends, &mut held, out) {
+    match add_tokens(alloc, &tagged, ends, &mut held, out) {
         Ok(()) => {}
         Err(fault) => return Err(fault),
     }
@@ -91,7 +100,8 @@ pub fn add_entries<O: Sink>(
     held: &mut String,
     out: &mut O,
 ) -> Result<(), ReportFault>
-    ensures text { AddsText (O.wrote out.old) (string_bytes held.old) result (O.wrote out.new) (string_bytes held.new) (entries_text per entries.now) }
+    ensures text { AddsText (O.wrote out.old) (string_bytes held.old) result
+        (O.wrote out.new) (string_bytes held.new) (entries_text per entries.now) }
     ensures cause { HasCauseOf ReportFault.Failed (O.faults out.old) (O.faults out.new) result }
 {
     for (place, entry) in entries.iter().enumerate() {
@@ -105,15 +115,22 @@ pub fn add_entries<O: Sink>(
 
 fn add_tokens<O: Sink>(
     alloc: Global,
+    tagged: &[bool],
     ends: &[TokenLine],
     held: &mut String,
     out: &mut O,
 ) -> Result<(), ReportFault>
-    ensures text { AddsText (O.wrote out.old) (string_bytes held.old) result (O.wrote out.new) (string_bytes held.new) (ends_text ends.now) }
+    ensures text { AddsText (O.wrote out.old) (string_bytes held.old) result
+        (O.wrote out.new) (string_bytes held.new) (ends_text tagged.now ends.now) }
     ensures cause { HasCauseOf ReportFault.Failed (O.faults out.old) (O.faults out.new) result }
 {
     for (token, end) in ends.iter().enumerate() {
-        match pieces::add_made(held, out, tokens::token_line(alloc, token as u64, end)) {
+        let tagged = tokens::is_tagged(tagged, token);
+        match pieces::add_made(
+            held,
+            out,
+            tokens::token_line(alloc, token as u64, tagged, end),
+        ) {
             Ok(()) => {}
             Err(fault) => return Err(fault),
         }
@@ -127,7 +144,8 @@ fn add_media<O: Sink>(
     held: &mut String,
     out: &mut O,
 ) -> Result<(), ReportFault>
-    ensures text { AddsText (O.wrote out.old) (string_bytes held.old) result (O.wrote out.new) (string_bytes held.new) (media_text media.now) }
+    ensures text { AddsText (O.wrote out.old) (string_bytes held.old) result
+        (O.wrote out.new) (string_bytes held.new) (media_text media.now) }
     ensures cause { HasCauseOf ReportFault.Failed (O.faults out.old) (O.faults out.new) result }
 {
     for (place, medium) in media.iter().enumerate() {

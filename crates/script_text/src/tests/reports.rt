@@ -106,7 +106,12 @@ struct Sample {
 
 // Entries and tokens of every kind.
 fn make_sample(alloc: Global) -> Result<Sample, AllocError>
-    ensures { IfOk result (λ sample. AreEnds (record { geometry = record { size = 512; per = 1 }; cached = false; protected = false; media = [] }) sample.history.entries sample.ends.items) }
+    ensures { IfOk result (λ sample. AreEnds (record {
+      geometry = record { size = 512; per = 1 };
+      cached = false;
+      protected = false;
+      media = [];
+    }) sample.history.entries sample.ends.items) }
 {
     let written = Bytes::copy_of(alloc, &[0xAA, 0xBB, 0x0C, 0xDD])?;
     let failed = Bytes::copy_of(alloc, &[0x5E])?;
@@ -251,6 +256,12 @@ fn make_sample(alloc: Global) -> Result<Sample, AllocError>
             media_id: 3,
             status: Status::WriteProtected
         },
+        Entry::Accept {
+            tag: 0,
+            view: WHOLE,
+            asked: NOTHING_READ,
+            bytes: Bytes::from_vec(Vec::new(alloc))
+        },
     ]?;
     let given = Bytes::copy_of(alloc, &[0, 0, 0xAA, 0xBB, 0x0C, 0xDD, 0, 0])?;
     let ends = vec![in alloc;
@@ -285,6 +296,10 @@ fn make_sample(alloc: Global) -> Result<Sample, AllocError>
         TokenLine {
             status: Status::Success,
             given: None
+        },
+        TokenLine {
+            status: Status::Success,
+            given: Some(Bytes::from_vec(Vec::new(alloc)))
         },
     ]?;
     let history = history_of(alloc, entries)?;
@@ -322,6 +337,7 @@ const LINES: &str = "0 accept 1 0+1024@1/0 write bytes 510 4 aabb0cdd
 28 wipe 7 1 1
 29 fault 6 wipe 1 4 2
 30 refuse 5 0+1024@1/0 erase blocks 1 512 3 EFI_WRITE_PROTECTED
+31 accept 0 0+1024@1/0 read bytes 3 0
 token 0 EFI_SUCCESS
 token 1 EFI_SUCCESS
 token 2 EFI_SUCCESS 0000aabb0cdd0000
@@ -330,6 +346,7 @@ token 4 EFI_ABORTED
 token 5 EFI_SUCCESS
 token 6 EFI_DEVICE_ERROR
 token 7 EFI_SUCCESS
+token 8 EFI_SUCCESS
 ";
 
 #[test]
@@ -370,26 +387,6 @@ fn whole_report(rt: HostRuntime) -> Result<(), Fail> {
     Ok(())
 }
 
-// A fault of a fetch or a store has the blocks of a group.
-#[test]
-fn faults_of_groups(rt: HostRuntime) -> Result<(), Fail> {
-    let alloc = rt.alloc();
-    let rows = [
-        (Command::Fetch { block: 8 }, 0, "3 fault 2 fetch 8 8 0\n"),
-        (Command::Store { block: 16 }, 1, "3 fault 2 store 16 8 1\n"),
-    ];
-    for (command, done, expected) in rows {
-        let fault = Entry::Fault {
-            token: 2,
-            command,
-            done,
-        };
-        let line = entry_line(alloc, 8, 3, &fault)?;
-        assert_eq!(rt; line.as_str(), expected);
-    }
-    Ok(())
-}
-
 #[test]
 fn sink_that_fails(rt: HostRuntime) -> Result<(), Fail> {
     let alloc = rt.alloc();
@@ -416,52 +413,5 @@ fn sink_that_fails(rt: HostRuntime) -> Result<(), Fail> {
         let first = entry_line(alloc, 1, 0, &Entry::Reset { tag: 0 })?;
         assert_eq!(rt; out.bytes().starts_with(first.as_bytes()), failing > 0);
     }
-    Ok(())
-}
-
-const LAST: View = View {
-    start: u64::MAX,
-    length: u64::MAX,
-    media_id: u32::MAX,
-    index: u32::MAX,
-};
-
-const ALL_ASKED: Asked = Asked {
-    kind: Kind::Erase,
-    unit: UnitKind::Blocks,
-    at: u64::MAX,
-    length: u64::MAX,
-};
-
-#[test]
-fn numbers_at_their_ends(rt: HostRuntime) -> Result<(), Fail> {
-    let alloc = rt.alloc();
-    let command = Command::Wipe {
-        block: u64::MAX,
-        count: u32::MAX,
-    };
-    let refused = Entry::Refuse {
-        tag: u32::MAX,
-        view: LAST,
-        asked: ALL_ASKED,
-        media_id: u32::MAX,
-        status: Status::BadBufferSize,
-    };
-    let line = entry_line(alloc, 8, u64::MAX, &refused)?;
-    assert_eq!(rt;
-        line.as_str(),
-        "18446744073709551615 refuse 4294967295 18446744073709551615+18446744073709551615@4294967295/4294967295 \
-            erase blocks 18446744073709551615 18446744073709551615 4294967295 EFI_BAD_BUFFER_SIZE\n"
-    );
-    let fault = Entry::Fault {
-        token: u64::MAX,
-        command,
-        done: u32::MAX,
-    };
-    let line = entry_line(alloc, 8, 0, &fault)?;
-    assert_eq!(rt;
-        line.as_str(),
-        "0 fault 18446744073709551615 wipe 18446744073709551615 4294967295 4294967295\n"
-    );
     Ok(())
 }
