@@ -1,5 +1,5 @@
 -- What a line says by its words fits.
-use Rattle.std.proofs.Common.{◌≡◌, ℕ, ◌-◌, ◌^◌, ◌<◌, ◌≤◌, Bool, true, false, not, ◌&&◌, nat_le, if◌then◌else◌, List, [], ◌∷◌, length, take, drop, codes, bytes_eq, ok_or, Option, None, Some, Result, Ok, Err, refl, ap, arith}
+use Rattle.std.proofs.Common.{◌≡◌, ℕ, ◌-◌, ◌^◌, ◌<◌, ◌≤◌, Bool, true, false, not, ◌&&◌, nat_le, if◌then◌else◌, List, [], ◌∷◌, length, take, drop, codes, bytes_eq, ok_or, Option, None, Some, Result, Ok, Err, refl, arith}
 use Rattle.std.specs.List.{list_all, list_any}
 use Rattle.std.specs.Char.{is_ascii_digit}
 use Rattle.std.specs.Str.Parse.{digits_value}
@@ -18,7 +18,6 @@ use Rattle.script_text.specs.declared.language.line.Line.TheVariants.{Disk, Spar
 use Rattle.script_text.specs.Limits.{most_request_bytes}
 use Rattle.script_text.specs.Words.{words_of, is_comment, is_line_byte, number_of, hex_of}
 use Rattle.script_text.specs.Wording.{is_mark, is_fixed_word, short_number_of, byte_of, flags_of, disk_words, spare_words, client_words, request, given_order, fill_order, sized_order, alone, aimed_order, plain_order, asks, last_word, aimed_words, protect_order, whole_order, is_aimed, line_of_kind, line_of_words, line_of_bytes}
-use Rattle.script_text.specs.Planned.{asked_bytes}
 use Rattle.script_text.specs.Replies.{◌>>=◌}
 use Rattle.script_text.specs.Fitting.{is_name_byte, Brings, IsRequest}
 use Rattle.script_text.proofs.Chains.{then_ok, else_ok, either_ok, next_ok, some_ok, ok_same, never_ok, both_true}

@@ -1,6 +1,6 @@
 -- Lines that come in pieces.
-use Rattle.std.proofs.Common.{◌≡◌, ℕ, ◌+◌, ◌-◌, ◌<◌, ◌≤◌, Bool, true, false, not, ◌==◌, List, [], ◌∷◌, ◌++◌, map, length, take, drop, get_or, zero, suc, ◌&&◌, nat_lt, cond, position, Some, None, Result, Ok, Err, refl, ap, sym, ◌∙◌, append_assoc, arith}
-use Rattle.std.specs.List.{slice_split, list_all, position_or_len}
+use Rattle.std.proofs.Common.{◌≡◌, ℕ, ◌+◌, ◌<◌, ◌≤◌, Bool, true, false, ◌==◌, List, [], ◌∷◌, ◌++◌, map, length, take, drop, get_or, zero, suc, nat_lt, cond, position, Some, None, Result, Ok, Err, refl, ap, sym, ◌∙◌, append_assoc, arith}
+use Rattle.std.specs.List.{slice_split, position_or_len}
 use Rattle.std.proofs.lemmas.Bool.{lt-ltb, le-ltb}
 use Rattle.std.proofs.lemmas.Bool.Decides.{nat_tests}
 use Rattle.std.proofs.lemmas.List.Quantifiers.{position-Some}
@@ -12,7 +12,7 @@ use Rattle.script_text.specs.Words.{lines_of}
 use Rattle.script_text.specs.OneLine.{is_one_line}
 use Rattle.script_text.specs.Limits.{most_script_bytes}
 use Rattle.script_text.specs.Whole.{line_says, lines_say, script_of}
-use Rattle.script_text.proofs.Back.{lacks, cut_word, last_word, lacks_both}
+use Rattle.script_text.proofs.Back.{cut_word, last_word, lacks_both}
 
 -- a begun line that goes on with the front of a piece ends there
 pub line_ends : (begun front rest more : List ℕ) → is_one_line begun ≡ true → is_one_line front ≡ true → lines_of (begun ++ ((front ++ 10 ∷ rest) ++ more)) ≡ strip_carriage_return (begun ++ front) ∷ lines_of (rest ++ more)

@@ -1,5 +1,5 @@
 -- The bytes that plans ask for, where their last item changes.
-use Rattle.std.proofs.Common.{◌≡◌, ℕ, ◌+◌, ◌<◌, Bool, true, length, List, [], ◌∷◌, ◌++◌, sum_by, refl, ap, ◌∙◌, arith}
+use Rattle.std.proofs.Common.{◌≡◌, ℕ, ◌+◌, ◌<◌, true, length, List, [], ◌∷◌, ◌++◌, sum_by, refl, ap, ◌∙◌, arith}
 use Rattle.std.proofs.lemmas.List.Sums.{sum_by_push}
 use Rattle.history.specs.declared.order.Order.{Order}
 use Rattle.script_text.specs.declared.language.plans.DiskPlan.{DiskPlan}

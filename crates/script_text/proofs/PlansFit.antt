@@ -1,5 +1,5 @@
 -- The plans of a script fit its limits.
-use Rattle.std.proofs.Common.{◌≡◌, ℕ, ◌+◌, ◌<◌, ◌≤◌, Bool, true, false, not, ◌&&◌, ◌||◌, nat_le, nat_lt, if◌then◌else◌, List, [], ◌∷◌, ◌++◌, length, Option, None, Some, Result, Ok, Err, refl, ap, arith, length-append}
+use Rattle.std.proofs.Common.{◌≡◌, ℕ, ◌+◌, ◌≤◌, Bool, true, false, not, ◌&&◌, ◌||◌, nat_le, nat_lt, List, [], ◌∷◌, ◌++◌, length, Option, None, Some, Result, Ok, Err, refl, ap, arith, length-append}
 use Rattle.std.proofs.lemmas.Bool.Decides.{nat_tests}
 use Rattle.history.specs.declared.order.Order.{Order}
 use Rattle.history.specs.declared.order.Order.TheVariants as order
@@ -16,8 +16,7 @@ use Rattle.script_text.specs.Limits.{most_request_bytes, most_name_bytes, most_d
 use Rattle.script_text.specs.Words.{lines_of}
 use Rattle.script_text.specs.Wording.{line_of_bytes}
 use Rattle.script_text.specs.Last.{on_last, last_is, has_some}
-use Rattle.script_text.specs.Planned.{new_disk, new_client, add_spare, add_client, add_order, add_last_order, has_client, has_image, is_new_name, is_group_size, asked_bytes, planned_disk, has_medium_room, planned_spare, has_client_room, planned_client, is_whole, takes_mark, is_well_aimed, has_room, planned_order, planned}
-use Rattle.script_text.specs.Replies.{◌>>=◌}
+use Rattle.script_text.specs.Planned.{new_disk, new_client, add_spare, add_client, add_order, add_last_order, has_client, is_new_name, is_group_size, asked_bytes, planned_disk, has_medium_room, planned_spare, has_client_room, planned_client, is_whole, takes_mark, is_well_aimed, has_room, planned_order, planned}
 use Rattle.script_text.specs.Whole.{planned_if, line_says, at_line, lines_say, script_of}
 use Rattle.script_text.specs.Fitting.{IsName, AreNames, IsMedium, IsOrder, AreOrders, AreClients, IsDisk, AreDisks}
 use Rattle.script_text.proofs.LastLemmas.{some_last, last_both, length_on_last}

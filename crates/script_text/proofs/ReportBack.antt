@@ -1,11 +1,11 @@
 -- The entries of a report, read back from its text.
-use Rattle.std.proofs.Common.{◌≡◌, ℕ, zero, suc, ◌+◌, ◌<◌, ◌≤◌, Bool, true, false, not, ◌==◌, ◌||◌, List, [], ◌∷◌, ◌++◌, length, reverse, slice_index, decimal, codes, Option, None, Some, refl, ap, sym, ◌∙◌, append_assoc, arith}
+use Rattle.std.proofs.Common.{◌≡◌, ℕ, ◌+◌, ◌<◌, Bool, true, false, not, ◌==◌, ◌||◌, List, [], ◌∷◌, ◌++◌, length, reverse, slice_index, decimal, Option, refl, ap, sym, ◌∙◌, append_assoc, arith}
 use Rattle.std.specs.Char.{is_ascii_digit}
 use Rattle.std.proofs.lemmas.Fmt.{decimal_is_IsNumeral}
 use Rattle.std.proofs.lemmas.List.{reverse-append, reverse-reverse, length-reverse}
 use Rattle.std.specs.List.{list_all, slice_split}
 use Rattle.history.specs.declared.entry.Entry.{Entry}
-use Rattle.history.specs.Setup.{Setup, per_of, size_of}
+use Rattle.history.specs.Setup.{per_of, size_of}
 use Rattle.history.specs.Marks.{mark_of}
 use Rattle.efi_status.specs.declared.Status.{Status}
 use Rattle.script_text.specs.declared.report.parts.KeptMedium.{KeptMedium}
