@@ -33,7 +33,7 @@ use Rattle.disk_core.specs.State.{setup_of}
 use Rattle.disk_core.specs.Facts.{GatesFollow}
 use Rattle.disk_core.specs.Parts.{state_of}
 use Rattle.disk_core.specs.Inside.{HoldersFollow}
-use Rattle.disk_core.specs.Calls.{first_of}
+use Rattle.disk_core.specs.Calls.{first_todo}
 use Rattle.disk_core.specs.Moves.{IsDisk}
 use Rattle.disk_core.proofs.Gated.{held-block, unheld-block}
 use Rattle.disk_core.proofs.Upcoming.{legal-in}
@@ -112,7 +112,7 @@ module _ (S : Setup) (H : List Entry) (gates : Gates) (holders : List Holder) (p
 
 -- the first unit of the queue that may run is the first runnable one of the history
 pub found-first : {M : Type 0} (device : M → Device) (prepared : M → ℕ → Type 0) (drive : DriveState M) (c : Core) → IsDisk device prepared drive c
-    → find (may_run (is_block_held c.gates.held) (nat_lt 0 c.gates.free)) c.queue ≡ option_map (sub_of drive.size) (first_of (state_of device drive c))
+    → find (may_run (is_block_held c.gates.held) (nat_lt 0 c.gates.free)) c.queue ≡ option_map (sub_of drive.size) (first_todo (state_of device drive c))
 unfolding state_of first_runnable setup_of
 found-first device prepared drive c sound =
     let S = setup_of device drive c.protected_at_first in

@@ -14,7 +14,7 @@ use Rattle.subtask_queue.specs.Subs.{may_run, sub_of}
 use Rattle.disk_core.specs.declared.parts.Core.{Core}
 use Rattle.disk_core.specs.State.{setup_of}
 use Rattle.disk_core.specs.Parts.{state_of}
-use Rattle.disk_core.specs.Calls.{StepSays, first_of}
+use Rattle.disk_core.specs.Calls.{StepSays, first_todo}
 use Rattle.disk_core.specs.Moves.{IsDisk, IsFirst, Reaches, rest_of}
 use Rattle.disk_core.proofs.Found.{found-first}
 use Rattle.disk_core.proofs.Upcoming.{legal-in}
@@ -22,19 +22,19 @@ use Rattle.disk_core.proofs.Upcoming.{legal-in}
 module _ {M : Type 0} (device : M → Device) (prepared : M → ℕ → Type 0) (drive : DriveState M) (c : Core) (sound : IsDisk device prepared drive c) where
   -- the unit that the queue finds comes first
   pub step-next : (unit : Sub) → Some unit ≡ find (may_run (is_block_held c.gates.held) (nat_lt 0 c.gates.free)) c.queue → (todo : Todo) × IsFirst device drive c unit todo
-  step-next unit is = by (first_of (state_of device drive c)) refl
+  step-next unit is = by (first_todo (state_of device drive c)) refl
     where
-      by : (o : Option Todo) → first_of (state_of device drive c) ≡ o → (todo : Todo) × IsFirst device drive c unit todo
+      by : (o : Option Todo) → first_todo (state_of device drive c) ≡ o → (todo : Todo) × IsFirst device drive c unit todo
       by None first = absurd (no-way (is ∙ found-first device prepared drive c sound ∙ ap (option_map (sub_of drive.size)) first))
         where
           no-way : Some unit ≡ None → ⊥
           no-way e = cc
       by (Some todo) first = (todo, record { first = first; kept_so = sym (same_Some unit (sub_of drive.size todo) (is ∙ found-first device prepared drive c sound ∙ ap (option_map (sub_of drive.size)) first)) })
 
-  none-first : None ≡ find (may_run (is_block_held c.gates.held) (nat_lt 0 c.gates.free)) c.queue → first_of (state_of device drive c) ≡ None
-  none-first is = by (first_of (state_of device drive c)) refl
+  none-first : None ≡ find (may_run (is_block_held c.gates.held) (nat_lt 0 c.gates.free)) c.queue → first_todo (state_of device drive c) ≡ None
+  none-first is = by (first_todo (state_of device drive c)) refl
     where
-      by : (o : Option Todo) → first_of (state_of device drive c) ≡ o → o ≡ None
+      by : (o : Option Todo) → first_todo (state_of device drive c) ≡ o → o ≡ None
       by None first = refl
       by (Some todo) first = absurd (no-way (is ∙ found-first device prepared drive c sound ∙ ap (option_map (sub_of drive.size)) first))
         where

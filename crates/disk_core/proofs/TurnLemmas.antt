@@ -16,7 +16,7 @@ use Rattle.disk_core.specs.declared.answers.Step.{Step}
 use Rattle.disk_core.specs.declared.answers.Step.TheVariants as step
 use Rattle.disk_core.specs.State.{State}
 use Rattle.disk_core.specs.Facts.{AreFacts}
-use Rattle.disk_core.specs.Calls.{StepSays, MakesFirst, is_fetched, first_of}
+use Rattle.disk_core.specs.Calls.{StepSays, MakesFirst, is_fetched, first_todo}
 use Rattle.disk_core.specs.Turns.{TakesTurn, StepTurns}
 use Rattle.history_laws.proofs.FetchLemmas.{fetched-ticket}
 
@@ -35,7 +35,7 @@ none-held s b facts none = false_from_ne_true (is_held s.setup s.entries b) (λ 
         clash k g (subst (λ held. gate_of held k ≡ Some g) none there)
 
 -- the first runnable unit is the next turn
-pub first-turn : (s : State) (todo : Todo) → IsSetup s.setup → AreFacts s → s.gates.held ≡ [] → 0 < s.gates.free → first_of s ≡ Some todo → next_turn s.setup s.entries ≡ Some (turn_of_todo s.entries todo)
+pub first-turn : (s : State) (todo : Todo) → IsSetup s.setup → AreFacts s → s.gates.held ≡ [] → 0 < s.gates.free → first_todo s ≡ Some todo → next_turn s.setup s.entries ≡ Some (turn_of_todo s.entries todo)
 first-turn s todo is facts none free first =
     let some : nat_lt 0 s.gates.free ≡ true = lt-ltb 0 s.gates.free free in
     let here : first_runnable (is_held s.setup s.entries) true s.setup s.entries ≡ Some todo = subst (λ b. first_runnable (is_held s.setup s.entries) b s.setup s.entries ≡ Some todo) some first in
@@ -46,7 +46,7 @@ pub first-taken : (s s' : State) (todo : Todo) (outcome : Outcome) → IsSetup s
 first-taken s s' todo outcome is facts none free makes = record { next = first-turn s todo is facts none free makes.first; makes = makes.makes }
 
 -- where none is runnable, none is outstanding
-idle-drained : (s : State) → IsSetup s.setup → AreFacts s → s.gates.held ≡ [] → 0 < s.gates.free → first_of s ≡ None → IsSome (first_open s.setup s.entries) → ⊥
+idle-drained : (s : State) → IsSetup s.setup → AreFacts s → s.gates.held ≡ [] → 0 < s.gates.free → first_todo s ≡ None → IsSome (first_open s.setup s.entries) → ⊥
 unfolding next_turn
 idle-drained s is facts none free first open_ =
     let some : nat_lt 0 s.gates.free ≡ true = lt-ltb 0 s.gates.free free in

@@ -170,15 +170,15 @@ pub record Revokes (old new : Gates) : Type 0 where
   pub free : new.free ≡ old.free
 
 -- the first unit that may run now
-abbrev pub first_of : State → Option Todo
-first_of s = first_runnable (is_held s.setup s.entries) (nat_lt 0 s.gates.free) s.setup s.entries
+abbrev pub first_todo : State → Option Todo
+first_todo s = first_runnable (is_held s.setup s.entries) (nat_lt 0 s.gates.free) s.setup s.entries
 
 abbrev pub command_of : State → Todo → Command
 command_of s todo = task_command s.entries todo.token todo.kind todo.task
 
 -- the command of the first runnable unit was made
 pub record MakesFirst (old : State) (todo : Todo) (outcome : Outcome) (new : State) : Type 0 where
-  pub first : first_of old ≡ Some todo
+  pub first : first_todo old ≡ Some todo
   pub makes : Makes old todo.token (command_of old todo) outcome new
 
 -- the work of a done fetch: its bytes are the group, and its patch those of the token there
@@ -217,7 +217,7 @@ pub record DoesFirst (old : State) (todo : Todo) (outcome : Outcome) (new : Stat
 unfoldable pub StepSays : State → Step → State → Type 0
 StepSays old (step.Lent w) new = (todo : Todo) × (q : Request) × LendsFirst old todo q w new
 StepSays old step.Did new = (todo : Todo) × (outcome : Outcome) × DoesFirst old todo outcome new
-StepSays old step.Idle new = (new ≡ old) × (first_of old ≡ None) × IsSome (first_open old.setup old.entries)
+StepSays old step.Idle new = (new ≡ old) × (first_todo old ≡ None) × IsSome (first_open old.setup old.entries)
 StepSays old step.Drained new = (new ≡ old) × (first_open old.setup old.entries ≡ None)
 
 -- a ticket's gate with the token that holds it

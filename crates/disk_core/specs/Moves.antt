@@ -37,7 +37,7 @@ use Rattle.disk_core.specs.Parts.{state_of}
 use Rattle.disk_core.specs.Commands.{OnMedium, OfMedium}
 use Rattle.disk_core.specs.Pieces.{bytes_in}
 use Rattle.disk_core.specs.Inside.{IsSound}
-use Rattle.disk_core.specs.Calls.{first_of}
+use Rattle.disk_core.specs.Calls.{first_todo}
 
 -- the parts are those of a disk
 abbrev pub IsDisk : {M : Type 0} → (M → Device) → (M → ℕ → Type 0) → DriveState M → Core → Type 0
@@ -145,7 +145,7 @@ rest_of (s ∷ subs) = step.Idle
 
 -- the first unit that may run
 pub record IsFirst {M : Type 0} (device : M → Device) (drive : DriveState M) (c : Core) (unit : Sub) (todo : Todo) : Type 0 where
-  pub first : first_of (state_of device drive c) ≡ Some todo
+  pub first : first_todo (state_of device drive c) ≡ Some todo
   pub kept_so : sub_of drive.size todo ≡ unit
 
 -- the parts of a new disk over so many media

@@ -3,15 +3,15 @@ use Rattle.std.specs.Prelude.{◌≡◌, ◌≢◌, ℕ, ◌<◌, ◌≤◌, Lis
 pub use Rattle.medium.specs.Counts.{Rose}
 
 -- the count stays where this fault is not the answer
-abbrev pub StaysBut : {T E : Type 0} → E → ℕ → ℕ → Result T E → Type 0
-StaysBut fault before now (Ok x) = now ≡ before
-StaysBut fault before now (Err e) = e ≢ fault → now ≡ before
+abbrev pub StaysUnless : {T E : Type 0} → E → ℕ → ℕ → Result T E → Type 0
+StaysUnless fault before now (Ok x) = now ≡ before
+StaysUnless fault before now (Err e) = e ≢ fault → now ≡ before
 
 -- the count rose where this fault is the answer, and stays where it is not
 pub record HasCauseOf {T E : Type 0} (fault : E) (before now : ℕ) (result : Result T E) : Type 0 where
   pub later : before ≤ now
   pub failed : IsErrOf result fault → Rose before now
-  pub quiet : StaysBut fault before now result
+  pub quiet : StaysUnless fault before now result
 
 -- the count rose where it failed, and stays where it did not
 pub record HasCause {T E : Type 0} (before now : ℕ) (result : Result T E) : Type 0 where

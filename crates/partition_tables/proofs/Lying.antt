@@ -13,7 +13,7 @@ use Rattle.gpt_headers.specs.Entry as entries
 use Rattle.gpt_headers.specs.Fields.{HeaderFields}
 use Rattle.partition_tables.specs.declared.table.Child.{Child}
 use Rattle.partition_tables.specs.declared.table.TableKind.TheVariants.{Mbr}
-use Rattle.partition_tables.specs.Blocks.{whole_blocks, boot_record_at}
+use Rattle.partition_tables.specs.Blocks.{medium_blocks, boot_record_at}
 use Rattle.partition_tables.specs.MbrTable.{chain_of, child_of_record, logical_in, logicals_of, mbr_children, primaries_of, trail_at}
 use Rattle.partition_tables.specs.GptTable.{child_of_entry, entries_of, gpt_table_by, good_header, gpt_children, gpt_table}
 use Rattle.partition_tables.specs.Table.{table_by, table_of}
@@ -90,16 +90,16 @@ extended_lies limit records =
     last_test : (a : Bool) (m : ℕ) → (a && nat_le m limit) ≡ true → m ≤ limit
     last_test a m h = grind (arith, nat_tests)
 
-mbr_lie : (bytes : List ℕ) (size : ℕ) (mbr : Fields) → All (λ c. Lies (whole_blocks bytes size) c) (mbr_children bytes size mbr)
+mbr_lie : (bytes : List ℕ) (size : ℕ) (mbr : Fields) → All (λ c. Lies (medium_blocks bytes size) c) (mbr_children bytes size mbr)
 unfolding mbr_children
 mbr_lie bytes size mbr =
-    let limit = whole_blocks bytes size in
+    let limit = medium_blocks bytes size in
     All-append (λ c. Lies limit c) (primaries_of limit mbr) _ (primaries_lie limit mbr) (by_extended (extended_of limit mbr.records) (extended_lies limit mbr.records))
   where
-    by_extended : (o : Option (ℕ × ℕ)) → IfSome o (λ p. p.0 + p.1 ≤ whole_blocks bytes size)
-        → All (λ c. Lies (whole_blocks bytes size) c) (option_map_or (λ extended. logicals_of bytes size mbr.signature extended) o [])
-    by_extended None h = All-nil (λ c. Lies (whole_blocks bytes size) c)
-    by_extended (Some extended) h = logicals_lie bytes size (whole_blocks bytes size) mbr.signature extended h
+    by_extended : (o : Option (ℕ × ℕ)) → IfSome o (λ p. p.0 + p.1 ≤ medium_blocks bytes size)
+        → All (λ c. Lies (medium_blocks bytes size) c) (option_map_or (λ extended. logicals_of bytes size mbr.signature extended) o [])
+    by_extended None h = All-nil (λ c. Lies (medium_blocks bytes size) c)
+    by_extended (Some extended) h = logicals_lie bytes size (medium_blocks bytes size) mbr.signature extended h
 
 last_on_medium : (a b c d e : Bool) (first last blocks : ℕ) → (a && (nat_le first last && b && (c && nat_lt last blocks)) && d && e) ≡ true → first + (last - first + 1) ≤ blocks
 last_on_medium a b c d e first last blocks h = grind (arith, nat_tests)
@@ -117,12 +117,12 @@ gpt_lie limit (Some good) backup = entries_lie limit good
 gpt_lie limit None (Some good) = entries_lie limit good
 gpt_lie limit None None = All-nil (λ c. Lies limit c)
 
-table_lies : (bytes : List ℕ) (size : ℕ) (o : Option Fields) → All (λ c. Lies (whole_blocks bytes size) c) (table_by bytes size o).children
-table_lies bytes size None = All-nil (λ c. Lies (whole_blocks bytes size) c)
+table_lies : (bytes : List ℕ) (size : ℕ) (o : Option Fields) → All (λ c. Lies (medium_blocks bytes size) c) (table_by bytes size o).children
+table_lies bytes size None = All-nil (λ c. Lies (medium_blocks bytes size) c)
 table_lies bytes size (Some mbr) = by_cover (list_any is_protective mbr.records)
   where
-    by_cover : (b : Bool) → All (λ c. Lies (whole_blocks bytes size) c) (if b then gpt_table bytes size else record { kind = Mbr; children = mbr_children bytes size mbr }).children
-    by_cover true = gpt_lie (whole_blocks bytes size) (good_header bytes size 1) (good_header bytes size (whole_blocks bytes size - 1))
+    by_cover : (b : Bool) → All (λ c. Lies (medium_blocks bytes size) c) (if b then gpt_table bytes size else record { kind = Mbr; children = mbr_children bytes size mbr }).children
+    by_cover true = gpt_lie (medium_blocks bytes size) (good_header bytes size 1) (good_header bytes size (medium_blocks bytes size - 1))
     by_cover false = mbr_lie bytes size mbr
 
 pub children_lie : ChildrenLieOnTheMedium

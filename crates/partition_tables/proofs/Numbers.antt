@@ -11,7 +11,7 @@ use Rattle.gpt_headers.specs.Entry as gpt
 use Rattle.gpt_headers.specs.Fields.{HeaderFields}
 use Rattle.partition_tables.specs.declared.table.Child.{Child}
 use Rattle.partition_tables.specs.declared.table.TableKind.TheVariants.{Mbr}
-use Rattle.partition_tables.specs.Blocks.{whole_blocks, boot_record_at}
+use Rattle.partition_tables.specs.Blocks.{medium_blocks, boot_record_at}
 use Rattle.partition_tables.specs.MbrTable.{chain_of, child_of_record, logical_in, logicals_of, mbr_children, primaries_of}
 use Rattle.partition_tables.specs.GptTable.{child_of_entry, entries_of, entry_children, gpt_table_by, good_header, gpt_children, gpt_table}
 use Rattle.partition_tables.specs.Table.{table_by, table_of}
@@ -78,7 +78,7 @@ logicals_rise bytes size signature extended =
 mbr_rise : (bytes : List ℕ) (size : ℕ) (mbr : Fields) → length mbr.records ≡ 4 → Rises 0 (mbr_children bytes size mbr)
 unfolding mbr_children
 mbr_rise bytes size mbr four =
-    let blocks = whole_blocks bytes size in
+    let blocks = medium_blocks bytes size in
     let primaries = rises_kept 1 (λ (i, r). gives_partition blocks mbr.records i r) (λ (i, r). child_of_record mbr.signature (i + 1) r (r.start, r.size)) (λ p. refl) 0 mbr.records in
     rises_append 0 5 (primaries_of blocks mbr) _ (rises_lower 1 0 (primaries_of blocks mbr) (omega arith) primaries) (primaries_below blocks mbr four) (omega arith)
     (by_extended (extended_of blocks mbr.records))
@@ -104,7 +104,7 @@ table_rises bytes size None h = tt
 table_rises bytes size (Some mbr) h = by_cover (list_any is_protective mbr.records)
   where
     by_cover : (b : Bool) → Rises 0 (if b then gpt_table bytes size else record { kind = Mbr; children = mbr_children bytes size mbr }).children
-    by_cover true = gpt_rise (whole_blocks bytes size) (good_header bytes size 1) (good_header bytes size (whole_blocks bytes size - 1))
+    by_cover true = gpt_rise (medium_blocks bytes size) (good_header bytes size 1) (good_header bytes size (medium_blocks bytes size - 1))
     by_cover false = mbr_rise bytes size mbr h
 
 four_records : (b : Bool) (block : List ℕ) → IfSome (if b then Some (fields_of block) else None) (λ mbr. length mbr.records ≡ 4)

@@ -2,8 +2,8 @@
 use Rattle.std.specs.Prelude.{ℕ, ◌+◌, ◌*◌, ◌/◌, List, length, slice_range}
 
 -- how many whole blocks there are
-abbrev pub whole_blocks : List ℕ → ℕ → ℕ
-whole_blocks bytes size = length bytes / size
+abbrev pub medium_blocks : List ℕ → ℕ → ℕ
+medium_blocks bytes size = length bytes / size
 
 -- the block at this LBA
 abbrev pub table_block : List ℕ → ℕ → ℕ → List ℕ

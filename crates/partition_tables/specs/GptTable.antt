@@ -13,11 +13,11 @@ use Rattle.partition_tables.specs.declared.table.Child.{Child}
 use Rattle.partition_tables.specs.declared.table.Origin.TheVariants.{Gpt}
 use Rattle.partition_tables.specs.declared.table.Table.{Table}
 use Rattle.partition_tables.specs.declared.table.TableKind.TheVariants.{GptPrimary, GptBackup, GptDamaged}
-use Rattle.partition_tables.specs.Blocks.{table_block, whole_blocks}
+use Rattle.partition_tables.specs.Blocks.{table_block, medium_blocks}
 
 -- the bytes of a header's array, where it lies on the medium
 abbrev pub array_of : List ℕ → ℕ → HeaderFields → Option (List ℕ)
-array_of bytes size h = option_map (λ (at, count). slice_range bytes at (at + count)) (array_range_of h (whole_blocks bytes size) size)
+array_of bytes size h = option_map (λ (at, count). slice_range bytes at (at + count)) (array_range_of h (medium_blocks bytes size) size)
 
 -- a header with its array, where this lies on the medium and has the CRC32 that the header tells
 abbrev pub header_with_array : List ℕ → ℕ → HeaderFields → Option (HeaderFields × List ℕ)
@@ -28,7 +28,7 @@ header_with_array bytes size h =
 -- test, and the array is good too.
 unfoldable pub good_header : List ℕ → ℕ → ℕ → Option (HeaderFields × List ℕ)
 good_header bytes size lba =
-    if not (lba == 0) && nat_lt lba (whole_blocks bytes size) && is_none (fault_of lba (table_block bytes size lba))
+    if not (lba == 0) && nat_lt lba (medium_blocks bytes size) && is_none (fault_of lba (table_block bytes size lba))
     then header_with_array bytes size (fields_of (table_block bytes size lba)) else None
 
 -- the entries in a header's array, each as its first 128 bytes tell it
@@ -56,4 +56,4 @@ gpt_table_by blocks None None = record { kind = GptDamaged; children = [] }
 
 abbrev pub gpt_table : List ℕ → ℕ → Table
 gpt_table bytes size =
-    gpt_table_by (whole_blocks bytes size) (good_header bytes size 1) (good_header bytes size (whole_blocks bytes size - 1))
+    gpt_table_by (medium_blocks bytes size) (good_header bytes size 1) (good_header bytes size (medium_blocks bytes size - 1))

@@ -1,13 +1,13 @@
 -- What holds of every table.
 use Rattle.std.specs.Prelude.{ℕ, ◌≡◌, ◌+◌, ◌<◌, ◌≤◌, List, All, AllPairs, length, map, take, slice_get, Some, option_map}
 use Rattle.mbr_records.specs.Chain.{logical_of, next_record_block, trail_of}
-use Rattle.partition_tables.specs.Blocks.{whole_blocks, boot_record_at}
+use Rattle.partition_tables.specs.Blocks.{medium_blocks, boot_record_at}
 use Rattle.partition_tables.specs.MbrTable.{chain_of, logical_in}
 use Rattle.partition_tables.specs.Table.{table_of}
 
 -- each child ends where the medium's blocks do, or before
 abbrev pub ChildrenLieOnTheMedium : Type 0
-ChildrenLieOnTheMedium = (bytes : List ℕ) (size : ℕ) → All (λ c. c.first + c.blocks ≤ whole_blocks bytes size) (table_of bytes size).children
+ChildrenLieOnTheMedium = (bytes : List ℕ) (size : ℕ) → All (λ c. c.first + c.blocks ≤ medium_blocks bytes size) (table_of bytes size).children
 
 -- the numbers of its children rise
 abbrev pub NumbersAscend : Type 0

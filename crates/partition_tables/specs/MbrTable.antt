@@ -8,7 +8,7 @@ use Rattle.mbr_records.specs.Block.{Fields, extended_of, gives_partition, mbr_of
 use Rattle.mbr_records.specs.Chain.{Trail, link_of, logical_at, most_read, next_record_block}
 use Rattle.partition_tables.specs.declared.table.Child.{Child}
 use Rattle.partition_tables.specs.declared.table.Origin.TheVariants.{Mbr}
-use Rattle.partition_tables.specs.Blocks.{whole_blocks, boot_record_at}
+use Rattle.partition_tables.specs.Blocks.{medium_blocks, boot_record_at}
 
 -- the child with these blocks, of a record on a disk with this signature
 abbrev pub child_of_record : ℕ → ℕ → MbrRecord → ℕ × ℕ → Child
@@ -54,5 +54,5 @@ logicals_of bytes size signature extended =
 -- the children of the records, and then those of the first extended partition on the medium
 unfoldable pub mbr_children : List ℕ → ℕ → Fields → List Child
 mbr_children bytes size mbr =
-    primaries_of (whole_blocks bytes size) mbr
-    ++ option_map_or (λ extended. logicals_of bytes size mbr.signature extended) (extended_of (whole_blocks bytes size) mbr.records) []
+    primaries_of (medium_blocks bytes size) mbr
+    ++ option_map_or (λ extended. logicals_of bytes size mbr.signature extended) (extended_of (medium_blocks bytes size) mbr.records) []

@@ -17,7 +17,7 @@ use Rattle.script_text.specs.declared.language.line.Line.{Line}
 use Rattle.script_text.specs.declared.language.line.Line.TheVariants.{Disk, Spare, Client, Asks}
 use Rattle.script_text.specs.Limits.{most_request_bytes}
 use Rattle.script_text.specs.Words.{words_of, is_comment, is_line_byte, number_of, hex_of}
-use Rattle.script_text.specs.Wording.{is_mark, is_fixed_word, short_number_of, byte_of, flags_of, disk_words, spare_words, client_words, request, given_order, fill_order, sized_order, alone, aimed_order, plain_order, asks, last_word, aimed_words, protect_order, whole_order, is_aimed, line_of_kind, line_of_words, line_of_bytes}
+use Rattle.script_text.specs.Wording.{is_mark, is_fixed_word, short_number_of, byte_of, flags_of, disk_words, spare_words, client_words, request_order, given_order, fill_order, sized_order, alone, aimed_order, plain_order, asks, last_word, aimed_words, protect_order, whole_order, is_aimed, line_of_kind, line_of_words, line_of_bytes}
 use Rattle.script_text.specs.Replies.{◌>>=◌}
 use Rattle.script_text.specs.Fitting.{is_name_byte, Brings, IsRequest}
 use Rattle.script_text.proofs.Chains.{then_ok, else_ok, either_ok, next_ok, some_ok, ok_same, never_ok, both_true}
@@ -67,9 +67,9 @@ said_below word n is = number_below word n (some_ok (number_of word) Number n is
 given_fits : (units : UnitKind) (k : ℕ) (words : List (List ℕ)) (one : Order) → given_order units k words ≡ Ok one → IsAimed k one
 unfolding given_order
 given_fits units k (at ∷ hex ∷ []) one is =
-    let (a, placed, rest) = next_ok (ok_or (number_of at) Number) (λ a. ok_or (hex_of hex) Hex >>= (λ bytes. Ok (request Write units a (length bytes) (Given bytes) k))) one is in
-    let (bytes, read, last) = next_ok (ok_or (hex_of hex) Hex) (λ bytes. Ok (request Write units a (length bytes) (Given bytes) k)) one rest in
-    rw (← ok_same (request Write units a (length bytes) (Given bytes) k) one last)
+    let (a, placed, rest) = next_ok (ok_or (number_of at) Number) (λ a. ok_or (hex_of hex) Hex >>= (λ bytes. Ok (request_order Write units a (length bytes) (Given bytes) k))) one is in
+    let (bytes, read, last) = next_ok (ok_or (hex_of hex) Hex) (λ bytes. Ok (request_order Write units a (length bytes) (Given bytes) k)) one rest in
+    rw (← ok_same (request_order Write units a (length bytes) (Given bytes) k) one last)
     (refl, λ most. record { at = said_below at a placed; most = most; brings = refl })
 given_fits units k [] one is = absurd (cc)
 given_fits units k (a ∷ []) one is = absurd (cc)
@@ -78,10 +78,10 @@ given_fits units k (a ∷ b ∷ c ∷ more) one is = absurd (cc)
 fill_fits : (k : ℕ) (words : List (List ℕ)) (one : Order) → fill_order k words ≡ Ok one → IsAimed k one
 unfolding fill_order
 fill_fits k (at ∷ count ∷ byte ∷ []) one is =
-    let (a, placed, rest) = next_ok (ok_or (number_of at) Number) (λ a. ok_or (number_of count) Number >>= (λ n. ok_or (byte_of byte) Hex >>= (λ b. Ok (request Write Bytes a n (Fill b) k)))) one is in
-    let (n, counted, more) = next_ok (ok_or (number_of count) Number) (λ n. ok_or (byte_of byte) Hex >>= (λ b. Ok (request Write Bytes a n (Fill b) k))) one rest in
-    let (b, read, last) = next_ok (ok_or (byte_of byte) Hex) (λ b. Ok (request Write Bytes a n (Fill b) k)) one more in
-    rw (← ok_same (request Write Bytes a n (Fill b) k) one last)
+    let (a, placed, rest) = next_ok (ok_or (number_of at) Number) (λ a. ok_or (number_of count) Number >>= (λ n. ok_or (byte_of byte) Hex >>= (λ b. Ok (request_order Write Bytes a n (Fill b) k)))) one is in
+    let (n, counted, more) = next_ok (ok_or (number_of count) Number) (λ n. ok_or (byte_of byte) Hex >>= (λ b. Ok (request_order Write Bytes a n (Fill b) k))) one rest in
+    let (b, read, last) = next_ok (ok_or (byte_of byte) Hex) (λ b. Ok (request_order Write Bytes a n (Fill b) k)) one more in
+    rw (← ok_same (request_order Write Bytes a n (Fill b) k) one last)
     (refl, λ most. record { at = said_below at a placed; most = most; brings = tt })
 fill_fits k [] one is = absurd (cc)
 fill_fits k (a ∷ []) one is = absurd (cc)
@@ -91,9 +91,9 @@ fill_fits k (a ∷ b ∷ c ∷ d ∷ more) one is = absurd (cc)
 sized_fits : (kind : Kind) (units : UnitKind) (k : ℕ) → ((n : ℕ) → Brings kind units Nothing n) → (words : List (List ℕ)) (one : Order) → sized_order kind units k words ≡ Ok one → IsAimed k one
 unfolding sized_order
 sized_fits kind units k brings (at ∷ count ∷ []) one is =
-    let (a, placed, rest) = next_ok (ok_or (number_of at) Number) (λ a. ok_or (number_of count) Number >>= (λ n. Ok (request kind units a n Nothing k))) one is in
-    let (n, counted, last) = next_ok (ok_or (number_of count) Number) (λ n. Ok (request kind units a n Nothing k)) one rest in
-    rw (← ok_same (request kind units a n Nothing k) one last)
+    let (a, placed, rest) = next_ok (ok_or (number_of at) Number) (λ a. ok_or (number_of count) Number >>= (λ n. Ok (request_order kind units a n Nothing k))) one is in
+    let (n, counted, last) = next_ok (ok_or (number_of count) Number) (λ n. Ok (request_order kind units a n Nothing k)) one rest in
+    rw (← ok_same (request_order kind units a n Nothing k) one last)
     (refl, λ most. record { at = said_below at a placed; most = most; brings = brings n })
 sized_fits kind units k brings [] one is = absurd (cc)
 sized_fits kind units k brings (a ∷ []) one is = absurd (cc)
@@ -103,7 +103,7 @@ alone_fits : (k : ℕ) (one : Order) (words : List (List ℕ)) (found : Order) �
 alone_fits k one [] found fits is = rw (← ok_same one found is) fits
 alone_fits k one (word ∷ more) found fits is = absurd (cc)
 
-flush_fits : (k : ℕ) → IsAimed k (request Flush Bytes 0 0 Nothing k)
+flush_fits : (k : ℕ) → IsAimed k (request_order Flush Bytes 0 0 Nothing k)
 flush_fits k = (refl, λ most. record { at = omega arith; most = most; brings = refl })
 
 aimed_fits : (first : List ℕ) (k : ℕ) (words : List (List ℕ)) (one : Order) → aimed_order first k words ≡ Ok one → IsAimed k one
@@ -115,7 +115,7 @@ aimed_fits first k words one is =
     (λ r. either_ok (bytes_eq first (codes "wblocks")) _ _ one _ (λ r. given_fits Blocks k words one r)
     (λ r. either_ok (bytes_eq first (codes "rblocks")) _ _ one _ (λ r. sized_fits Read Blocks k (λ n. tt) words one r)
     (λ r. either_ok (bytes_eq first (codes "erase")) _ _ one _ (λ r. sized_fits Erase Blocks k (λ n. tt) words one r)
-    (λ r. either_ok (bytes_eq first (codes "flush")) _ _ one _ (λ r. alone_fits k (request Flush Bytes 0 0 Nothing k) words one (flush_fits k) r)
+    (λ r. either_ok (bytes_eq first (codes "flush")) _ _ one _ (λ r. alone_fits k (request_order Flush Bytes 0 0 Nothing k) words one (flush_fits k) r)
     (λ r. alone_fits k (order.Cancel k) words one refl r) r) r) r) r) r) r) is
 
 plain_fits : (first : List ℕ) (k : ℕ) (words : List (List ℕ)) (one : Order) → plain_order first k words ≡ Ok one → IsAimed k one

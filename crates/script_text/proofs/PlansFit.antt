@@ -18,7 +18,7 @@ use Rattle.script_text.specs.Wording.{line_of_bytes}
 use Rattle.script_text.specs.Last.{on_last, last_is, has_some}
 use Rattle.script_text.specs.Planned.{new_disk, new_client, add_spare, add_client, add_order, add_last_order, has_client, is_new_name, is_group_size, asked_bytes, planned_disk, has_medium_room, planned_spare, has_client_room, planned_client, is_whole, takes_mark, is_well_aimed, has_room, planned_order, planned}
 use Rattle.script_text.specs.Whole.{planned_if, line_says, at_line, lines_say, script_of}
-use Rattle.script_text.specs.Fitting.{IsName, AreNames, IsMedium, IsOrder, AreOrders, AreClients, IsDisk, AreDisks}
+use Rattle.script_text.specs.Fitting.{IsName, AreNames, IsMedium, IsOrder, AreOrders, AreClients, IsDiskPlan, AreDisks}
 use Rattle.script_text.proofs.LastLemmas.{some_last, last_both, length_on_last}
 use Rattle.script_text.proofs.Chains.{then_ok, else_ok, next_ok, ok_same, both_true, none_true, was_true}
 use Rattle.script_text.proofs.LineFits.{IsAimed, medium_of, IsPrintable, IsLine, line_fits}
@@ -44,12 +44,12 @@ clients_on_last media one fits [] all = tt
 clients_on_last media one fits (client ∷ []) all = (orders_pushed media client.orders one all.0 fits, tt)
 clients_on_last media one fits (client ∷ next ∷ more) all = (all.0, clients_on_last media one fits (next ∷ more) all.1)
 
-disks_pushed : (disks : List DiskPlan) (disk : DiskPlan) → AreDisks disks → IsDisk disk → AreDisks (disks ++ disk ∷ [])
+disks_pushed : (disks : List DiskPlan) (disk : DiskPlan) → AreDisks disks → IsDiskPlan disk → AreDisks (disks ++ disk ∷ [])
 unfolding AreDisks
 disks_pushed [] disk all one = (one, tt)
 disks_pushed (first ∷ more) disk all one = (all.0, disks_pushed more disk all.1 one)
 
-disks_on_last : (f : DiskPlan → DiskPlan) (test : DiskPlan → Bool) → ((disk : DiskPlan) → test disk ≡ true → IsDisk disk → IsDisk (f disk)) → (disks : List DiskPlan) → last_is test disks ≡ true → AreDisks disks → AreDisks (on_last f disks)
+disks_on_last : (f : DiskPlan → DiskPlan) (test : DiskPlan → Bool) → ((disk : DiskPlan) → test disk ≡ true → IsDiskPlan disk → IsDiskPlan (f disk)) → (disks : List DiskPlan) → last_is test disks ≡ true → AreDisks disks → AreDisks (on_last f disks)
 unfolding AreDisks on_last last_is
 disks_on_last f test keeps [] is all = tt
 disks_on_last f test keeps (disk ∷ []) is all = (keeps disk is all.0, tt)

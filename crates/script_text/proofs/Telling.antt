@@ -12,7 +12,7 @@ use Rattle.script_text.specs.OneLine.{is_one_line}
 use Rattle.script_text.specs.Limits.{most_script_bytes}
 use Rattle.script_text.specs.Whole.{line_says, lines_say, script_of}
 use Rattle.script_text.specs.Fed.{IsReading, IsFaulty}
-use Rattle.script_text.specs.Ended.{IsOpen, IsStopped}
+use Rattle.script_text.specs.Ended.{IsReadSoFar, IsStopped}
 use Rattle.script_text.proofs.Back.{lacks_both}
 use Rattle.script_text.proofs.Pieces.{ended_said, faulty_said, last_said, last_faulty, short_says, first_line, no_line}
 
@@ -68,7 +68,7 @@ one_stopped plans0 n0 begun0 piece plans n begun left i front reason so_far is f
           ∙ faulty_said n plans reason begun (take i left) (drop (i + 1) left) more so_far.unended one says';
     }
 
-pub all_ended : (plans0 : List DiskPlan) (n0 : ℕ) (begun0 piece : List ℕ) (plans : List DiskPlan) (n : ℕ) (begun left begun' : List ℕ) → HasEnded plans0 n0 begun0 piece plans n begun left → None ≡ position (λ b. b == 10) left → begun' ≡ begun ++ left → IsOpen plans0 n0 begun0 piece plans n begun'
+pub all_ended : (plans0 : List DiskPlan) (n0 : ℕ) (begun0 piece : List ℕ) (plans : List DiskPlan) (n : ℕ) (begun left begun' : List ℕ) → HasEnded plans0 n0 begun0 piece plans n begun left → None ≡ position (λ b. b == 10) left → begun' ≡ begun ++ left → IsReadSoFar plans0 n0 begun0 piece plans n begun'
 all_ended plans0 n0 begun0 piece plans n begun left begun' so_far is b =
     rw b (record {
       unended = lacks_both (λ b. b == 10) begun left so_far.unended (no_line left is);
@@ -77,7 +77,7 @@ all_ended plans0 n0 begun0 piece plans n begun left begun' so_far is b =
     })
 
 -- what the lines of a piece leave of a reading
-pub still_reading : (r r' : Reading) (bytes piece : List ℕ) → IsReading r bytes → IsOpen r.draft r.number r.line.items piece r'.draft r'.number r'.line.items → r'.length ≡ r.length + length piece → IsReading r' (bytes ++ piece)
+pub still_reading : (r r' : Reading) (bytes piece : List ℕ) → IsReading r bytes → IsReadSoFar r.draft r.number r.line.items piece r'.draft r'.number r'.line.items → r'.length ≡ r.length + length piece → IsReading r' (bytes ++ piece)
 still_reading r r' bytes piece is open' count = record {
   count = count ∙ ap (λ n. n + length piece) is.count ∙ sym (length-append bytes piece);
   said = λ more. ap (λ l. lines_say 1 [] (lines_of l)) (append_assoc bytes piece more) ∙ is.said (piece ++ more) ∙ open'.said more;

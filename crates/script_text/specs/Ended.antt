@@ -9,7 +9,7 @@ use Rattle.script_text.specs.OneLine.{is_one_line}
 use Rattle.script_text.specs.Whole.{lines_say}
 
 -- the lines from a begun one on say, whatever follows the piece, what these plans and the newly begun line say
-pub record IsOpen (plans : List DiskPlan) (n : ℕ) (begun piece : List ℕ) (plans' : List DiskPlan) (n' : ℕ) (begun' : List ℕ) : Type 0 where
+pub record IsReadSoFar (plans : List DiskPlan) (n : ℕ) (begun piece : List ℕ) (plans' : List DiskPlan) (n' : ℕ) (begun' : List ℕ) : Type 0 where
   pub unended : is_one_line begun' ≡ true
   pub few : n' ≤ n + length piece
   pub said : (more : List ℕ) → lines_say n plans (lines_of (begun ++ (piece ++ more))) ≡ lines_say n' plans' (lines_of (begun' ++ more))
@@ -18,6 +18,6 @@ pub record IsOpen (plans : List DiskPlan) (n : ℕ) (begun piece : List ℕ) (pl
 pub record IsStopped (plans : List DiskPlan) (n : ℕ) (begun piece : List ℕ) (line : ℕ) (reason : Reason) : Type 0 where
   pub said : (more : List ℕ) → lines_say n plans (lines_of (begun ++ (piece ++ more))) ≡ Err (line, reason)
 
-abbrev pub GoesOn : List DiskPlan → ℕ → List ℕ → List ℕ → Ended → Type 0
-GoesOn plans n begun piece (Open plans' n' begun') = IsOpen plans n begun piece plans' n' begun'.items
-GoesOn plans n begun piece (Faulty line reason) = IsStopped plans n begun piece line reason
+abbrev pub ReadsOn : List DiskPlan → ℕ → List ℕ → List ℕ → Ended → Type 0
+ReadsOn plans n begun piece (Open plans' n' begun') = IsReadSoFar plans n begun piece plans' n' begun'.items
+ReadsOn plans n begun piece (Faulty line reason) = IsStopped plans n begun piece line reason

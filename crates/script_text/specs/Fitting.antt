@@ -68,7 +68,7 @@ AreClients media [] = Unit {0}
 AreClients media (client ∷ more) = AreOrders media client.orders × AreClients media more
 
 -- a disk, each of whose numbers is within its limits
-pub record IsDisk (disk : DiskPlan) : Type 0 where
+pub record IsDiskPlan (disk : DiskPlan) : Type 0 where
   pub name : IsName disk.image
   pub size : is_block_size disk.size ≡ true
   pub workers : (1 ≤ disk.workers) × (disk.workers ≤ most_workers)
@@ -80,7 +80,7 @@ pub record IsDisk (disk : DiskPlan) : Type 0 where
 
 unfoldable pub AreDisks : List DiskPlan → Type 0
 AreDisks [] = Unit {0}
-AreDisks (disk ∷ more) = IsDisk disk × AreDisks more
+AreDisks (disk ∷ more) = IsDiskPlan disk × AreDisks more
 
 -- the images of all media in order
 unfoldable pub images_of : List DiskPlan → List (List ℕ)

@@ -98,15 +98,15 @@ client_words (word ∷ n ∷ []) =
 client_words words = Err Form
 
 -- a request on medium k: what it asks for, and the bytes that it brings
-abbrev pub request : Kind → UnitKind → ℕ → ℕ → Payload → ℕ → Order
-request kind units at n payload k = order.Request (record { kind = kind; unit = units; at = at; length = n }) payload k
+abbrev pub request_order : Kind → UnitKind → ℕ → ℕ → Payload → ℕ → Order
+request_order kind units at n payload k = order.Request (record { kind = kind; unit = units; at = at; length = n }) payload k
 
 -- `AT HEX`
 unfoldable pub given_order : UnitKind → ℕ → List (List ℕ) → Result Order Reason
 given_order units k (at ∷ hex ∷ []) = do
   a ← ok_or (number_of at) Number
   bytes ← ok_or (hex_of hex) Hex
-  Ok (request Write units a (length bytes) (Given bytes) k)
+  Ok (request_order Write units a (length bytes) (Given bytes) k)
 given_order units k words = Err Form
 
 -- `AT LENGTH BYTE`
@@ -115,7 +115,7 @@ fill_order k (at ∷ count ∷ byte ∷ []) = do
   a ← ok_or (number_of at) Number
   n ← ok_or (number_of count) Number
   b ← ok_or (byte_of byte) Hex
-  Ok (request Write Bytes a n (Fill b) k)
+  Ok (request_order Write Bytes a n (Fill b) k)
 fill_order k words = Err Form
 
 -- `AT LENGTH`
@@ -123,7 +123,7 @@ unfoldable pub sized_order : Kind → UnitKind → ℕ → List (List ℕ) → R
 sized_order kind units k (at ∷ count ∷ []) = do
   a ← ok_or (number_of at) Number
   n ← ok_or (number_of count) Number
-  Ok (request kind units a n Nothing k)
+  Ok (request_order kind units a n Nothing k)
 sized_order kind units k words = Err Form
 
 -- no word
@@ -140,7 +140,7 @@ aimed_order first k words =
     else if bytes_eq first (codes "wblocks") then given_order Blocks k words
     else if bytes_eq first (codes "rblocks") then sized_order Read Blocks k words
     else if bytes_eq first (codes "erase") then sized_order Erase Blocks k words
-    else if bytes_eq first (codes "flush") then alone (request Flush Bytes 0 0 Nothing k) words
+    else if bytes_eq first (codes "flush") then alone (request_order Flush Bytes 0 0 Nothing k) words
     else alone (order.Cancel k) words
 
 -- the same, with no word out of its place

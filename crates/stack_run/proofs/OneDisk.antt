@@ -13,15 +13,15 @@ use Rattle.history.specs.declared.order.Payload.TheVariants.{Given, Fill, Nothin
 use Rattle.script_text.specs.declared.language.plans.DiskPlan.{DiskPlan}
 use Rattle.script_text.specs.declared.language.plans.ClientPlan.{ClientPlan}
 use Rattle.script_text.specs.Fitting as fit
-use Rattle.script_text.specs.Fitting.{AreDisks, AreClients, IsDisk}
-use Rattle.stack_run.specs.Simple.{is_simple_request, is_simple_order, are_simple_clients, has_no_name, is_simple_disk, is_simple, Brings, IsOrder, AreOrders, IsSingle}
+use Rattle.script_text.specs.Fitting.{AreDisks, AreClients, IsDiskPlan}
+use Rattle.stack_run.specs.Simple.{is_simple_request, is_simple_order, are_simple_clients, has_no_name, is_simple_disk, is_simple, BringsSimply, IsSimpleOrder, AreSimpleOrders, IsSingle}
 
 both : (a b : Bool) → (a && b) ≡ true → (a ≡ true) × (b ≡ true)
 both true b is = (refl, is)
 both false b is = absurd (cc)
 
 -- the disk
-pub first-disk : (disks : List DiskPlan) (plan : DiskPlan) → IsSingle disks → AreDisks disks → plan ≡ get_or disks 0 plan → IsDisk plan
+pub first-disk : (disks : List DiskPlan) (plan : DiskPlan) → IsSingle disks → AreDisks disks → plan ≡ get_or disks 0 plan → IsDiskPlan plan
 unfolding fit.AreDisks
 first-disk [] plan single are at = absurd single
 first-disk (disk ∷ []) plan single are at = rw at are.0
@@ -65,7 +65,7 @@ in-bytes : (kind : Kind) (units : UnitKind) (payload : Payload) → is_simple_re
 in-bytes kind Bytes payload is = refl
 in-bytes kind Blocks payload is = absurd (cc)
 
-brings : (kind : Kind) (units : UnitKind) (payload : Payload) (n : ℕ) → is_simple_request kind units payload ≡ true → fit.Brings kind units payload n → Brings kind payload n
+brings : (kind : Kind) (units : UnitKind) (payload : Payload) (n : ℕ) → is_simple_request kind units payload ≡ true → fit.Brings kind units payload n → BringsSimply kind payload n
 brings Read Bytes (Given bytes) n is b = absurd b
 brings Read Bytes (Fill byte) n is b = absurd b
 brings Read Bytes Nothing n is b = tt
@@ -76,7 +76,7 @@ brings Flush Bytes payload n is b = absurd (cc)
 brings Erase Bytes payload n is b = absurd (cc)
 brings kind Blocks payload n is b = absurd (cc)
 
-simple-order : (media : ℕ) (one : Order) → is_simple_order one ≡ true → fit.IsOrder media one → IsOrder one
+simple-order : (media : ℕ) (one : Order) → is_simple_order one ≡ true → fit.IsOrder media one → IsSimpleOrder one
 simple-order media (order.Request asked payload k) is fits =
     let (request, medium) = both (is_simple_request asked.kind asked.unit payload) (nat_eq k 1) is in
     record {
@@ -93,14 +93,14 @@ simple-order media order.Eject is fits = absurd (cc)
 simple-order media order.Insert is fits = absurd (cc)
 simple-order media (order.Protect on) is fits = absurd (cc)
 
-simple-orders : (media : ℕ) (orders : List Order) → list_all is_simple_order orders ≡ true → fit.AreOrders media orders → AreOrders orders
-unfolding fit.AreOrders AreOrders
+simple-orders : (media : ℕ) (orders : List Order) → list_all is_simple_order orders ≡ true → fit.AreOrders media orders → AreSimpleOrders orders
+unfolding fit.AreOrders AreSimpleOrders
 simple-orders media [] is are = tt
 simple-orders media (one ∷ more) is are =
     let (here, later) = both (is_simple_order one) (list_all is_simple_order more) is in
     (simple-order media one here are.0, simple-orders media more later are.1)
 
-pub first-client : (media : ℕ) (clients : List ClientPlan) (client : ClientPlan) → are_simple_clients clients ≡ true → AreClients media clients → client ≡ get_or clients 0 client → AreOrders client.orders
+pub first-client : (media : ℕ) (clients : List ClientPlan) (client : ClientPlan) → are_simple_clients clients ≡ true → AreClients media clients → client ≡ get_or clients 0 client → AreSimpleOrders client.orders
 unfolding fit.AreClients
 first-client media [] client is are at = absurd (cc)
 first-client media (first ∷ []) client is are at = rw at (simple-orders media first.orders (both (is_none first.part) (list_all is_simple_order first.orders) is).1 are.0)

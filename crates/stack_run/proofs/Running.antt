@@ -16,7 +16,7 @@ use Rattle.history.specs.Tokens.{accepted, request, was_collected}
 use Rattle.history.specs.Marks.{mark_of}
 use Rattle.history.specs.Next.{first_open}
 use Rattle.script_text.specs.declared.report.parts.TokenLine.{TokenLine}
-use Rattle.stack_run.specs.Simple.{IsOrder, AreOrders}
+use Rattle.stack_run.specs.Simple.{IsSimpleOrder, AreSimpleOrders}
 use Rattle.script_text.specs.Report.{givens_of, AreEnds, IsGiven, AreGiven}
 use Rattle.stack_run.specs.Plain.{whole_view, after_answer, outcomes_of, plain_history}
 use Rattle.stack_run.specs.Leading.{Leads, IsStep}
@@ -64,14 +64,14 @@ keeps-none S = record {
   ended = λ t line is. cc;
 }
 
-order-at : (orders : List Order) (i : ℕ) (line : Order) → AreOrders orders → slice_get orders i ≡ Some line → IsOrder line
-unfolding AreOrders
+order-at : (orders : List Order) (i : ℕ) (line : Order) → AreSimpleOrders orders → slice_get orders i ≡ Some line → IsSimpleOrder line
+unfolding AreSimpleOrders
 order-at [] i line fits is = cc
 order-at (o ∷ rest) zero line fits is = let same : o ≡ line = cc in rw (← same) (fits.0)
 order-at (o ∷ rest) (suc i) line fits is = order-at rest i line fits.1 is
 
 -- the line at a place, as the loop reads it
-pub line-fits : (orders : List Order) (i n : ℕ) (line : Order) → AreOrders orders → i < n → n ≡ length orders → line ≡ get_or orders i line → IsOrder line
+pub line-fits : (orders : List Order) (i n : ℕ) (line : Order) → AreSimpleOrders orders → i < n → n ≡ length orders → line ≡ get_or orders i line → IsSimpleOrder line
 line-fits orders i n line fits lt all is = order-at orders i line fits (slice_get_read orders n i line all lt is)
 
 drop-at : {X : Type 0} (xs : List X) (i : ℕ) (x : X) → slice_get xs i ≡ Some x → drop i xs ≡ x ∷ drop (i + 1) xs

@@ -75,32 +75,32 @@ unfoldable pub said_of : List ℕ → Result (List DiskPlan) (ℕ × Reason)
 said_of bytes = script_of bytes >>= simple_alone
 
 -- a read brings no bytes, a write as many as it asks for
-abbrev pub Brings : Kind → Payload → ℕ → Type 0
-Brings Read Nothing n = Unit {0}
-Brings Write (Given bytes) n = length bytes ≡ n
-Brings Write (Fill b) n = Unit {0}
-Brings kind payload n = ⊥
+abbrev pub BringsSimply : Kind → Payload → ℕ → Type 0
+BringsSimply Read Nothing n = Unit {0}
+BringsSimply Write (Given bytes) n = length bytes ≡ n
+BringsSimply Write (Fill b) n = Unit {0}
+BringsSimply kind payload n = ⊥
 
 -- a request of a line: its place in bytes, on medium 1
-pub record IsRequest (asked : Asked) (payload : Payload) (media_id : ℕ) : Type 0 where
+pub record IsSimpleRequest (asked : Asked) (payload : Payload) (media_id : ℕ) : Type 0 where
   pub unit : asked.unit ≡ Bytes
   pub at : asked.at < 2 ^ 64
   pub most : asked.length ≤ most_request_bytes
-  pub brings : Brings asked.kind payload asked.length
+  pub brings : BringsSimply asked.kind payload asked.length
   pub medium : media_id ≡ 1
 
-abbrev pub IsOrder : Order → Type 0
-IsOrder (Request asked payload media_id) = IsRequest asked payload media_id
-IsOrder Wait = Unit {0}
-IsOrder (Cancel k) = ⊥
-IsOrder Reset = ⊥
-IsOrder Eject = ⊥
-IsOrder Insert = ⊥
-IsOrder (Protect on) = ⊥
+abbrev pub IsSimpleOrder : Order → Type 0
+IsSimpleOrder (Request asked payload media_id) = IsSimpleRequest asked payload media_id
+IsSimpleOrder Wait = Unit {0}
+IsSimpleOrder (Cancel k) = ⊥
+IsSimpleOrder Reset = ⊥
+IsSimpleOrder Eject = ⊥
+IsSimpleOrder Insert = ⊥
+IsSimpleOrder (Protect on) = ⊥
 
-unfoldable pub AreOrders : List Order → Type 0
-AreOrders [] = Unit {0}
-AreOrders (one ∷ more) = IsOrder one × AreOrders more
+unfoldable pub AreSimpleOrders : List Order → Type 0
+AreSimpleOrders [] = Unit {0}
+AreSimpleOrders (one ∷ more) = IsSimpleOrder one × AreSimpleOrders more
 
 -- one disk with one client
 abbrev pub IsSingle : List DiskPlan → Type 0

@@ -6,7 +6,7 @@ ghost use Rattle.history.specs.Next.{first_open};
 ghost use Rattle.disk_core.specs.Calls.{asked_of, bytes_of};
 ghost use Rattle.disk_core.specs.Facts.{AreFacts};
 ghost use Rattle.disk_core.specs.Turns.{IsIdle, KeepsGates};
-ghost use Rattle.stack_run.specs.Simple.{IsRequest, IsOrder, AreOrders};
+ghost use Rattle.stack_run.specs.Simple.{IsSimpleRequest, IsSimpleOrder, AreSimpleOrders};
 ghost use Rattle.script_text.specs.Report.{givens_of, AreEnds, AreGiven};
 ghost use Rattle.stack_run.specs.Plain.{payload_bytes, whole_view, outcomes_of, plain_history};
 ghost use Rattle.stack_run.specs.Keeping.{StepsOnce, Waits, Keeps, Answers, TakesLine};
@@ -79,7 +79,7 @@ fn whole_medium<M: Medium>(disk: &Disk<M>) -> View
 
 // What a line asks the disk for, with a buffer of its own. The error is want of memory.
 fn ask_of(alloc: Global, asked: &Asked, payload: &Payload) -> Result<Ask, AllocError>
-    requires { IsRequest asked.now payload.now 1 }
+    requires { IsSimpleRequest asked.now payload.now 1 }
     ensures asked { IfOk result (λ ask. asked_of ask ≡ asked.now) }
     ensures bytes { IfOk result (λ ask. bytes_of ask ≡ payload_bytes asked.now.length payload.now) }
     ensures most { IfOk result (λ ask. (asked_of ask).length ≤ 2 ^ 24) }
@@ -111,7 +111,7 @@ fn submit_line<M: Medium>(
     kept: &mut Kept,
 ) -> Result<(), AllocError>
     requires view { view.now ≡ whole_view disk.old.setup 1 }
-    requires fits { IsRequest asked.now payload.now media_id }
+    requires fits { IsSimpleRequest asked.now payload.now media_id }
     requires keeps { Keeps disk.old.setup disk.old.entries kept.old.kinds.items kept.old.ends.items }
     ensures stays { KeepsGates disk.old disk.new }
     ensures answers { OnOk result (Answers disk.old.setup disk.old.entries disk.new.entries asked.now payload.now media_id kept.new.kinds.items kept.new.ends.items) }
@@ -138,7 +138,7 @@ fn take_line<M: Medium>(
     kept: &mut Kept,
 ) -> Result<(), AllocError>
     requires view { view.now ≡ whole_view disk.old.setup 1 }
-    requires fits { IsOrder line.now }
+    requires fits { IsSimpleOrder line.now }
     requires idle { IsIdle disk.old.gates }
     requires keeps { Keeps disk.old.setup disk.old.entries kept.old.kinds.items kept.old.ends.items }
     ensures stays { KeepsGates disk.old disk.new }
@@ -176,7 +176,7 @@ pub fn run_lines<M: Medium>(
 ) -> Result<Vec<TokenLine>, AllocError>
     requires fresh { disk.old.entries ≡ [] }
     requires set { 0 < disk.old.gates.free }
-    requires orders { AreOrders orders.now }
+    requires orders { AreSimpleOrders orders.now }
     ensures setup { disk.new.setup ≡ disk.old.setup }
     ensures plain { OnOk result (disk.new.entries ≡ plain_history disk.old.setup orders.now (outcomes_of disk.new.entries)) }
     ensures faultless { OnOk result (faults disk.new.entries ≡ 0 → disk.new.entries ≡ plain_history disk.old.setup orders.now []) }

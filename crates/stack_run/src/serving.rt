@@ -4,8 +4,8 @@ ghost use Rattle.medium.specs.Device.{IsFresh};
 ghost use Rattle.image_store.specs.Edge.{Appends, AppendsFront, HasCauseOf, PutsText};
 ghost use Rattle.image_store.specs.Place.{IsFree, IsTaken, IsTaking, ChangesOnly, MayBeShort, put_place};
 ghost use Rattle.history.specs.Setup.{Setup};
-ghost use Rattle.script_text.specs.Fitting.{IsDisk};
-ghost use Rattle.stack_run.specs.Simple.{AreOrders};
+ghost use Rattle.script_text.specs.Fitting.{IsDiskPlan};
+ghost use Rattle.stack_run.specs.Simple.{AreSimpleOrders};
 ghost use Rattle.script_text.specs.Report.{AreEnds};
 ghost use Rattle.stack_run.specs.Serving.{RanOver, RanSome, RanDisk, Served, ImageFails, MayLeave, LacksBlock, blocks_alone, disk_over, run_report};
 
@@ -34,7 +34,7 @@ fn run_disk<M: Medium>(alloc: Global, mut disk: Disk<M>, orders: &[Order]) -> (M
     requires fresh { disk.entries ≡ [] }
     requires set { 0 < disk.gates.free }
     requires alone { length disk.setup.media ≡ 1 }
-    requires orders { AreOrders orders.now }
+    requires orders { AreSimpleOrders orders.now }
     ensures over { IfSome result.1 (λ run. RanOver disk.setup orders.now (M.device result.0) run) }
     ensures some { RanSome disk.setup (M.device result.0) }
 {
@@ -59,7 +59,7 @@ fn run_disk<M: Medium>(alloc: Global, mut disk: Disk<M>, orders: &[Order]) -> (M
 fn run_medium<M: Medium>(alloc: Global, medium: M, orders: &[Order]) -> (M, Option<Run>)
     requires fresh { IsFresh (M.device medium) }
     requires uncached { (M.device medium).cached ≡ false }
-    requires orders { AreOrders orders.now }
+    requires orders { AreSimpleOrders orders.now }
     ensures over { IfSome result.1 (λ run. RanOver (disk_over (M.device medium)) orders.now (M.device result.0) run) }
     ensures some { RanSome (disk_over (M.device medium)) (M.device result.0) }
 {
@@ -75,7 +75,7 @@ fn run_medium<M: Medium>(alloc: Global, medium: M, orders: &[Order]) -> (M, Opti
 
 // Takes the image of a disk as its medium.
 fn take_image<I: Images>(alloc: Global, plan: &DiskPlan, images: &mut I) -> Result<I::M, NotRun>
-    requires disk { IsDisk plan.now }
+    requires disk { IsDiskPlan plan.now }
     requires free { IsFree (I.at images.old plan.now.image).place }
     ensures taken { IfOk result (λ medium. IsTaking (I.at images.old plan.now.image).place (I.at images.new plan.now.image).place plan.now.size false (I.M.device medium)) }
     ensures stays { OnErr result ((I.at images.new plan.now.image).place ≡ (I.at images.old plan.now.image).place) }
@@ -122,8 +122,8 @@ fn run_image<I: Images>(
     client: &ClientPlan,
     images: &mut I,
 ) -> Result<Run, NotRun>
-    requires disk { IsDisk plan.now }
-    requires orders { AreOrders client.now.orders }
+    requires disk { IsDiskPlan plan.now }
+    requires orders { AreSimpleOrders client.now.orders }
     requires free { IsFree (I.at images.old plan.now.image).place }
     ensures ran { IfOk result (λ run. RanDisk plan.now client.now (I.at images.old plan.now.image) (I.at images.new plan.now.image) run) }
     ensures image { IsErrOf result NotRun.Image → ImageFails plan.now client.now (I.at images.old plan.now.image) (I.at images.new plan.now.image) }
@@ -189,9 +189,9 @@ pub fn serve<I: Images, O: Sink>(
     images: &mut I,
     out: &mut O,
 ) -> Result<(), Unserved>
-    requires disk { IsDisk plan.now }
+    requires disk { IsDiskPlan plan.now }
     requires alone { plan.now.physical ≡ 1 }
-    requires orders { AreOrders client.now.orders }
+    requires orders { AreSimpleOrders client.now.orders }
     requires free { IsFree (I.at images.old plan.now.image).place }
     ensures served { OnOk result (Served plan.now client.now (I.at images.old) (I.at images.new) (Appends (O.wrote out.old) (O.wrote out.new))) }
     ensures image { IsErrOf result Unserved.Image → ImageFails plan.now client.now (I.at images.old plan.now.image) (I.at images.new plan.now.image) }

@@ -6,7 +6,7 @@ ghost use Rattle.script_text.specs.OneLine.{is_one_line};
 ghost use Rattle.script_text.specs.Replies.{Says, Tells};
 ghost use Rattle.script_text.specs.Whole.{script_of, line_says};
 ghost use Rattle.script_text.specs.Fed.{StandsFor, IsReading, IsFaulty};
-ghost use Rattle.script_text.specs.Ended.{GoesOn};
+ghost use Rattle.script_text.specs.Ended.{ReadsOn};
 
 use crate::language::draft::Draft;
 use crate::language::ended::Ended;
@@ -115,7 +115,7 @@ fn end_lines(
 ) -> Result<Ended, AllocError>
     requires unended { is_one_line line.items ≡ true }
     requires few { number + length piece.now < 2 ^ 64 }
-    ensures { IfOk result (GoesOn draft number line.items piece.now) }
+    ensures { IfOk result (ReadsOn draft number line.items piece.now) }
 {
     let mut plans = draft;
     let mut next = number;
