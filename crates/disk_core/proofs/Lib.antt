@@ -71,4 +71,4 @@ pub mod TurnLemmas
 pub mod AtOnceLemmas
 pub mod IdleLemmas
 mod Wrote
-mod GoingOn
+pub mod GoingOn

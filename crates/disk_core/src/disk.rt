@@ -277,10 +277,11 @@ impl<M: Medium> Disk<M> {
         &self.core.history
     }
 
-    /// The drive, which follows the history.
-    #[tactic(auto, unfolding(crate::specs::Parts::state_of, crate::specs::Parts::kept_of))]
+    /// The drive, which follows the history; the setup is read off it, but for the protection at the beginning.
+    #[tactic(auto, unfolding(crate::specs::Parts::state_of, crate::specs::Parts::kept_of, crate::specs::State::setup_of))]
     pub fn drive(&self) -> &Drive<M>
         ensures setup { IsSetup self.now.setup }
+        ensures read_off { self.now.setup ≡ setup_of M.device result.now self.now.setup.protected }
         ensures fit { FitTheDrive M.device result.now }
         ensures devices { devices_of M.device result.now ≡ self.now.devices }
         ensures media_id { result.now.media_id ≡ media_id_of self.now.entries }
