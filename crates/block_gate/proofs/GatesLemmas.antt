@@ -1,8 +1,8 @@
 -- What callers need of the gates: the gate of a ticket, and whether its work is out, after each call.
-use Rattle.std.proofs.Common.{◌≡◌, ℕ, ◌+◌, ◌<◌, ◌≤◌, Bool, true, false, cond, ◌&&◌, List, [], ◌∷◌, ◌++◌, min, Option, None, Some, is_some, option_map, eqb, nat_le, nat_lt, inl, inr, eq-eqb, refl, sym, ◌∙◌, ap, arith}
+use Rattle.std.proofs.Common.{◌≡◌, ℕ, Bool, true, false, cond, List, [], ◌∷◌, ◌++◌, Option, None, Some, option_map, eqb, inl, inr, eq-eqb, refl, sym, ◌∙◌, ap}
 use Rattle.std.specs.List.{list_any}
-use Rattle.std.proofs.lemmas.Bool.{cases_Bool, ne_eqb, eqb-true, eqb-false, or_parts, or_left, or_right, and_from, lt-ltb, le-leb}
-use Rattle.block_gate.specs.Gates.{Gate, gate_of, is_block_held, is_range_held, lesser, least_ticket, without_ticket, turned}
+use Rattle.std.proofs.lemmas.Bool.{cases_Bool, ne_eqb, eqb-true, or_left, or_right}
+use Rattle.block_gate.specs.Gates.{Gate, gate_of, is_block_held, lesser, least_ticket, without_ticket, turned}
 
 pub gate-new : (held : List Gate) (t : ℕ) (g : Gate) → gate_of held t ≡ None → g.ticket ≡ t → gate_of (held ++ g ∷ []) t ≡ Some g
 unfolding gate_of

@@ -9,7 +9,7 @@ use Rattle.disk_split.specs.declared.geometry.Geometry.{Geometry}
 use Rattle.disk_split.specs.declared.span.Span.{Span}
 use Rattle.disk_split.specs.declared.parts.Part.{Part}
 use Rattle.disk_split.specs.Parts.{part_of, spans_of}
-use Rattle.disk_split.specs.Units.{IsGeometry, up, whole_of, whole_end, middle, group_size, first_whole, whole_blocks, whole_runs, part_in, run_at, runs_from, units_of, IsKind, IsRun, IsUnit, IsWhole, AreUnits}
+use Rattle.disk_split.specs.Units.{IsGeometry, up, whole_end, middle, group_size, first_whole, whole_blocks, part_in, run_at, runs_from, units_of, IsKind, IsRun, IsUnit, IsWhole, AreUnits}
 use Rattle.disk_split.proofs.Shared.{are-get, unit-listed}
 use Rattle.disk_split.proofs.Rounding.{whole-numbers, group-some}
 

@@ -4,8 +4,8 @@ use Rattle.std.proofs.lemmas.Bool.{cases_lt, lt-ltb, le-ltb}
 use Rattle.std.proofs.Math.Nat.{add-mul, div-mul-le_self, mul-le-mul_right, mul-div_left}
 use Rattle.disk_split.specs.declared.geometry.Geometry.{Geometry}
 use Rattle.disk_split.specs.declared.span.Span.{Span}
-use Rattle.disk_split.specs.Units.{IsGeometry, up, whole_of, whole_end, middle, group_size, first_whole, whole_blocks, whole_runs, IsPart, IsUnit, part_in, run_at, runs_from, units_of, AreUnits}
-use Rattle.disk_split.proofs.Rounding.{up-reaches, up-near, border-next, inside, whole_of-some, whole_end-some, whole_end-none, behind, wider, group-bytes, group-some, first-whole-bytes, whole-bytes}
+use Rattle.disk_split.specs.Units.{IsGeometry, up, whole_of, whole_end, middle, group_size, first_whole, whole_blocks, IsPart, IsUnit, part_in, run_at, runs_from, units_of, AreUnits}
+use Rattle.disk_split.proofs.Rounding.{up-reaches, up-near, border-next, inside, whole_of-some, whole_end-some, whole_end-none, behind, wider, group-bytes, group-some, first-whole-bytes}
 
 pub are-append : (G : Geometry) (a z : ℕ) (us vs : List Span) → AreUnits G a z us → AreUnits G a z vs → AreUnits G a z (us ++ vs)
 unfolding AreUnits

@@ -1,5 +1,5 @@
 -- A drive: the media of one disk by id, which of them is in, and its protection (own profile).
-use Rattle.std.specs.Prelude.{◌≡◌, ℕ, ◌+◌, ◌-◌, ◌%◌, ◌<◌, ◌≤◌, ◌==◌, ◌||◌, nat_lt, Bool, true, List, length, map, slice_get, slice_set, All, Option, None, Some, Result, Ok, Err, if◌then◌else◌}
+use Rattle.std.specs.Prelude.{◌≡◌, ℕ, ◌+◌, ◌-◌, ◌%◌, ◌<◌, ◌≤◌, ◌==◌, ◌||◌, nat_lt, Bool, true, List, length, map, slice_get, slice_set, All, Option, None, Result, Ok, Err, if◌then◌else◌}
 use Rattle.medium.specs.Device.{Device, IsFresh, IsBlockSize}
 use Rattle.drive.specs.declared.answers.InsertFault.{InsertFault}
 use Rattle.drive.specs.declared.answers.InsertFault.TheVariants.{Occupied, NoSpare}

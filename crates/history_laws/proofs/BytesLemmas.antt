@@ -1,5 +1,5 @@
 -- The bytes of a request between two places, and whose bytes are told.
-use Rattle.std.proofs.Common.{List, None, Option, Some, [], ap, arith, drop, if◌then◌else◌, inl, inr, length, length-drop, length-take, option_map, refl, suc, take, zero, ℕ, ◌*◌, ◌+◌, ◌-◌, ◌/◌, ◌<◌, ◌^◌, ◌∙◌, ◌∷◌, ◌≡◌, ◌≤◌, ◌⊎◌}
+use Rattle.std.proofs.Common.{List, None, Option, Some, [], ap, arith, drop, inl, inr, length, length-drop, length-take, option_map, refl, suc, take, zero, ℕ, ◌+◌, ◌-◌, ◌∙◌, ◌∷◌, ◌≡◌, ◌≤◌}
 use Rattle.std.proofs.lemmas.Bool.{cases_lt}
 use Rattle.std.proofs.lemmas.List.{length-take, take_all}
 use Rattle.std.specs.Prelude.{min}

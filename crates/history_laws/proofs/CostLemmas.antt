@@ -1,7 +1,7 @@
 -- What a token may cost in commands, by the bytes of its range.
-use Rattle.std.proofs.Common.{Bool, List, [], arith, false, map, refl, suc, true, zero, ℕ, ◌*◌, ◌++◌, ◌+◌, ◌-◌, ◌/◌, ◌∙◌, ◌∷◌, ◌≡◌, ◌≤◌}
+use Rattle.std.proofs.Common.{Bool, List, [], arith, false, map, refl, suc, true, zero, ℕ, ◌+◌, ◌∷◌, ◌≡◌, ◌≤◌}
 use Rattle.std.proofs.lemmas.List.Sums.{sum_by-cons}
-use Rattle.std.specs.Prelude.{if◌then◌else◌, sum_by}
+use Rattle.std.specs.Prelude.{sum_by}
 use Rattle.disk_split.specs.Units.{Tile, run_at, runs_from}
 use Rattle.disk_split.specs.declared.span.Span.{Span}
 use Rattle.history.specs.Room.{one_unless, part_owed, span_owed, task_owed}

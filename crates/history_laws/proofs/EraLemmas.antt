@@ -1,14 +1,14 @@
 -- What cancels, resets, ejections, insertions and protections end, and what stays of the media that are out.
 use Rattle.std.proofs.Common.{◌≡◌, ◌≢◌, ℕ, ◌+◌, ◌<◌, ◌≤◌, inl, inr, Bool, true, false, not, ◌&&◌, if◌then◌else◌, List, [], ◌∷◌, Option, None, Some, is_none, option_map, refl, ◌∙◌, ap, arith, nat_eq, nat_lt}
 use Rattle.std.specs.List.{count_by}
-use Rattle.std.proofs.lemmas.Bool.{cases_Bool, and_right, both_ways, eq-eqb, ne_eqb, lt-ltb}
+use Rattle.std.proofs.lemmas.Bool.{cases_Bool, and_right, both_ways, eq-eqb, ne_eqb}
 use Rattle.std.proofs.lemmas.List.Sums.{sum_by-cons}
 use Rattle.efi_status.specs.declared.Status.{Status}
 use Rattle.efi_status.specs.declared.Status.TheVariants.{WriteProtected, NoMedia, Aborted}
 use Rattle.history.specs.declared.entry.View.{View}
 use Rattle.history.specs.declared.entry.Command.{Command}
 use Rattle.history.specs.declared.entry.Entry.{Entry}
-use Rattle.history.specs.declared.entry.Entry.TheVariants.{Done, Fault, Cancel, Reset, Eject, Insert, Protect}
+use Rattle.history.specs.declared.entry.Entry.TheVariants.{Done, Fault, Cancel, Reset, Eject, Protect}
 use Rattle.history.specs.Setup.{Setup, first_of}
 use Rattle.history.specs.Eras.{is_command, is_fault, is_insert, media_id_of, is_present, is_protected, era_count, era_commands, era_faults}
 use Rattle.history.specs.Tokens.{is_accept, accepted, request}

@@ -1,8 +1,8 @@
 -- What a fetch changes: the tickets, the next command of its part, and who holds its group.
-use Rattle.std.proofs.Common.{Bool, List, Some, [], ap, arith, cond, false, find, if◌then◌else◌, inl, inr, length, nat_eq, option_map, refl, slice_get, subst, suc, sym, true, ℕ, ◌&&◌, ◌*◌, ◌+◌, ◌-◌, ◌/◌, ◌<◌, ◌^◌, ◌||◌, ◌∙◌, ◌∷◌, ◌≡◌, ◌≢◌, ◌≤◌, ◌⊎◌}
+use Rattle.std.proofs.Common.{Bool, List, Some, [], ap, arith, cond, false, find, if◌then◌else◌, inl, inr, length, nat_eq, option_map, refl, slice_get, subst, suc, sym, true, ℕ, ◌∙◌, ◌∷◌, ◌≡◌, ◌≢◌, ◌≤◌}
 use Rattle.std.proofs.lemmas.Bool.{cases_Bool, eq-eqb, or_left, true≢false}
 use Rattle.std.proofs.lemmas.List.Sums.{count_by-le-length}
-use Rattle.std.specs.Prelude.{find, if◌then◌else◌, nat_eq, ◌==◌}
+use Rattle.std.specs.Prelude.{find, if◌then◌else◌, nat_eq}
 use Rattle.history.specs.Commands.{done_commands, has_done, is_at, is_fetch}
 use Rattle.history.specs.Marks.{fetches, is_fetch_entry, is_held, ticket_of, was_fetched}
 use Rattle.history.specs.Next.{next_turn}

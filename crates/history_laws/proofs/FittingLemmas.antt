@@ -1,8 +1,7 @@
 -- The units of an outstanding token fit its medium, and an era has no more commands than the history has entries.
-use Rattle.std.proofs.Common.{Bool, List, Some, ap, arith, false, inl, inr, length, refl, subst, sym, true, ℕ, ◌*◌, ◌+◌, ◌-◌, ◌/◌, ◌<◌, ◌^◌, ◌∙◌, ◌∷◌, ◌≡◌, ◌≤◌}
+use Rattle.std.proofs.Common.{Bool, List, Some, ap, arith, false, inl, inr, length, refl, subst, sym, true, ℕ, ◌*◌, ◌+◌, ◌/◌, ◌<◌, ◌∙◌, ◌≡◌, ◌≤◌}
 use Rattle.std.proofs.Math.Nat.{div-mul-le_self, lt_of_mul-lt-mul_right, mod-eq-sub-div-mul, mul-le-mul_right, mul_assoc, mul_comm}
 use Rattle.std.proofs.lemmas.Bool.{cases_lt}
-use Rattle.std.specs.Prelude.{if◌then◌else◌}
 use Rattle.disk_split.specs.Units.{IsKind, IsUnit}
 use Rattle.disk_split.specs.declared.span.Span.{Span}
 use Rattle.history.specs.Eras.{era_commands, era_faults, is_command, is_fault, media_id_of}

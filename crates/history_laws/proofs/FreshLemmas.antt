@@ -1,5 +1,5 @@
 -- What the empty history says.
-use Rattle.std.proofs.Common.{Bool, List, None, Option, Some, [], arith, false, if◌then◌else◌, length, option_map, refl, subst, true, ℕ, ◌*◌, ◌+◌, ◌-◌, ◌<◌, ◌∙◌, ◌≡◌, ◌≤◌}
+use Rattle.std.proofs.Common.{Bool, List, None, Option, Some, [], arith, false, if◌then◌else◌, length, option_map, refl, subst, true, ℕ, ◌*◌, ◌-◌, ◌<◌, ◌≡◌, ◌≤◌}
 use Rattle.history.specs.Commands.{done_commands, has_done}
 use Rattle.history.specs.Contents.{contents, flushed_contents, kept_contents, patch_all, pieces_of}
 use Rattle.history.specs.Eras.{ejects, inserts}

@@ -1,7 +1,6 @@
 -- Who holds a group after an entry, and that at most one token does.
 use Rattle.std.proofs.Common.{◌≡◌, ◌⊎◌, ℕ, ◌<◌, inl, inr, true, false, not, ◌&&◌, List, [], ◌∷◌, Option, None, Some, is_some, refl, sym, ◌∙◌, ap, subst, arith, nat_eq}
-use Rattle.std.proofs.lemmas.Bool.{cases_eq, or_cases, or_parts, or_left, and_parts, and_from, eq-eqb, eqb-true, both_ways, not-true, not_from_false, false_from_ne_true}
-use Rattle.efi_status.specs.declared.Status.{Status}
+use Rattle.std.proofs.lemmas.Bool.{cases_eq, or_cases, or_parts, or_left, and_parts, and_from, eq-eqb, eqb-true, both_ways, not-true, not_from_false}
 use Rattle.efi_status.specs.declared.Status.TheVariants.{Success}
 use Rattle.disk_split.specs.Units.{IsKind, group_start}
 use Rattle.history.specs.declared.entry.Kind.{Kind}
@@ -18,8 +17,8 @@ use Rattle.history.specs.Rules.{HasPart, IsUnheld, MayCommand, MayFollow, IsLega
 use Rattle.history_laws.specs.Told.{concerns}
 use Rattle.history_laws.specs.Units.{IsTaskCommand}
 use Rattle.history_laws.proofs.CountLemmas.{accepted-none, accepted-more, accepted-same}
-use Rattle.history_laws.proofs.TokenLemmas.{has_done-done, has_done-other, has_done-same, done-concerns, request-same, mark-other}
-use Rattle.history_laws.proofs.EndLemmas.{accepted-rises, mark-before, mark-done, open-request, unaccepted, untold-has_done}
+use Rattle.history_laws.proofs.TokenLemmas.{has_done-done, has_done-other, has_done-same, done-concerns, request-same}
+use Rattle.history_laws.proofs.EndLemmas.{mark-before, mark-done, open-request, unaccepted, untold-has_done}
 use Rattle.history_laws.proofs.ScanLemmas.{all_from-same, first_from-some, first_from-fails}
 use Rattle.history_laws.proofs.UnitLemmas.{done-tasks, find-command, moved-same}
 use Rattle.history_laws.proofs.TaskLemmas.{complete-moved, open-incomplete}

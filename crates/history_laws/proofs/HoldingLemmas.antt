@@ -1,5 +1,5 @@
 -- A token that holds a group is not complete.
-use Rattle.std.proofs.Common.{List, None, Some, [], ap, arith, false, if◌then◌else◌, inl, inr, option_map, refl, slice_get, sym, true, ℕ, ◌*◌, ◌+◌, ◌-◌, ◌||◌, ◌∙◌, ◌∷◌, ◌≡◌, ◌≤◌, ◌⊎◌}
+use Rattle.std.proofs.Common.{List, None, Some, [], ap, arith, false, inl, inr, option_map, refl, slice_get, sym, true, ℕ, ◌||◌, ◌∙◌, ◌∷◌, ◌≡◌, ◌⊎◌}
 use Rattle.std.proofs.lemmas.Bool.{and_left, and_right, both_ways, cases_eq, eq-eqb, ne_eqb, or_parts}
 use Rattle.std.proofs.lemmas.Option.{slice_get-map}
 use Rattle.std.specs.List.{list_any}

@@ -1,9 +1,9 @@
 -- An outstanding token has a unit that is left, and the first that may run.
-use Rattle.std.proofs.Common.{Bool, List, Some, [], ap, arith, inl, inr, map, nat_eq, not, refl, subst, suc, true, zero, ℕ, ◌+◌, ◌-◌, ◌<◌, ◌||◌, ◌∙◌, ◌∷◌, ◌≡◌, ◌≤◌}
+use Rattle.std.proofs.Common.{Bool, List, Some, [], ap, arith, inl, inr, map, nat_eq, not, refl, subst, suc, true, zero, ℕ, ◌<◌, ◌||◌, ◌∙◌, ◌∷◌, ◌≡◌}
 use Rattle.std.proofs.lemmas.Bool.{cases_Bool, cases_eq, eq-eqb, or_left, or_right}
 use Rattle.std.proofs.lemmas.List.Folds.{list_any-append}
 use Rattle.std.specs.List.{find, list_any}
-use Rattle.std.specs.Prelude.{filter, if◌then◌else◌}
+use Rattle.std.specs.Prelude.{filter}
 use Rattle.history.specs.Marks.{IsOutstanding, is_held}
 use Rattle.history.specs.Next.{next_task}
 use Rattle.history.specs.Rules.{IsLegal, MayCommand}

@@ -1,26 +1,17 @@
 -- Which units are taken away by the entries that end tokens.
-use Rattle.std.proofs.Common.{◌≡◌, ◌⊎◌, ℕ, suc, inl, inr, Bool, true, false, not, ◌&&◌, List, [], ◌∷◌, slice_get, filter, None, Some, is_none, refl, sym, ◌∙◌, ap, nat_eq}
-use Rattle.std.proofs.lemmas.Bool.{cases_eq, and_left, eq-eqb, ne_eqb}
+use Rattle.std.proofs.Common.{◌≡◌, Bool, true, false, ◌&&◌, List, ◌∷◌, filter, None, Some, is_none, refl, ◌∙◌}
 use Rattle.efi_status.specs.declared.Status.{Status}
-use Rattle.efi_status.specs.declared.Status.TheVariants.{Success, DeviceError, WriteProtected, Aborted}
-use Rattle.history.specs.declared.entry.View.{View}
-use Rattle.history.specs.declared.entry.Command.{Command}
-use Rattle.history.specs.declared.entry.Command.TheVariants.{Sync}
 use Rattle.history.specs.declared.entry.Entry.{Entry}
-use Rattle.history.specs.declared.entry.Entry.TheVariants.{Done, Fault, Cancel, Reset, Eject, Protect}
 use Rattle.history.specs.Setup.{Setup}
-use Rattle.history.specs.Tokens.{Request, is_accept, request, is_flush, changes_bytes}
-use Rattle.history.specs.Commands.{is_sync}
-use Rattle.history.specs.Marks.{mark_of, ending, status_if, has_view, is_complete, is_outstanding, IsOutstanding}
+use Rattle.history.specs.Tokens.{Request, is_accept}
+use Rattle.history.specs.Marks.{ending}
 use Rattle.history.specs.Tasks.{is_finished, Todo, pending}
-use Rattle.history_laws.specs.Told.{is_done, concerns}
+use Rattle.history_laws.specs.Told.{is_done}
 use Rattle.history_laws.specs.Pending.{is_todo}
-use Rattle.history_laws.proofs.TokenLemmas.{request-same, has_done-done, done_commands-same, done_commands-other, mark-other, done-concerns, fault-concerns}
-use Rattle.history_laws.proofs.EndLemmas.{mark-done, mark-fault}
-use Rattle.history_laws.proofs.TaskLemmas.{complete-flush}
-use Rattle.history_laws.proofs.NextLemmas.{ended-test, outstanding-test}
-use Rattle.history_laws.proofs.EraLemmas.{none-if, outstanding-next, outstanding-reset, outstanding-eject}
-use Rattle.history_laws.proofs.PendingLemmas.{IsPending, filter-alike, finished-same, todo-stays, pending-is, pending-keeps}
+use Rattle.history_laws.proofs.TokenLemmas.{done_commands-same}
+use Rattle.history_laws.proofs.NextLemmas.{outstanding-test}
+use Rattle.history_laws.proofs.EraLemmas.{outstanding-next}
+use Rattle.history_laws.proofs.PendingLemmas.{IsPending, filter-alike, finished-same, pending-is, pending-keeps}
 
 some-none : (status : Status) → Some status ≡ None → ⊥
 some-none status e = cc

@@ -9,7 +9,7 @@ use Rattle.history.specs.declared.entry.Asked.{Asked}
 use Rattle.history.specs.declared.entry.Command.{Command}
 use Rattle.history.specs.declared.entry.Command.TheVariants.{Fetch}
 use Rattle.history.specs.declared.entry.Entry.{Entry}
-use Rattle.history.specs.declared.entry.Entry.TheVariants.{Refuse, Done, Collect, Insert, Protect}
+use Rattle.history.specs.declared.entry.Entry.TheVariants.{Refuse, Done, Collect, Insert}
 use Rattle.history.specs.Setup.{Setup, IsSetup}
 use Rattle.history.specs.Tokens.{Request, is_accept, accepted, request}
 use Rattle.history.specs.Commands.{is_transfer, is_sync, moves, done_commands, has_done}

@@ -1,5 +1,5 @@
 -- What an entry leaves that is no command, or that ends tokens.
-use Rattle.std.proofs.Common.{List, None, Some, [], ap, false, inl, inr, nat_eq, refl, subst, sym, ℕ, ◌%◌, ◌*◌, ◌+◌, ◌-◌, ◌<◌, ◌∙◌, ◌∷◌, ◌≡◌, ◌≢◌, ◌≤◌}
+use Rattle.std.proofs.Common.{List, None, Some, ap, false, inl, inr, nat_eq, refl, subst, sym, ℕ, ◌∙◌, ◌∷◌, ◌≡◌, ◌≢◌}
 use Rattle.std.proofs.lemmas.Bool.{and_left, cases_eq, ne_eqb, true≢false}
 use Rattle.efi_status.specs.declared.Status.TheVariants.{DeviceError}
 use Rattle.history.specs.Commands.{block_count, first_block, is_at, is_get, is_store, lies_in}

@@ -1,12 +1,12 @@
 -- Told bytes with saved blocks put back.
-use Rattle.std.proofs.Common.{◌≡◌, ◌≢◌, ℕ, ◌+◌, ◌*◌, ◌<◌, ◌≤◌, List, length, take, drop, Option, None, Some, IsSome, Result, Ok, Err, Bool, true, false, ◌⊎◌, if◌then◌else◌, refl, sym, ◌∙◌, ap, subst, arith, inl, inr, ⊎_elim}
+use Rattle.std.proofs.Common.{◌≡◌, ◌≢◌, ℕ, ◌+◌, ◌*◌, ◌<◌, ◌≤◌, List, length, take, drop, Option, None, Some, IsSome, Bool, true, false, ◌⊎◌, if◌then◌else◌, refl, sym, ◌∙◌, ap, subst, ⊎_elim}
 use Rattle.std.proofs.Math.Logic.{∥∥₁_map}
-use Rattle.medium.proofs.Overlays.{AreHeldLong, length-overlay, overlay-none, overlay-saved, overlay-covered, overlay-let_go, block-fits}
+use Rattle.medium.proofs.Overlays.{length-overlay, overlay-none, overlay-saved, overlay-covered, overlay-let_go}
 use Rattle.medium.proofs.Held.{held-long}
-use Rattle.medium.specs.Blocks.{overlay, AreHeldFrom}
+use Rattle.medium.specs.Blocks.{AreHeldFrom}
 use Rattle.medium.specs.BlockMap.{held_block}
 use Rattle.medium.specs.Cached.{restored, AreRestoredLong}
-use Rattle.medium.specs.Device.{Device, IsSame, IsShaped, StayPrepared, IsTold, AreToldAt, patch_told, written}
+use Rattle.medium.specs.Device.{Device, IsSame, IsShaped, StayPrepared, IsTold, AreToldAt, patch_told}
 use Rattle.medium.specs.declared.block_map.BlockMap.{BlockMap}
 
 -- nothing is put back

@@ -1,10 +1,10 @@
 -- Which blocks begin a run that is saved by one read, and how many commands are made.
-use Rattle.std.proofs.Common.{◌≡◌, ◌≢◌, ℕ, zero, suc, ◌+◌, ◌-◌, ◌<◌, ◌≤◌, ◌⊎◌, min, Bool, true, false, cond, ◌&&◌, ◌||◌, List, Option, None, Some, IsSome, refl, sym, ◌∙◌, ap, subst, arith, inl, inr, eqb, Result, Ok, Err}
+use Rattle.std.proofs.Common.{◌≡◌, ℕ, zero, suc, ◌+◌, ◌-◌, ◌<◌, ◌≤◌, ◌⊎◌, Bool, true, false, cond, ◌||◌, List, Option, None, Some, IsSome, refl, sym, ◌∙◌, ap, subst, arith, inl, inr, Result, Ok, Err}
 use Rattle.std.specs.Prelude.{nat_eq, is_some, is_none}
 use Rattle.std.specs.Result.{IsErr}
 use Rattle.std.proofs.lemmas.Bool.{cases_eq, cases_lt, eq-eqb, ne_eqb}
 use Rattle.medium.specs.Cached.{HoldsOthers}
-use Rattle.medium.specs.Counts.{adds, most, Rose}
+use Rattle.medium.specs.Counts.{adds, Rose}
 use Rattle.medium.specs.Device.{Device}
 use Rattle.medium.specs.Saving.{begins_run, unsaved_runs, AreSavedTo, HasMade}
 use Rattle.medium.specs.declared.block_failed.BlockFailed.{BlockFailed}

@@ -1,5 +1,5 @@
 -- A write to a medium with a volatile cache.
-use Rattle.std.proofs.Common.{◌≡◌, ℕ, ◌+◌, ◌*◌, ◌<◌, ◌≤◌, ◌⊎◌, List, length, take, Option, Some, IsSome, Result, Ok, Err, OnOk, OnErr, IfErr, Bool, true, false, refl, sym, ◌∙◌, ap, subst, arith, inl, inr, ⊎_elim, length-take}
+use Rattle.std.proofs.Common.{◌≡◌, ℕ, ◌+◌, ◌*◌, ◌<◌, ◌≤◌, ◌⊎◌, List, length, Option, IsSome, Result, Ok, Err, OnOk, OnErr, IfErr, Bool, true, false, sym, ◌∙◌, ap, subst, arith, inl, inr, ⊎_elim, length-take}
 use Rattle.std.proofs.lemmas.Bool.{cases_lt}
 use Rattle.std.proofs.Math.Nat.{mul-le-mul_left}
 use Rattle.medium.proofs.Overlays.{block-fits}
@@ -7,7 +7,7 @@ use Rattle.medium.proofs.Restored.{restored-covered}
 use Rattle.medium.proofs.Sizes.{count-is}
 use Rattle.medium.specs.Cached.{restored, HasTried, HoldsOthers, IsWrittenInside}
 use Rattle.medium.specs.Counts.{Rose}
-use Rattle.medium.specs.Device.{Device, IsShaped, IsSame, IsTold, IsTransfer, IsWrite, patch_told, written}
+use Rattle.medium.specs.Device.{Device, IsShaped, IsTransfer, IsWrite, patch_told, written}
 use Rattle.medium.specs.declared.block_failed.BlockFailed.{BlockFailed}
 
 -- what was written is no longer than what was to be

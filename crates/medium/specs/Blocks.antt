@@ -1,5 +1,5 @@
 -- Bytes as blocks of one size, and blocks that stand in place of others (own profile).
-use Rattle.std.specs.Prelude.{◌≡◌, ℕ, zero, suc, ◌+◌, ◌-◌, ◌*◌, ◌<◌, ◌≤◌, List, [], ◌++◌, take, drop, unwrap_or, Option, None, Some}
+use Rattle.std.specs.Prelude.{◌≡◌, ℕ, zero, suc, ◌+◌, ◌-◌, ◌*◌, ◌<◌, ◌≤◌, List, [], ◌++◌, take, drop, unwrap_or, Option, Some}
 
 -- a block of the bytes
 abbrev pub block_in : ℕ → List ℕ → ℕ → List ℕ

@@ -1,11 +1,11 @@
 -- The device that a medium with a volatile cache is.
-use Rattle.std.specs.Prelude.{◌≡◌, ◌≢◌, ℕ, ◌+◌, ◌*◌, ◌<◌, ◌≤◌, Bool, true, false, List, length, Option, None, Some, IsSome, Result, OnOk, OnErr, IfErr, if◌then◌else◌, refl}
+use Rattle.std.specs.Prelude.{◌≡◌, ℕ, ◌+◌, ◌*◌, ◌<◌, ◌≤◌, Bool, true, false, List, length, Option, None, Some, Result, OnOk, OnErr, IfErr, if◌then◌else◌, refl}
 use Rattle.std.proofs.Math.Bool.{Bool-set}
 use Rattle.std.specs.Coded.{le_prop}
 use Rattle.medium.specs.Blocks.{overlay}
 use Rattle.medium.specs.BlockMap.{HasPlaceFor}
-use Rattle.medium.specs.Counts.{adds, Rose}
-use Rattle.medium.specs.Device.{Device, IsShaped, IsTold, IsSame, patch_told, written, failures}
+use Rattle.medium.specs.Counts.{Rose}
+use Rattle.medium.specs.Device.{Device, IsShaped, IsTold, IsSame, patch_told, written}
 use Rattle.medium.specs.declared.block_failed.BlockFailed.{BlockFailed}
 use Rattle.medium.specs.declared.block_map.BlockMap.{BlockMap}
 

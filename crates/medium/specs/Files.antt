@@ -1,5 +1,5 @@
 -- The device that a file is, and what becomes of the system's answers.
-use Rattle.std.specs.Prelude.{◌≡◌, ℕ, ◌*◌, ◌/◌, ◌^◌, ◌<◌, Bool, true, false, nat_eq, if◌then◌else◌, None, Result, Ok, Err, refl}
+use Rattle.std.specs.Prelude.{ℕ, ◌*◌, ◌/◌, ◌^◌, ◌<◌, Bool, true, false, nat_eq, if◌then◌else◌, None, Result, Ok, Err, refl}
 use Rattle.medium.specs.Device.{Device, IsBlockSize, IsShaped}
 use Rattle.medium.specs.declared.block_failed.BlockFailed.{BlockFailed}
 

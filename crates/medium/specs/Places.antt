@@ -1,5 +1,5 @@
 -- Places of blocks.
-use Rattle.std.specs.Prelude.{Bool, true, false, ℕ, List, Option, None, Some, if◌then◌else◌}
+use Rattle.std.specs.Prelude.{Bool, false, ℕ, List, Option, None, Some, if◌then◌else◌}
 use Rattle.medium.specs.declared.place.Place.{Place}
 
 -- whether there is a place, and it is filled

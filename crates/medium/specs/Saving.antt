@@ -1,5 +1,5 @@
 -- How many commands a medium with a cache makes inside (own profile).
-use Rattle.std.specs.Prelude.{◌≡◌, ℕ, zero, suc, ◌+◌, ◌-◌, ◌<◌, ◌≤◌, Bool, false, true, nat_eq, ◌&&◌, ◌||◌, cond, List, length, ◌/◌, Option, None, IsSome, is_some, is_none, Result, OnOk, OnErr, if◌then◌else◌}
+use Rattle.std.specs.Prelude.{◌≡◌, ℕ, zero, suc, ◌+◌, ◌-◌, ◌<◌, ◌≤◌, Bool, nat_eq, ◌&&◌, ◌||◌, cond, List, Option, None, IsSome, is_some, is_none, Result, OnOk, OnErr, if◌then◌else◌}
 use Rattle.medium.specs.Counts.{adds, Rose}
 use Rattle.medium.specs.Device.{Device, failures}
 use Rattle.medium.specs.declared.block_failed.BlockFailed.{BlockFailed}

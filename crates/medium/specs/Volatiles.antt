@@ -1,5 +1,5 @@
 -- The medium inside one with a volatile cache, and the blocks that it has saved.
-use Rattle.std.specs.Prelude.{ℕ, Bool, List, Option}
+use Rattle.std.specs.Prelude.{ℕ, List, Option}
 use Rattle.medium.specs.BlockMap.{held_block}
 use Rattle.medium.specs.declared.volatile.Volatile.{Volatile}
 

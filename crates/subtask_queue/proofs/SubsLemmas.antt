@@ -16,7 +16,6 @@ use Rattle.subtask_queue.specs.declared.sub.Sub.{Sub}
 use Rattle.subtask_queue.specs.declared.sub.Sub.TheVariants.{Part, Run, Sync}
 use Rattle.subtask_queue.specs.Subs.{may_run, sub_of_span, sub_of, spans_in, subs_of_request, AreParts, AreBelow}
 use Rattle.subtask_queue.specs.Owned.{AreOf}
-use Rattle.subtask_queue.proofs.Pushing.{own-request}
 
 may-run-span : (held : ℕ → Bool) (free : Bool) (size token : ℕ) (write : Bool) (u : Span) → may_run held free (sub_of_span size token write u) ≡ (not write || is_clear held free u)
 unfolding may_run

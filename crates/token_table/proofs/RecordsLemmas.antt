@@ -4,7 +4,6 @@ use Rattle.std.specs.Prelude.{nat_eq, if◌then◌else◌}
 use Rattle.std.specs.Option.{option_map}
 use Rattle.std.proofs.lemmas.Bool.{cases_eq, cases_lt, ne_eqb}
 use Rattle.std.proofs.lemmas.List.{get_or_past, get_or-set_same, get_or-set_other, get_or_append_left, get_or_push, length-append}
-use Rattle.std.proofs.Math.ListN.{length-set}
 use Rattle.event_cell.specs.Ends.{SignallerEnd}
 use Rattle.token_table.specs.declared.record.Request.{Request}
 use Rattle.token_table.specs.declared.record.Record.{Record}

@@ -1,4 +1,4 @@
-use Rattle.std.proofs.Common.{◌≡◌, ℕ, ◌+◌, ◌-◌, ◌<◌, ◌≤◌, ◌∙◌, cond, IsSome, Ok, refl, arith, rules}
+use Rattle.std.proofs.Common.{◌+◌, ◌-◌, ◌∙◌, refl, arith, rules}
 use Rattle.std.specs.Prelude.{is_none}
 use Rattle.medium.proofs.Runs.{saved-none, saved-on, held-on, begins-where, made-none, made-more, made-failed, runs-on}
 use Rattle.medium.specs.BlockMap.{held_block}

@@ -1,9 +1,9 @@
-use Rattle.std.proofs.Common.{◌≡◌, ◌≢◌, ℕ, ◌*◌, ◌<◌, List, length, Option, None, Some, IsSome, IfSome, refl, sym, ap, subst, ◌∙◌, arith, ⊎_elim}
+use Rattle.std.proofs.Common.{◌≡◌, ◌≢◌, ℕ, ◌*◌, List, Option, None, Some, IsSome, IfSome, refl, sym, ap, subst, ◌∙◌, ⊎_elim}
 use Rattle.std.proofs.lemmas.Bool.{cases_eq}
 use Rattle.medium.proofs.Restored.{restored-none, restored-let_go}
 use Rattle.medium.specs.BlockMap.{held_block}
 use Rattle.medium.specs.Cached.{restored}
-use Rattle.medium.specs.Device.{IsSame, IsTold, patch_told}
+use Rattle.medium.specs.Device.{IsTold, patch_told}
 use Rattle.medium.proofs.saving.write_back.Goals as goal
 
 pub loop-block-preserved : goal.loop-block-preserved

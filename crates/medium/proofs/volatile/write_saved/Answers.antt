@@ -1,4 +1,4 @@
-use Rattle.std.proofs.Common.{◌≡◌, ℕ, ◌+◌, ◌<◌, ◌≤◌, ◌/◌, IsSome, length, sym, subst, ap, ◌∙◌}
+use Rattle.std.proofs.Common.{◌≡◌, ℕ, ◌+◌, ◌<◌, ◌≤◌, ◌/◌, IsSome, length, subst, ap, ◌∙◌}
 use Rattle.medium.proofs.Sizes.{count-is}
 use Rattle.medium.proofs.Written.{written-after}
 use Rattle.medium.specs.BlockMap.{held_block}

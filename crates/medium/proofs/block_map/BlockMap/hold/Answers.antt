@@ -1,6 +1,5 @@
-use Rattle.std.proofs.Common.{◌≡◌, ◌+◌, ◌≤◌, true, false, arith, rules, sym, ◌∙◌, length, []}
-use Rattle.std.proofs.lemmas.List.{length-append}
-use Rattle.std.specs.BTreeMap.{get, btree_map_len}
+use Rattle.std.proofs.Common.{◌≡◌, true, false, arith, sym, ◌∙◌}
+use Rattle.std.specs.BTreeMap.{get}
 use Rattle.std.specs.Ordering.{nat_cmp}
 use Rattle.medium.specs.Places.{is_filled}
 use Rattle.medium.proofs.Listed.{listed-push, listed-same, distinct-push, is_filled-filled, sized-fill, room-left}

@@ -1,6 +1,5 @@
 use Rattle.std.proofs.Common.{◌≡◌, ◌≢◌, ℕ, ◌*◌, ◌/◌, ◌<◌, length, List, Option, None, Some, IsSome, IfSome, refl, ap, subst, ◌∙◌, sym, ⊎_elim}
 use Rattle.std.proofs.lemmas.Bool.{cases_eq}
-use Rattle.medium.proofs.Held.{held-long}
 use Rattle.medium.proofs.Overlays.{overlay-none, overlay-let_go}
 use Rattle.medium.specs.Blocks.{overlay}
 use Rattle.medium.specs.BlockMap.{held_block}

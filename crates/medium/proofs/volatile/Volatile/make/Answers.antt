@@ -1,7 +1,6 @@
-use Rattle.std.proofs.Common.{◌≡◌, ℕ, ◌*◌, ◌<◌, Option, None, Some, IsSome, List, refl, sym, ap, subst, ◌∙◌, inl, inr, arith}
-use Rattle.medium.proofs.Restored.{IsCache, cache-none, cache-after, kept-none, restored-none, same-from}
+use Rattle.std.proofs.Common.{ℕ, Option, List, ap, ◌∙◌}
+use Rattle.medium.proofs.Restored.{cache-none, kept-none}
 use Rattle.medium.specs.BlockMap.{held_block}
-use Rattle.medium.specs.Device.{Device, IsSame, IsTold}
 use Rattle.medium.proofs.volatile.Volatile.make.Goals as goal
 
 pub invariant_of-result : goal.invariant_of-result

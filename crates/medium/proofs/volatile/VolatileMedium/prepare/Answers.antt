@@ -1,7 +1,5 @@
-use Rattle.std.proofs.Common.{◌≡◌, ℕ, ◌*◌, ◌<◌, Option, None, Some, IsSome, List, refl, sym, ap, subst, ◌∙◌, inl, inr, arith}
-use Rattle.medium.proofs.Restored.{IsCache, cache-none, cache-after, kept-none, restored-none, same-from}
-use Rattle.medium.specs.BlockMap.{held_block}
-use Rattle.medium.specs.Device.{Device, IsSame, IsTold}
+use Rattle.std.proofs.Common.{ℕ, Option, IsSome, List, refl, subst, inl}
+use Rattle.medium.proofs.Restored.{IsCache, cache-after, same-from}
 use Rattle.medium.proofs.volatile.VolatileMedium.prepare.Goals as goal
 
 pub invariant_of-self : goal.invariant_of-self

@@ -1,7 +1,5 @@
-use Rattle.std.proofs.Common.{◌≡◌, ℕ, ◌*◌, ◌<◌, Option, None, Some, IsSome, List, refl, sym, ap, subst, ◌∙◌, inl, inr, arith}
-use Rattle.medium.proofs.Restored.{IsCache, cache-none, cache-after, kept-none, restored-none, same-from}
-use Rattle.medium.specs.BlockMap.{held_block}
-use Rattle.medium.specs.Device.{Device, IsSame, IsTold}
+use Rattle.std.proofs.Common.{refl, inl}
+use Rattle.medium.proofs.Restored.{IsCache, cache-after}
 use Rattle.medium.proofs.volatile.VolatileMedium.read_blocks.Goals as goal
 
 pub invariant_of-self : goal.invariant_of-self

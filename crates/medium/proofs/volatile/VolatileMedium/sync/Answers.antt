@@ -1,10 +1,10 @@
-use Rattle.std.proofs.Common.{◌≡◌, ℕ, ◌*◌, ◌<◌, Option, None, Some, IsSome, List, refl, sym, ap, subst, ◌∙◌, inl, inr, arith, true, Result, Ok, Err, OnOk, OnErr}
+use Rattle.std.proofs.Common.{◌≡◌, ℕ, ◌*◌, refl, sym, ap, subst, ◌∙◌, inl, true, Result, Ok, Err, OnOk, OnErr}
 use Rattle.std.specs.Result.{is_ok}
 use Rattle.medium.specs.Counts.{adds}
 use Rattle.medium.specs.declared.block_failed.BlockFailed.{BlockFailed}
-use Rattle.medium.proofs.Restored.{IsCache, cache-none, cache-after, kept-none, restored-none, same-from}
+use Rattle.medium.proofs.Restored.{IsCache, cache-none, cache-after, kept-none}
 use Rattle.medium.specs.BlockMap.{held_block}
-use Rattle.medium.specs.Device.{Device, IsSame, IsTold}
+use Rattle.medium.specs.Device.{IsTold}
 use Rattle.medium.proofs.volatile.VolatileMedium.sync.Goals as goal
 
 on-ok : {P : Type 0} (result : Result (Unit {0}) BlockFailed) → P → OnOk result P

@@ -1,4 +1,3 @@
-use Rattle.std.proofs.Common.{◌≡◌, ℕ}
 use Rattle.medium.proofs.Restored.{IsCache, cache-after}
 use Rattle.medium.proofs.Sizes.{size-some}
 use Rattle.medium.proofs.Written.{held-written, within-transfer}
