@@ -1,0 +1,6 @@
+mod Faults
+mod Serving
+mod Ended
+mod Alone
+mod ReadOff
+mod Outside
