@@ -1,31 +1,21 @@
 -- Where the gates are idle, a lent work that is merged is written at once.
-use Rattle.std.proofs.Common.{◌≡◌, ℕ, ◌+◌, ◌-◌, ◌*◌, ◌≤◌, ◌⊎◌, inl, inr, Bool, true, false, nat_eq, eqb, if◌then◌else◌, List, [], ◌∷◌, length, drop, find, slice_get, None, Some, option_map, refl, sym, ◌∙◌, ap, subst, arith}
-use Rattle.std.proofs.lemmas.Bool.{eq-eqb, or_left, and_from, lt-ltb, false≢true}
-use Rattle.std.proofs.lemmas.List.{length-take}
+use Rattle.std.proofs.Common.{◌≡◌, ℕ, ◌+◌, ◌-◌, ◌*◌, ◌≤◌, true, eqb, List, [], ◌∷◌, length, slice_get, None, Some, refl, sym, ◌∙◌, ap, subst, arith}
+use Rattle.std.proofs.lemmas.Bool.{eq-eqb, and_from, lt-ltb, false≢true}
 use Rattle.std.proofs.lemmas.Option.{same_Some}
 use Rattle.byte_lists.specs.Patching.{patch}
 use Rattle.byte_lists.proofs.Patched.{length-patch}
 use Rattle.byte_lists.proofs.Patches.{patch-nothing}
-use Rattle.history.specs.declared.entry.Kind.{Kind}
-use Rattle.history.specs.declared.entry.Kind.TheVariants.{Read, Write, Flush, Erase}
 use Rattle.history.specs.declared.entry.Command.{Command}
 use Rattle.history.specs.declared.entry.Command.TheVariants.{Fetch, Store}
-use Rattle.history.specs.declared.entry.Entry.{Entry}
 use Rattle.history.specs.declared.entry.Entry.TheVariants.{Done}
-use Rattle.history.specs.Setup.{Setup, IsSetup, size_of, per_of}
-use Rattle.history.specs.Tokens.{Request, request, request_bytes, from_of}
-use Rattle.history.specs.Commands.{is_fetch, is_at}
+use Rattle.history.specs.Setup.{IsSetup, size_of, per_of}
+use Rattle.history.specs.Tokens.{Request, request}
 use Rattle.history.specs.Contents.{bytes_between}
-use Rattle.history.specs.Marks.{was_fetched, is_held, fetches, HoldsBy}
-use Rattle.history.specs.Rules.{MayCommand, IsLegal}
-use Rattle.history.specs.Tasks.{Task, Moves, Syncs, Todo, pending, is_runnable, first_runnable, task_command}
+use Rattle.history.specs.Marks.{is_held, HoldsBy}
+use Rattle.history.specs.Rules.{IsLegal}
+use Rattle.history.specs.Tasks.{Todo, first_runnable}
 use Rattle.history.specs.Next.{Turn, next_turn, Outcome, Made, Failed}
-use Rattle.history_laws.specs.Turns.{turn_of_todo}
-use Rattle.history_laws.proofs.MayLemmas.{runnable-may}
-use Rattle.history_laws.proofs.PendingLemmas.{pending-fetch}
-use Rattle.history_laws.proofs.RunnableLemmas.{free-runnable, next-runnable}
-use Rattle.history_laws.proofs.TicketLemmas.{holds-by-before}
-use Rattle.history_laws.proofs.TokenLemmas.{has_done-done, request-same}
+use Rattle.history_laws.proofs.TokenLemmas.{request-same}
 use Rattle.block_gate.specs.Works.{Lent}
 use Rattle.block_gate.specs.Gates.{Gate, Gates, gate_of, is_out, is_ours, releasing, taking}
 use Rattle.disk_core.specs.declared.answers.Step.TheVariants as step
@@ -37,7 +27,6 @@ use Rattle.disk_core.specs.Calls.{low_in, high_in, Revokes, LendsFirst, StepSays
 use Rattle.disk_core.specs.Turns.{IsIdle, merged, StoresAtOnce}
 use Rattle.disk_core.proofs.TurnLemmas.{none-held}
 use Rattle.disk_core.proofs.IdleLemmas.{idle-stays, gate_for, lent-gate, lent-out, lent-size, back-again}
-use Rattle.history_laws.proofs.FetchLemmas.{find-alike}
 use Rattle.history_laws.proofs.HoldingLemmas.{new-holder}
 use Rattle.history_laws.proofs.FetchLemmas.{store-turn}
 use Rattle.history_laws.proofs.BytesLemmas.{length-between}

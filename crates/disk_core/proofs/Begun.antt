@@ -1,25 +1,19 @@
 -- An entry that ends tokens has been added, and none of them has ended in the parts.
-use Rattle.std.proofs.Common.{◌≡◌, ◌≢◌, ℕ, zero, suc, ◌+◌, ◌*◌, ◌<◌, ◌≤◌, inl, inr, Bool, true, false, List, ◌∷◌, length, map, Option, None, Some, refl, sym, ◌∙◌, ap, subst, arith}
+use Rattle.std.proofs.Common.{◌≡◌, ℕ, zero, suc, ◌+◌, ◌*◌, ◌<◌, ◌≤◌, inl, inr, List, ◌∷◌, length, map, Option, Some, refl, sym, ◌∙◌, ap, subst, arith}
 use Rattle.std.specs.Prelude.{filter, is_none, vec_capacity}
-use Rattle.std.proofs.lemmas.Bool.{cases_Bool, true≢false}
-use Rattle.efi_status.specs.declared.Status.{Status}
 use Rattle.medium.specs.Device.{AreToldAt}
-use Rattle.history.specs.declared.entry.Command.TheVariants.{Fetch}
 use Rattle.history.specs.declared.entry.Entry.{Entry}
-use Rattle.history.specs.declared.entry.Entry.TheVariants.{Done}
 use Rattle.history.specs.Setup.{Setup, IsSetup, size_of, per_of}
-use Rattle.history.specs.Eras.{is_insert, media_id_of}
-use Rattle.history.specs.Tokens.{Request, is_accept, accepted, request, is_collect_of, was_collected}
-use Rattle.history.specs.Commands.{done_commands, is_at, is_fetch, is_store}
-use Rattle.history.specs.Contents.{contents, bytes_read}
-use Rattle.history.specs.Marks.{mark_of, ending, is_fetch_entry, fetches}
-use Rattle.history.specs.Rules.{MayFollow, IsLegal}
+use Rattle.history.specs.Eras.{media_id_of}
+use Rattle.history.specs.Tokens.{accepted, request, was_collected}
+use Rattle.history.specs.Commands.{is_at, is_fetch, is_store}
+use Rattle.history.specs.Contents.{contents}
+use Rattle.history.specs.Marks.{mark_of, ending}
+use Rattle.history.specs.Rules.{IsLegal}
 use Rattle.history.specs.Tasks.{pending}
-use Rattle.history.specs.Room.{owed_by, token_owed, tokens_owed, media_owed}
-use Rattle.history_laws.specs.Told.{is_done}
-use Rattle.history_laws.specs.Gates.{is_store_of}
+use Rattle.history.specs.Room.{token_owed, tokens_owed, media_owed}
 use Rattle.history_laws.specs.Ranges.{AreToldWhole}
-use Rattle.history_laws.proofs.CountLemmas.{accepted-same, fetches-same, fetches-more}
+use Rattle.history_laws.proofs.CountLemmas.{accepted-same}
 use Rattle.history_laws.proofs.TokenLemmas.{request-same, request-stays, collected-same, done_commands-same, has_done-same}
 use Rattle.history_laws.proofs.EndLemmas.{mark-next}
 use Rattle.history_laws.proofs.MediaLemmas.{media-id-same}

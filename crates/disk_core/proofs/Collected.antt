@@ -2,18 +2,17 @@
 use Rattle.std.proofs.Common.{◌≡◌, ◌≢◌, ℕ, suc, ◌<◌, inl, inr, true, false, List, ◌∷◌, map, Option, None, Some, refl, sym, ◌∙◌, ap, subst, arith, IsSome, Result, Ok, Err, OnOk, OnErr}
 use Rattle.std.specs.Prelude.{slice_set, vec_capacity}
 use Rattle.std.specs.Option.{option_map}
-use Rattle.std.proofs.lemmas.Bool.{cases_eq, cases_lt, ne_eqb}
+use Rattle.std.proofs.lemmas.Bool.{cases_eq, cases_lt}
 use Rattle.std.proofs.lemmas.List.{length-set}
 use Rattle.efi_status.specs.declared.Status.{Status}
 use Rattle.medium.specs.Device.{Device}
 use Rattle.drive.specs.Drives.{DriveState, devices_of}
 use Rattle.history.specs.declared.entry.Entry.{Entry}
 use Rattle.history.specs.declared.entry.Entry.TheVariants.{Collect}
-use Rattle.history.specs.Setup.{Setup, IsSetup, size_of}
+use Rattle.history.specs.Setup.{Setup, size_of}
 use Rattle.history.specs.Tokens.{Request, accepted, was_collected}
-use Rattle.history.specs.Marks.{ending}
 use Rattle.history.specs.Rules.{MayFollow, IsLegal}
-use Rattle.history_laws.proofs.TokenLemmas.{collected-collect, collected-same, request-accepted}
+use Rattle.history_laws.proofs.TokenLemmas.{collected-collect, request-accepted}
 use Rattle.history_laws.proofs.PendingLemmas.{pending-collect}
 use Rattle.history_laws.proofs.SpareLemmas.{entries-collect}
 use Rattle.token_table.specs.declared.record.Record.{Record}

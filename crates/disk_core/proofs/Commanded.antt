@@ -10,16 +10,14 @@ use Rattle.history.specs.declared.entry.Command.TheVariants.{Sync}
 use Rattle.history.specs.declared.entry.Entry.{Entry}
 use Rattle.history.specs.declared.entry.Entry.TheVariants.{Done, Fault}
 use Rattle.history.specs.Setup.{Setup, IsSetup, size_of}
-use Rattle.history.specs.Eras.{media_id_of, is_command, is_fault, era_count, era_commands, era_faults}
+use Rattle.history.specs.Eras.{media_id_of, is_command, is_fault, era_count}
 use Rattle.history.specs.Tokens.{Request, request, from_of, until_of}
 use Rattle.history.specs.Commands.{is_change, is_sync}
 use Rattle.history.specs.Contents.{contents, kept_contents, flushed_contents, bytes_between, piece_of}
 use Rattle.history.specs.Next.{Outcome, Made, Failed, entry_of}
-use Rattle.history.specs.Room.{commands, faults}
 use Rattle.history_laws.specs.Units.{IsUnitCommand}
 use Rattle.history_laws.proofs.ContentLemmas.{is_flush_entry, contents-same, kept-same, kept-more, flushed-sync, piece-unchanged, piece-unchanged-fault}
-use Rattle.history_laws.proofs.CountLemmas.{commands-few, faults-few}
-use Rattle.history_laws.proofs.EraLemmas.{era_count-same, era_count-more, era_count-within}
+use Rattle.history_laws.proofs.EraLemmas.{era_count-same, era_count-more}
 use Rattle.history_laws.proofs.PieceLemmas.{done-contents, fault-contents, run-low}
 use Rattle.disk_core.specs.State.{opening_from}
 use Rattle.disk_core.specs.Facts.{MeetsEra}

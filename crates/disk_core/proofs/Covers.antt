@@ -1,5 +1,5 @@
 -- The puts of a write and the wipes of an erase.
-use Rattle.std.proofs.Common.{◌≡◌, ℕ, ◌+◌, ◌-◌, ◌*◌, ◌/◌, ◌^◌, ◌<◌, ◌≤◌, true, false, List, ◌∷◌, length, take, drop, Option, None, Some, refl, sym, ◌∙◌, ap, subst, arith, Result, Ok, Err, OnOk, IfErr, IsSome, IfSome, length-take, length-drop}
+use Rattle.std.proofs.Common.{◌≡◌, ℕ, ◌+◌, ◌-◌, ◌*◌, ◌/◌, ◌^◌, ◌<◌, ◌≤◌, true, false, List, ◌∷◌, length, take, drop, Option, None, Some, refl, sym, ◌∙◌, ap, subst, arith, Result, Ok, Err, OnOk, IfErr, IsSome, IfSome}
 use Rattle.std.specs.Prelude.{count_by, max, min}
 use Rattle.std.proofs.Math.Nat.{mul-le-mul_right, mul_comm, div-le_of_le-mul, lt_of_mul-lt-mul_right}
 use Rattle.medium.specs.Device.{Device, IsShaped, IsTransfer, IsWrite, patch_told, written}
@@ -15,7 +15,7 @@ use Rattle.history.specs.declared.entry.Entry.{Entry}
 use Rattle.history.specs.declared.entry.Entry.TheVariants.{Fault}
 use Rattle.history.specs.Setup.{Setup, size_of, per_of}
 use Rattle.history.specs.Eras.{media_id_of}
-use Rattle.history.specs.Tokens.{Request, changes_bytes, bytes_to_put, request_bytes, from_of, until_of}
+use Rattle.history.specs.Tokens.{Request, changes_bytes, bytes_to_put, from_of, until_of}
 use Rattle.history.specs.Commands.{first_block, block_count, is_change, is_transfer, is_fetch, is_store, is_sync, is_get}
 use Rattle.history.specs.Contents.{contents, bytes_between}
 use Rattle.history.specs.Rules.{StopsAt}

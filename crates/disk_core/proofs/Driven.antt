@@ -1,5 +1,5 @@
 -- The drive after a command on the medium that is in.
-use Rattle.std.proofs.Common.{◌≡◌, ◌≢◌, ℕ, zero, suc, ◌-◌, ◌%◌, ◌≤◌, inl, inr, Bool, false, List, [], ◌∷◌, map, slice_get, Some, refl, sym, ◌∙◌, ap, subst, arith, Result, Ok, Err, OnErr}
+use Rattle.std.proofs.Common.{◌≡◌, ◌≢◌, ℕ, zero, suc, ◌-◌, ◌%◌, ◌≤◌, inl, inr, Bool, List, [], ◌∷◌, map, slice_get, Some, refl, sym, ◌∙◌, ap, subst, arith, Result, Ok, Err, OnErr}
 use Rattle.std.specs.Prelude.{slice_set}
 use Rattle.std.proofs.lemmas.Bool.{cases_eq}
 use Rattle.std.proofs.lemmas.List.{length-set, map-set}
@@ -11,12 +11,11 @@ use Rattle.medium.specs.declared.block_failed.BlockFailed.{BlockFailed}
 use Rattle.drive.specs.Drives.{DriveState, medium_in, with_medium, devices_of}
 use Rattle.history.specs.declared.entry.Entry.{Entry}
 use Rattle.history.specs.Setup.{Setup}
-use Rattle.history.specs.Eras.{inserts, media_id_of, is_eject, is_insert, is_command, is_fault}
-use Rattle.history.specs.Tokens.{is_accept}
+use Rattle.history.specs.Eras.{inserts, media_id_of, is_command, is_fault}
 use Rattle.history.specs.Next.{Failed}
 use Rattle.history_laws.proofs.ContentLemmas.{contents-other, kept-other}
 use Rattle.history_laws.proofs.CountLemmas.{accepted-same}
-use Rattle.history_laws.proofs.EraLemmas.{is_protect, protected-same, era_count-other}
+use Rattle.history_laws.proofs.EraLemmas.{protected-same, era_count-other}
 use Rattle.history_laws.proofs.MediaLemmas.{media-id-same, present-same}
 use Rattle.history_laws.proofs.PendingLemmas.{open-before}
 use Rattle.history_laws.proofs.TokenLemmas.{request-same}

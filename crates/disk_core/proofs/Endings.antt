@@ -1,7 +1,6 @@
 -- A disk after an entry that ends tokens and makes no command.
-use Rattle.std.proofs.Common.{◌≡◌, ℕ, zero, suc, ◌+◌, ◌-◌, ◌<◌, ◌≤◌, inl, inr, Bool, true, false, ◌&&◌, List, ◌∷◌, length, map, slice_get, None, Some, is_some, refl, sym, ◌∙◌, ap, subst, arith}
-use Rattle.std.specs.Prelude.{vec_capacity, if◌then◌else◌}
-use Rattle.std.proofs.lemmas.Bool.{cases_eq, and_from, and_left, and_right}
+use Rattle.std.proofs.Common.{◌≡◌, ℕ, suc, ◌-◌, ◌<◌, ◌≤◌, false, List, ◌∷◌, length, map, slice_get, Some, refl, sym, ◌∙◌, ap, subst, arith}
+use Rattle.std.specs.Prelude.{vec_capacity}
 use Rattle.efi_status.specs.declared.Status.{Status}
 use Rattle.medium.specs.Device.{Device}
 use Rattle.drive.specs.Drives.{DriveState, medium_in}
@@ -9,15 +8,13 @@ use Rattle.history.specs.declared.entry.Entry.{Entry}
 use Rattle.history.specs.Setup.{Setup}
 use Rattle.history.specs.Eras.{is_command}
 use Rattle.history.specs.Tokens.{Request, is_accept, accepted, request}
-use Rattle.history.specs.Marks.{mark_of, ending, status_if, is_outstanding, IsOutstanding, fetches}
+use Rattle.history.specs.Marks.{mark_of, ending, status_if, IsOutstanding, fetches}
 use Rattle.history.specs.Rules.{IsLegal}
 use Rattle.history.specs.Tasks.{pending}
-use Rattle.history_laws.specs.Left.{ended_before, ended_by}
 use Rattle.history_laws.specs.Ranges.{AreToldWhole}
 use Rattle.history_laws.proofs.CountLemmas.{accepted-same, fetches-same}
 use Rattle.history_laws.proofs.TokenLemmas.{request-same}
 use Rattle.history_laws.proofs.EndLemmas.{mark-before}
-use Rattle.history_laws.proofs.NextLemmas.{outstanding-test, outstanding-from}
 use Rattle.block_gate.specs.Gates.{gate_of}
 use Rattle.disk_core.specs.declared.parts.Core.{Core}
 use Rattle.disk_core.specs.declared.ending.Meant.{Meant}

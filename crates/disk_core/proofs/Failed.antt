@@ -1,7 +1,6 @@
 -- A failed command was entered and has ended its token.
-use Rattle.std.proofs.Common.{◌≡◌, ℕ, ◌+◌, ◌≤◌, inl, inr, nat_eq, List, ◌∷◌, length, map, Option, None, Some, refl, sym, ◌∙◌, ap, subst, arith}
+use Rattle.std.proofs.Common.{◌≡◌, ℕ, ◌+◌, ◌≤◌, List, ◌∷◌, length, map, Option, refl, sym, ◌∙◌, ap, subst, arith}
 use Rattle.std.specs.Prelude.{count_by, vec_capacity}
-use Rattle.std.proofs.lemmas.Bool.{cases_eq, ne_eqb, and_left}
 use Rattle.efi_status.specs.declared.Status.{Status}
 use Rattle.efi_status.specs.declared.Status.TheVariants.{DeviceError}
 use Rattle.medium.specs.Device.{Device}
@@ -17,7 +16,6 @@ use Rattle.history.specs.Rules.{MayFollow, IsLegal}
 use Rattle.history.specs.Tasks.{pending}
 use Rattle.history.specs.Next.{Failed}
 use Rattle.history.specs.Room.{owed_entries}
-use Rattle.history_laws.specs.Gates.{is_store_at}
 use Rattle.history_laws.specs.Ranges.{AreToldWhole}
 use Rattle.history_laws.proofs.TokenLemmas.{fault-concerns, request-some}
 use Rattle.history_laws.proofs.EndLemmas.{mark-fault, command-open}

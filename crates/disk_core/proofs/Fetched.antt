@@ -1,10 +1,9 @@
 -- The fetch of a part of a write or an erase.
 use Rattle.std.proofs.Common.{◌≡◌, ℕ, ◌+◌, ◌-◌, ◌*◌, ◌^◌, ◌<◌, ◌≤◌, Bool, true, false, not, ◌&&◌, ◌||◌, List, ◌∷◌, length, Option, None, Some, refl, sym, ◌∙◌, ap, subst, arith, Result, Ok, Err, IsSome, IfSome}
-use Rattle.std.specs.Prelude.{count_by, max, min, nat_lt, vec_capacity, is_some, if◌then◌else◌}
+use Rattle.std.specs.Prelude.{count_by, max, min, nat_lt, vec_capacity, is_some}
 use Rattle.std.proofs.Math.Nat.{mul-le-mul_right, mul_comm}
 use Rattle.std.proofs.lemmas.Bool.{and_parts, not-true, ltb-true}
 use Rattle.std.proofs.lemmas.List.{length-map}
-use Rattle.std.proofs.lemmas.List.Sums.{count_by-le-length}
 use Rattle.medium.specs.Device.{Device, IsShaped, IsTransfer, IsRead, AreToldAt}
 use Rattle.medium.specs.declared.block_failed.BlockFailed.{BlockFailed}
 use Rattle.drive.specs.Drives.{DriveState, medium_in}
@@ -12,16 +11,14 @@ use Rattle.block_gate.specs.Gates.{Gate, gate_of, is_block_held, is_lent, holdin
 use Rattle.block_gate.specs.Works.{Lent as Work}
 use Rattle.block_gate.proofs.GatesLemmas.{gate-new}
 use Rattle.disk_split.specs.declared.span.Span.{Span}
-use Rattle.history.specs.declared.entry.Kind.{Kind}
-use Rattle.history.specs.declared.entry.Kind.TheVariants.{Read, Write, Flush, Erase}
-use Rattle.history.specs.declared.entry.Command.TheVariants.{Fetch, Store}
+use Rattle.history.specs.declared.entry.Command.TheVariants.{Fetch}
 use Rattle.history.specs.declared.entry.Entry.{Entry}
 use Rattle.history.specs.declared.entry.Entry.TheVariants.{Done, Fault}
 use Rattle.history.specs.Setup.{Setup, size_of, per_of}
 use Rattle.history.specs.Eras.{media_id_of}
 use Rattle.history.specs.Tokens.{Request, accepted, changes_bytes, from_of, until_of}
 use Rattle.history.specs.Contents.{contents, bytes_between}
-use Rattle.history.specs.Marks.{is_held, is_fetch_entry, fetches, was_fetched}
+use Rattle.history.specs.Marks.{is_held, fetches, was_fetched}
 use Rattle.history.specs.Rules.{MayCommand}
 use Rattle.history.specs.Tasks.{Moves, Todo, task_command, span_command, is_task_clear}
 use Rattle.history.specs.Next.{Made}

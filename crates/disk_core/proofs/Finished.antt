@@ -1,21 +1,19 @@
 -- Records and kept buffers after a done command.
-use Rattle.std.proofs.Common.{◌≡◌, ◌≢◌, ℕ, ◌+◌, ◌<◌, inl, inr, false, not, List, ◌∷◌, Option, None, Some, refl, sym, ◌∙◌, subst, arith}
-use Rattle.std.proofs.lemmas.Bool.{cases_eq, and_left}
+use Rattle.std.proofs.Common.{◌≡◌, ◌≢◌, ℕ, ◌+◌, ◌<◌, false, List, ◌∷◌, Option, None, Some, refl, sym, ◌∙◌, subst, arith}
 use Rattle.efi_status.specs.declared.Status.{Status}
 use Rattle.history.specs.declared.entry.Command.{Command}
 use Rattle.history.specs.declared.entry.Entry.{Entry}
 use Rattle.history.specs.declared.entry.Entry.TheVariants.{Done}
 use Rattle.history.specs.Setup.{Setup, IsSetup}
 use Rattle.history.specs.Tokens.{Request}
-use Rattle.history.specs.Commands.{is_get, lies_in, first_block, block_count}
+use Rattle.history.specs.Commands.{is_get}
 use Rattle.history.specs.Contents.{bytes_read}
 use Rattle.history.specs.Marks.{mark_of}
-use Rattle.history.specs.Tasks.{Task, tasks_of}
+use Rattle.history.specs.Tasks.{Task}
 use Rattle.history_laws.specs.Left.{task_bytes, left_of}
 use Rattle.history_laws.specs.Told.{concerns}
 use Rattle.history_laws.proofs.CountLemmas.{accepted-same}
-use Rattle.history_laws.proofs.PendingLemmas.{finished-same}
-use Rattle.history_laws.proofs.TokenLemmas.{request-stays, done_commands-other, done-concerns, collected-same, bytes_read-other, bytes_read-kept}
+use Rattle.history_laws.proofs.TokenLemmas.{request-stays, done-concerns, collected-same}
 use Rattle.token_table.specs.declared.record.Record.{Record}
 use Rattle.token_table.specs.Records.{Records, changed, lower_record, ended_record, IsShown, word_for}
 use Rattle.disk_core.specs.State.{Kept}
@@ -24,7 +22,6 @@ use Rattle.disk_core.specs.Parts.{kept_from}
 use Rattle.disk_core.specs.Inside.{Tracks, RecordsFollow}
 use Rattle.disk_core.specs.Closing.{TracksSoFar, RecordsSoFar}
 use Rattle.history_laws.proofs.LeftLemmas.{FinishesTask, left-falls}
-use Rattle.std.specs.Prelude.{filter, sum_by}
 use Rattle.std.proofs.lemmas.Option.{same_Some}
 use Rattle.disk_core.proofs.Kept.{each-changed}
 use Rattle.history_laws.proofs.LeftLemmas.{left-other}

@@ -1,14 +1,12 @@
 -- Each medium follows the history through an entry that is no command.
-use Rattle.std.proofs.Common.{◌≡◌, ℕ, ◌≤◌, false, List, ◌∷◌, refl, sym, ◌∙◌, subst}
+use Rattle.std.proofs.Common.{◌≡◌, ℕ, ◌≤◌, false, List, ◌∷◌, sym, ◌∙◌, subst}
 use Rattle.medium.specs.Device.{Device}
 use Rattle.history.specs.declared.entry.Entry.{Entry}
-use Rattle.history.specs.declared.entry.Entry.TheVariants.{Accept, Refuse, Done, Fault, Collect, Cancel, Reset, Eject, Insert, Protect}
 use Rattle.history.specs.Setup.{Setup}
 use Rattle.history.specs.Eras.{is_command, is_fault}
-use Rattle.history_laws.proofs.ContentLemmas.{is_flush_entry, contents-same, kept-same, piece-none}
+use Rattle.history_laws.proofs.ContentLemmas.{contents-same, kept-same, piece-none}
 use Rattle.history_laws.proofs.EraLemmas.{era_count-same}
 use Rattle.disk_core.specs.Facts.{MeetsEra}
-use Rattle.std.proofs.lemmas.Bool.{true≢false}
 use Rattle.history_laws.proofs.QuietLemmas.{fault-none, flush-none}
 
 pub era-still : (S : Setup) (H : List Entry) (e : Entry) (k : ℕ) (d : Device) → is_command e ≡ false → MeetsEra S H k d → MeetsEra S (e ∷ H) k d

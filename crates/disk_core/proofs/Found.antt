@@ -1,9 +1,9 @@
 -- The queue finds the unit that the history finds.
-use Rattle.std.proofs.Common.{◌≡◌, ℕ, suc, ◌+◌, ◌*◌, ◌/◌, ◌<◌, ◌≤◌, ◌⊎◌, inl, inr, Bool, true, false, cond, not, ◌&&◌, ◌||◌, List, [], ◌∷◌, slice_get, Some, refl, sym, ◌∙◌, ap, subst, arith}
-use Rattle.std.specs.Prelude.{nat_eq, nat_lt, vec_capacity, if◌then◌else◌, find}
+use Rattle.std.proofs.Common.{◌≡◌, ℕ, ◌+◌, ◌*◌, ◌/◌, ◌<◌, ◌≤◌, ◌⊎◌, inl, inr, Bool, true, false, not, ◌&&◌, ◌||◌, List, slice_get, Some, refl, sym, ◌∙◌, ap, subst, arith}
+use Rattle.std.specs.Prelude.{nat_lt, vec_capacity, if◌then◌else◌, find}
 use Rattle.std.specs.Option.{option_map}
 use Rattle.std.proofs.Math.Nat.{le-div_iff_mul-le, div-mul-le_self, mul-le-mul_right}
-use Rattle.std.proofs.lemmas.Bool.{cases_Bool, eqb-true, or_cases, not_from_false, not-true, false_from_ne_true, true≢false}
+use Rattle.std.proofs.lemmas.Bool.{eqb-true, or_cases, not_from_false, not-true, false_from_ne_true, true≢false}
 use Rattle.std.specs.Prelude.{◌==◌}
 use Rattle.std.specs.Cmp.{both_ways}
 use Rattle.medium.specs.Device.{Device}
@@ -13,11 +13,9 @@ use Rattle.block_gate.proofs.GatesLemmas.{held-by}
 use Rattle.disk_split.specs.declared.span.Span.{Span}
 use Rattle.disk_split.specs.Units.{group_start, group_size, up, IsUnit, IsKind}
 use Rattle.history.specs.declared.entry.Entry.{Entry}
-use Rattle.history.specs.declared.entry.Entry.TheVariants.{Accept, Refuse, Done, Fault, Collect, Cancel, Reset, Eject, Insert, Protect}
 use Rattle.history.specs.Setup.{Setup, IsSetup, per_of}
 use Rattle.history.specs.Tokens.{Request, changes_bytes, from_of, until_of}
-use Rattle.history.specs.Commands.{is_fetch, is_at, done_commands, has_done}
-use Rattle.history.specs.Marks.{all_from, is_held, was_fetched, ticket_of, fetches}
+use Rattle.history.specs.Marks.{all_from, is_held}
 use Rattle.history.specs.Rules.{IsLegal}
 use Rattle.history.specs.Tasks.{Task, Moves, Syncs, Todo, tasks_of, pending, is_clear, is_task_clear, is_runnable, first_runnable}
 use Rattle.history_laws.proofs.HolderLemmas.{held-holder}

@@ -1,5 +1,5 @@
 -- A new disk is sound.
-use Rattle.std.proofs.Common.{◌≡◌, ℕ, suc, ◌+◌, ◌-◌, ◌*◌, ◌<◌, ◌≤◌, Bool, true, false, List, [], length, map, slice_get, Option, None, Some, refl, sym, ◌∙◌, ap, subst, arith, option_map, if◌then◌else◌}
+use Rattle.std.proofs.Common.{◌≡◌, ℕ, suc, ◌+◌, ◌-◌, ◌*◌, ◌<◌, ◌≤◌, Bool, true, false, List, [], length, map, slice_get, Option, None, Some, refl, sym, ◌∙◌, ap, subst, arith}
 use Rattle.std.specs.Prelude.{vec_capacity}
 use Rattle.std.proofs.lemmas.List.{length-map}
 use Rattle.history_laws.proofs.PendingLemmas.{get-mapped}
@@ -11,11 +11,9 @@ use Rattle.history.specs.declared.entry.Entry.{Entry}
 use Rattle.history.specs.Setup.{Setup, size_of, first_of, opening_of, opening_bytes}
 use Rattle.history.specs.Eras.{ejects, inserts, is_protected, era_count}
 use Rattle.history.specs.Tokens.{accepted}
-use Rattle.history.specs.Commands.{has_done, done_commands}
-use Rattle.history.specs.Contents.{pieces_of, patch_all, contents, flushed_contents, kept_contents}
-use Rattle.history.specs.Marks.{Holds, IsOutstanding, fetches}
+use Rattle.history.specs.Marks.{fetches}
 use Rattle.history.specs.Rules.{IsLegal}
-use Rattle.history.specs.Room.{owed_entries, tokens_owed}
+use Rattle.history.specs.Room.{owed_entries}
 use Rattle.history_laws.proofs.CountLemmas.{accepted-none}
 use Rattle.disk_core.specs.declared.parts.Core.{Core}
 use Rattle.disk_core.specs.State.{Kept, kept_at, opening_from, setup_of}
@@ -23,7 +21,7 @@ use Rattle.disk_core.specs.Facts.{MeetsEra, KeptFollow, GatesFollow}
 use Rattle.disk_core.specs.Parts.{state_of, kept_of, holder_of}
 use Rattle.history_laws.specs.Pending.{Ordered}
 use Rattle.disk_core.specs.Inside.{IsEarlier, DriveFollows, RecordsFollow, HoldersFollow, AreReady}
-use Rattle.history.specs.Tasks.{todo_before, pending}
+use Rattle.history.specs.Tasks.{pending}
 use Rattle.token_table.specs.declared.record.Record.{Record}
 use Rattle.token_table.specs.Records.{Records, record_at}
 use Rattle.subtask_queue.specs.Subs.{sub_of}

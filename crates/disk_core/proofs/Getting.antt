@@ -1,25 +1,24 @@
 -- The gets of a read.
-use Rattle.std.proofs.Common.{◌≡◌, ℕ, ◌+◌, ◌-◌, ◌*◌, ◌^◌, ◌<◌, ◌≤◌, Bool, true, false, List, ◌∷◌, length, Option, None, Some, refl, sym, ◌∙◌, ap, subst, arith, Result, Ok, Err, IsSome, IfSome}
+use Rattle.std.proofs.Common.{◌≡◌, ℕ, ◌+◌, ◌-◌, ◌*◌, ◌^◌, ◌<◌, ◌≤◌, false, List, ◌∷◌, length, Option, None, Some, refl, sym, ◌∙◌, ap, subst, arith, Result, Ok, Err, IsSome, IfSome}
 use Rattle.std.specs.Prelude.{count_by, slice_set}
 use Rattle.std.specs.Option.{option_map}
 use Rattle.medium.specs.Device.{Device, IsShaped, IsTransfer, AreToldAt}
 use Rattle.medium.specs.declared.block_failed.BlockFailed.{BlockFailed}
 use Rattle.drive.specs.Drives.{DriveState, medium_in}
 use Rattle.disk_split.specs.declared.span.Span.{Span}
-use Rattle.history.specs.declared.entry.Kind.{Kind}
-use Rattle.history.specs.declared.entry.Kind.TheVariants.{Read, Write, Flush, Erase}
+use Rattle.history.specs.declared.entry.Kind.TheVariants.{Read}
 use Rattle.history.specs.declared.entry.Command.{Command}
 use Rattle.history.specs.declared.entry.Command.TheVariants.{Get}
 use Rattle.history.specs.declared.entry.Entry.{Entry}
 use Rattle.history.specs.declared.entry.Entry.TheVariants.{Done, Fault}
 use Rattle.history.specs.Setup.{Setup, size_of}
 use Rattle.history.specs.Eras.{media_id_of}
-use Rattle.history.specs.Tokens.{Request, is_flush, changes_bytes, from_of}
+use Rattle.history.specs.Tokens.{Request, changes_bytes, from_of}
 use Rattle.history.specs.Contents.{contents}
-use Rattle.history.specs.Tasks.{Moves, Todo, task_command, span_command}
+use Rattle.history.specs.Tasks.{Moves, Todo, task_command}
 use Rattle.history.specs.Next.{Made}
 use Rattle.history_laws.specs.Left.{task_bytes}
-use Rattle.history_laws.specs.Units.{IsUnitCommand, is_span_command}
+use Rattle.history_laws.specs.Units.{IsUnitCommand}
 use Rattle.history_laws.proofs.CountLemmas.{fetches-same}
 use Rattle.token_table.specs.declared.record.Record.{Record}
 use Rattle.token_table.specs.declared.record.Mark.{Mark}

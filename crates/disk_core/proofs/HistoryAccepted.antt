@@ -10,7 +10,7 @@ use Rattle.disk_split.specs.declared.parts.Part.{Part}
 use Rattle.disk_split.specs.declared.parts.Parts.{Parts}
 use Rattle.disk_split.specs.declared.span.Span.{Span}
 use Rattle.disk_split.specs.Parts.{part_of}
-use Rattle.disk_split.specs.Units.{group_size, middle, whole_end, whole_blocks, whole_runs, part_in, runs_from, run_at, first_whole, units_of, Tile}
+use Rattle.disk_split.specs.Units.{group_size, middle, whole_end, whole_blocks, whole_runs, part_in, first_whole, units_of}
 use Rattle.disk_split.proofs.Tiling.{tile-units}
 use Rattle.history.specs.declared.entry.View.{View}
 use Rattle.history.specs.declared.entry.Kind.{Kind}
@@ -24,7 +24,7 @@ use Rattle.history.specs.Commands.{is_sync, has_done, done_commands, is_moved}
 use Rattle.history.specs.Marks.{mark_of, status_if, is_complete, all_from}
 use Rattle.history.specs.Rules.{IsLegal}
 use Rattle.history.specs.Tasks.{Task, Moves, Syncs, tasks_of, is_finished}
-use Rattle.history.specs.Room.{one_unless, part_owed, span_owed, task_owed, commands_owed, owed_entries}
+use Rattle.history.specs.Room.{task_owed, commands_owed, owed_entries}
 use Rattle.history_laws.specs.Left.{task_bytes, left_of}
 use Rattle.history_laws.proofs.TokenLemmas.{request-accept, done_commands-same, collected-same}
 use Rattle.history_laws.proofs.EndLemmas.{mark-accept, unaccepted, untold-done, untold-collected}

@@ -1,11 +1,11 @@
 -- The copy of a held group stays that group through every entry but its holder's store.
-use Rattle.std.proofs.Common.{◌≡◌, ℕ, ◌+◌, ◌*◌, ◌<◌, ◌≤◌, false, List, ◌∷◌, length, take, drop, slice_get, Option, None, Some, option_map, refl, sym, ◌∙◌, ap, subst, arith}
+use Rattle.std.proofs.Common.{◌≡◌, ℕ, ◌+◌, ◌*◌, ◌<◌, ◌≤◌, false, List, ◌∷◌, length, take, drop, slice_get, Option, None, Some, refl, sym, ◌∙◌, ap, subst, arith}
 use Rattle.std.proofs.lemmas.List.{length-take, length-drop}
 use Rattle.byte_lists.proofs.Patches.{same-bytes, part-byte}
 use Rattle.medium.specs.Device.{AreToldAt}
 use Rattle.history.specs.declared.entry.Entry.{Entry}
-use Rattle.history.specs.Setup.{Setup, IsSetup, size_of, per_of, first_of}
-use Rattle.history.specs.Contents.{contents, patch_all, pieces_of, byte_at}
+use Rattle.history.specs.Setup.{Setup, IsSetup, size_of, per_of}
+use Rattle.history.specs.Contents.{contents, byte_at}
 use Rattle.history.specs.Marks.{Holds}
 use Rattle.history.specs.Rules.{MayFollow, IsLegal}
 use Rattle.history_laws.specs.Ranges.{AreToldWhole}

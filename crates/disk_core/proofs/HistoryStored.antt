@@ -1,8 +1,8 @@
 -- What a store puts on the medium, done or failed: its group with the token's bytes put in patches it as those bytes alone do.
-use Rattle.std.proofs.Common.{◌≡◌, ℕ, zero, suc, ◌+◌, ◌-◌, ◌*◌, ◌<◌, ◌≤◌, inl, inr, List, [], ◌∷◌, length, take, drop, slice_get, Option, None, Some, option_map, refl, sym, ◌∙◌, ap, subst, arith}
+use Rattle.std.proofs.Common.{◌≡◌, ℕ, ◌+◌, ◌-◌, ◌*◌, ◌<◌, ◌≤◌, inl, inr, List, ◌∷◌, length, take, slice_get, Option, None, Some, option_map, refl, sym, ◌∙◌, ap, subst, arith}
 use Rattle.std.specs.Prelude.{min}
 use Rattle.std.proofs.lemmas.Bool.{cases_lt, lt-ltb, le-ltb}
-use Rattle.std.proofs.lemmas.List.{length-take, take_all}
+use Rattle.std.proofs.lemmas.List.{length-take}
 use Rattle.std.proofs.lemmas.Nat.{mul-le}
 use Rattle.byte_lists.specs.Patching.{patch}
 use Rattle.byte_lists.proofs.Patched.{length-patch}
@@ -14,7 +14,7 @@ use Rattle.history.specs.declared.entry.Entry.{Entry}
 use Rattle.history.specs.declared.entry.Entry.TheVariants.{Done, Fault}
 use Rattle.history.specs.Setup.{Setup, size_of}
 use Rattle.history.specs.Eras.{media_id_of}
-use Rattle.history.specs.Tokens.{Request, request, request_bytes, from_of}
+use Rattle.history.specs.Tokens.{Request, request}
 use Rattle.history.specs.Contents.{contents, bytes_between, piece_between, piece_of}
 use Rattle.history_laws.specs.Units.{IsUnitCommand}
 use Rattle.history_laws.proofs.ContentLemmas.{contents-piece, contents-same}

@@ -1,10 +1,10 @@
 -- The holders of a token, one after the other.
-use Rattle.std.proofs.Common.{◌≡◌, ℕ, zero, suc, ◌+◌, ◌<◌, ◌≤◌, Bool, true, false, List, [], ◌∷◌, ◌++◌, length, take, drop, slice_get, get_or, Option, None, Some, refl, sym, ◌∙◌, ap, arith}
-use Rattle.std.specs.Prelude.{is_some, nat_eq}
+use Rattle.std.proofs.Common.{◌≡◌, ℕ, zero, suc, ◌+◌, ◌<◌, ◌≤◌, Bool, true, false, List, [], ◌∷◌, length, drop, slice_get, get_or, Option, None, Some, refl, sym, ap, arith}
+use Rattle.std.specs.Prelude.{is_some}
 use Rattle.std.proofs.lemmas.Option.{slice_get-get_or}
 use Rattle.block_gate.specs.Gates.{Gates, gate_of, releasing}
 use Rattle.disk_core.specs.declared.parts.Holder.{Holder}
-use Rattle.disk_core.specs.Moves.{revoking, revoked, revoked_one, others, passing}
+use Rattle.disk_core.specs.Moves.{revoking, revoked, revoked_one, passing}
 
 pub revoked-step : (token : ℕ) (holders : List Holder) (i : ℕ) (h : Holder) (s : Gates) → slice_get holders i ≡ Some h → revoked token (drop i holders) s ≡ revoked token (drop (suc i) holders) (revoked_one token h s)
 unfolding revoked

@@ -1,7 +1,7 @@
 -- The next medium is put in.
-use Rattle.std.proofs.Common.{◌≡◌, ◌≢◌, ℕ, suc, ◌+◌, ◌<◌, ◌≤◌, Bool, true, false, List, ◌∷◌, length, map, Option, refl, sym, ◌∙◌, ap, subst, arith, Result, Ok, Err}
+use Rattle.std.proofs.Common.{◌≡◌, ℕ, suc, ◌+◌, ◌<◌, ◌≤◌, Bool, true, false, List, ◌∷◌, length, map, Option, refl, sym, ◌∙◌, ap, subst, arith, Result, Ok, Err}
 use Rattle.std.specs.Prelude.{vec_capacity, nat_lt, if◌then◌else◌}
-use Rattle.std.proofs.lemmas.Bool.{eq-eqb, ltb-true, ltb-false, true≢false}
+use Rattle.std.proofs.lemmas.Bool.{ltb-true, ltb-false, true≢false}
 use Rattle.drive.specs.declared.answers.InsertFault.{InsertFault}
 use Rattle.drive.specs.declared.answers.InsertFault.TheVariants.{Occupied, NoSpare}
 use Rattle.std.proofs.lemmas.List.{length-map}
@@ -11,15 +11,13 @@ use Rattle.block_gate.specs.Gates.{Gates}
 use Rattle.history.specs.declared.entry.Entry.{Entry}
 use Rattle.history.specs.declared.entry.Entry.TheVariants.{Insert}
 use Rattle.history.specs.Setup.{Setup, IsSetup, size_of}
-use Rattle.history.specs.Eras.{ejects, inserts, is_present}
+use Rattle.history.specs.Eras.{is_present}
 use Rattle.history.specs.Tokens.{Request}
-use Rattle.history.specs.Marks.{mark_of, ending, IsOutstanding, HoldsBy}
+use Rattle.history.specs.Marks.{HoldsBy}
 use Rattle.history.specs.Rules.{MayFollow, IsLegal}
-use Rattle.history_laws.proofs.TokenLemmas.{or_else-none, request-some, request-same}
-use Rattle.history_laws.proofs.CountLemmas.{accepted-same, fetches-same, inserts-more, ejects-same}
+use Rattle.history_laws.proofs.TokenLemmas.{request-same}
+use Rattle.history_laws.proofs.CountLemmas.{accepted-same, fetches-same, inserts-more}
 use Rattle.history_laws.proofs.EraLemmas.{protected-same}
-use Rattle.history_laws.proofs.MediaLemmas.{open-media}
-use Rattle.history_laws.proofs.LengthLemmas.{inserts-after-ejects}
 use Rattle.history_laws.proofs.PendingLemmas.{pending-insert}
 use Rattle.history_laws.proofs.SpareLemmas.{entries-insert}
 use Rattle.subtask_queue.specs.Subs.{sub_of}

@@ -1,19 +1,7 @@
 -- Where the blocks of a unit lie on the medium, and which bytes of its request they have.
-use Rattle.std.proofs.Common.{◌≡◌, ℕ, ◌+◌, ◌-◌, ◌*◌, ◌/◌, ◌<◌, ◌≤◌, inl, inr, Bool, true, false, List, Some, refl, sym, ◌∙◌, ap, subst, arith}
+use Rattle.std.proofs.Common.{◌≡◌, ℕ, ◌-◌, ◌*◌, Bool, true, false, refl}
 use Rattle.std.specs.Prelude.{if◌then◌else◌}
-use Rattle.std.proofs.lemmas.Bool.{cases_lt}
-use Rattle.std.proofs.Math.Nat.{mul-le-mul_right, mul_comm, mul_assoc, mod-eq-sub-div-mul, div-mul-le_self, lt_of_mul-lt-mul_right}
-use Rattle.disk_split.specs.declared.span.Span.{Span}
-use Rattle.disk_split.specs.Units.{IsUnit, IsKind}
-use Rattle.history.specs.declared.entry.Entry.{Entry}
-use Rattle.history.specs.Setup.{Setup, IsSetup, size_of, per_of, blocks_of}
-use Rattle.history.specs.Eras.{media_id_of}
-use Rattle.history.specs.Tokens.{Request, request, is_flush, from_of, until_of}
-use Rattle.history.specs.Marks.{IsOutstanding}
-use Rattle.history.specs.Rules.{IsLegal}
 use Rattle.history.specs.Tasks.{Task, Moves, Syncs}
-use Rattle.history_laws.proofs.MediaLemmas.{range-in-view, open-media}
-use Rattle.history_laws.proofs.PieceLemmas.{run-high}
 use Rattle.subtask_queue.specs.declared.sub.Sub.TheVariants as sub
 use Rattle.subtask_queue.specs.Subs.{sub_of_task}
 

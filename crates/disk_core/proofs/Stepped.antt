@@ -13,7 +13,7 @@ use Rattle.history.specs.declared.entry.Entry.TheVariants.{Done, Fault}
 use Rattle.history.specs.Setup.{Setup}
 use Rattle.history.specs.Eras.{media_id_of}
 use Rattle.history.specs.Tokens.{Request, accepted}
-use Rattle.history.specs.Commands.{is_fetch, is_store, is_at}
+use Rattle.history.specs.Commands.{is_fetch, is_store}
 use Rattle.history.specs.Marks.{mark_of, fetches, HoldsBy}
 use Rattle.history.specs.Rules.{MayCommand, MayFollow, StopsAt, IsLegal}
 use Rattle.history.specs.Tasks.{Todo}

@@ -1,27 +1,20 @@
 -- What an entry leaves that makes no command, accepts and ends nothing, and changes no medium and no protection.
-use Rattle.std.proofs.Common.{◌≡◌, ℕ, ◌*◌, ◌<◌, inl, inr, false, not, List, ◌∷◌, None, refl, sym, ◌∙◌, ap, subst}
-use Rattle.std.specs.Prelude.{filter, sum_by}
+use Rattle.std.proofs.Common.{◌≡◌, ℕ, ◌*◌, ◌<◌, inl, inr, false, List, ◌∷◌, sym, ◌∙◌, ap, subst}
 use Rattle.medium.specs.Device.{Device, AreToldAt}
 use Rattle.drive.specs.Drives.{DriveState}
 use Rattle.block_gate.specs.Gates.{Gates}
 use Rattle.history.specs.declared.entry.Entry.{Entry}
-use Rattle.history.specs.declared.entry.Entry.TheVariants.{Done, Fault}
-use Rattle.history.specs.Setup.{Setup, IsSetup, size_of}
-use Rattle.history.specs.Eras.{is_command, is_eject, is_insert, media_id_of}
-use Rattle.history.specs.Tokens.{Request, accepted, is_accept}
-use Rattle.history.specs.Contents.{contents, bytes_read}
-use Rattle.history.specs.Marks.{mark_of, ending, or_else, IsOutstanding, HoldsBy, is_fetch_entry, fetches}
-use Rattle.history.specs.Rules.{MayFollow, IsLegal}
-use Rattle.history.specs.Tasks.{tasks_of}
-use Rattle.history_laws.specs.Gates.{is_store_of}
-use Rattle.history_laws.specs.Left.{task_bytes, left_of}
-use Rattle.history_laws.specs.Told.{is_done}
+use Rattle.history.specs.Setup.{Setup, size_of}
+use Rattle.history.specs.Eras.{is_command, media_id_of}
+use Rattle.history.specs.Tokens.{Request, accepted}
+use Rattle.history.specs.Contents.{contents}
+use Rattle.history.specs.Marks.{mark_of, or_else, IsOutstanding, HoldsBy, fetches}
+use Rattle.history_laws.specs.Left.{left_of}
 use Rattle.history_laws.proofs.CountLemmas.{accepted-same, fetches-same}
-use Rattle.history_laws.proofs.TokenLemmas.{or_else-none, request-same, request-stays, done_commands-same}
+use Rattle.history_laws.proofs.TokenLemmas.{or_else-none, request-same, request-stays}
 use Rattle.history_laws.proofs.ContentLemmas.{contents-same, piece-none}
-use Rattle.history_laws.proofs.EraLemmas.{is_protect, protected-same}
+use Rattle.history_laws.proofs.EraLemmas.{protected-same}
 use Rattle.history_laws.proofs.MediaLemmas.{media-id-same, present-same}
-use Rattle.history_laws.proofs.PendingLemmas.{finished-same}
 use Rattle.history_laws.proofs.TicketLemmas.{holds-by-before, holds-by-stays}
 use Rattle.token_table.specs.declared.record.Record.{Record}
 use Rattle.disk_core.specs.declared.parts.Holder.{Holder}

@@ -1,22 +1,19 @@
 -- The queue without the unit that was finished.
-use Rattle.std.proofs.Common.{◌≡◌, ℕ, suc, ◌-◌, ◌*◌, inl, inr, Bool, true, false, not, ◌&&◌, List, [], ◌∷◌, map, slice_get, Some, refl, sym, ◌∙◌, ap, subst, arith}
-use Rattle.std.specs.Prelude.{filter, nat_eq, if◌then◌else◌, max}
-use Rattle.std.proofs.lemmas.Bool.{cases_Bool, cases_eq, and_left, and_right, and_parts, eq-eqb, ne_eqb, eqb-true, both_ways}
+use Rattle.std.proofs.Common.{◌≡◌, ℕ, suc, ◌-◌, ◌*◌, inl, inr, Bool, true, false, not, ◌&&◌, List, [], ◌∷◌, map, slice_get, Some, refl, sym, ◌∙◌, ap, subst}
+use Rattle.std.specs.Prelude.{filter, nat_eq, if◌then◌else◌}
+use Rattle.std.proofs.lemmas.Bool.{cases_Bool, cases_eq, and_left, eq-eqb, ne_eqb}
 use Rattle.std.proofs.lemmas.Option.{same_Some}
-use Rattle.disk_split.specs.declared.span.Span.{Span}
-use Rattle.disk_split.proofs.Shared.{units-same}
 use Rattle.history.specs.declared.entry.Command.{Command}
 use Rattle.history.specs.declared.entry.Entry.{Entry}
 use Rattle.history.specs.declared.entry.Entry.TheVariants.{Done}
 use Rattle.history.specs.Setup.{Setup, IsSetup, size_of}
-use Rattle.history.specs.Tokens.{Request, request, is_flush, changes_bytes, from_of, until_of}
+use Rattle.history.specs.Tokens.{Request, request, changes_bytes}
 use Rattle.history.specs.Marks.{IsOutstanding}
 use Rattle.history.specs.Rules.{IsLegal}
 use Rattle.history.specs.Tasks.{Task, Moves, Syncs, tasks_of, Todo, pending}
 use Rattle.history_laws.specs.Pending.{task_low, IsBefore, Ordered}
 use Rattle.history_laws.proofs.OrderLemmas.{pending-ordered}
 use Rattle.history_laws.proofs.PendingLemmas.{IsPending, filter-everything, pending-is}
-use Rattle.history_laws.proofs.TaskLemmas.{task-unit, task-sync, task-moving}
 use Rattle.subtask_queue.specs.declared.sub.Sub.{Sub}
 use Rattle.subtask_queue.specs.declared.sub.Sub.TheVariants.{Part, Run}
 use Rattle.subtask_queue.specs.Subs.{token_of, block_of, is_of, has_block, is_unit, sub_of_task, sub_of, without_first}

@@ -1,5 +1,5 @@
 -- The unit that comes next, and what the disk has for its command.
-use Rattle.std.proofs.Common.{◌≡◌, ℕ, zero, suc, ◌+◌, ◌-◌, ◌<◌, ◌≤◌, Bool, true, List, [], ◌∷◌, length, slice_get, None, Some, refl, sym, ◌∙◌, ap, subst, arith, IsSome}
+use Rattle.std.proofs.Common.{◌≡◌, ℕ, zero, suc, ◌+◌, ◌-◌, ◌<◌, ◌≤◌, true, List, [], ◌∷◌, length, slice_get, None, Some, refl, sym, ◌∙◌, ap, subst, arith, IsSome}
 use Rattle.std.specs.Prelude.{count_by, nat_lt, if◌then◌else◌, IfSome}
 use Rattle.std.specs.Option.{option_map}
 use Rattle.medium.specs.Device.{Device, IsShaped}
@@ -9,14 +9,14 @@ use Rattle.history.specs.declared.entry.Entry.{Entry}
 use Rattle.history.specs.Setup.{Setup}
 use Rattle.history.specs.Tokens.{Request, request}
 use Rattle.history.specs.Marks.{is_held, IsOutstanding}
-use Rattle.history.specs.Rules.{MayCommand, IsLegal}
-use Rattle.history.specs.Tasks.{Task, Todo, pending, is_runnable, first_runnable, task_command}
+use Rattle.history.specs.Rules.{IsLegal}
+use Rattle.history.specs.Tasks.{Task, Todo, pending, is_runnable, first_runnable}
 use Rattle.history_laws.specs.Left.{task_bytes, left_of}
 use Rattle.history_laws.specs.Ranges.{AreToldWhole}
 use Rattle.history_laws.proofs.MayLemmas.{left-may}
 use Rattle.history_laws.proofs.MediaLemmas.{open-media}
 use Rattle.history_laws.proofs.NextLemmas.{find-some}
-use Rattle.history_laws.proofs.PendingLemmas.{IsPending, pending-is}
+use Rattle.history_laws.proofs.PendingLemmas.{pending-is}
 use Rattle.token_table.specs.declared.record.Mark.{Mark}
 use Rattle.token_table.specs.Records.{request_at, mark_at}
 use Rattle.subtask_queue.specs.declared.sub.Sub.{Sub}

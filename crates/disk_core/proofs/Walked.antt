@@ -1,24 +1,20 @@
 -- The walk that ends the meant tokens: what it has done before it comes to a token.
-use Rattle.std.proofs.Common.{◌≡◌, ℕ, zero, suc, ◌<◌, ◌≤◌, inl, inr, Bool, true, false, not, nat_eq, ◌||◌, List, [], ◌∷◌, map, slice_get, Option, None, Some, refl, sym, ◌∙◌, ap, subst, arith}
+use Rattle.std.proofs.Common.{◌≡◌, ℕ, zero, suc, ◌<◌, ◌≤◌, inl, inr, Bool, true, false, nat_eq, List, [], ◌∷◌, map, slice_get, Option, None, Some, refl, sym, ◌∙◌, ap, subst, arith}
 use Rattle.std.specs.Prelude.{filter, is_none}
-use Rattle.std.specs.List.{find, list_any}
+use Rattle.std.specs.List.{list_any}
 use Rattle.std.specs.Option.{option_map}
-use Rattle.std.proofs.lemmas.Bool.{cases_Bool, cases_eq, eq-eqb, eqb-true, or_left, or_right, or_cases, true≢false}
-use Rattle.std.proofs.lemmas.List.Folds.{list_any-append}
+use Rattle.std.proofs.lemmas.Bool.{cases_Bool, eqb-true, or_left, or_right, or_cases, true≢false}
 use Rattle.efi_status.specs.declared.Status.{Status}
 use Rattle.history.specs.declared.entry.Entry.{Entry}
 use Rattle.history.specs.Setup.{Setup, IsSetup, size_of}
 use Rattle.history.specs.Tokens.{Request, is_accept, accepted, request, was_collected}
 use Rattle.history.specs.Marks.{mark_of, ending, status_if, IsOutstanding}
 use Rattle.history.specs.Rules.{IsLegal}
-use Rattle.history.specs.Tasks.{Todo, tasks_of, is_finished, todo_of, todo_before, pending}
-use Rattle.history.specs.Next.{next_task}
-use Rattle.history_laws.specs.Pending.{todo_at, IsBefore}
+use Rattle.history.specs.Tasks.{Todo, pending}
+use Rattle.history_laws.specs.Pending.{IsBefore}
 use Rattle.history_laws.proofs.CountLemmas.{accepted-same}
-use Rattle.history_laws.proofs.TokenLemmas.{request-some, request-same}
-use Rattle.history_laws.proofs.RunnableLemmas.{open-unfinished}
-use Rattle.history_laws.proofs.NextLemmas.{outstanding-test}
-use Rattle.history_laws.proofs.PendingLemmas.{filter-everything, todo-open, pending-is, get-filtered}
+use Rattle.history_laws.proofs.TokenLemmas.{request-same}
+use Rattle.history_laws.proofs.PendingLemmas.{filter-everything, pending-is, get-filtered}
 use Rattle.history_laws.proofs.OrderLemmas.{pending-ordered, ordered-filter, ordered-map}
 use Rattle.token_table.specs.declared.record.Record.{Record}
 use Rattle.token_table.specs.Records.{record_at, request_at}
