@@ -50,8 +50,10 @@ use Rattle.disk_core.specs.Moves.{IsDisk}
 use Rattle.disk_core.proofs.Following.{era-still}
 use Rattle.disk_core.proofs.Still.{buffer-kept}
 use Rattle.history_laws.proofs.LeftLemmas.{left-done}
-use Rattle.disk_core.proofs.HistoryAccepted.{left-new, uncollected-new}
+use Rattle.disk_core.proofs.HistoryAccepted.{left-new}
+use Rattle.history_laws.proofs.AcceptLemmas.{uncollected-new}
 use Rattle.disk_core.proofs.Plain.{some-none}
+use Rattle.history_laws.proofs.AcceptedLemmas.{contents-accept, holds-accept, holds-was, legal-accept, mark-old, more, older}
 
 -- what is kept of the last token and of those before
 pub kept-last : (kept : List (Option Kept)) (u : ℕ) (k : Option Kept) → kept_at (kept ++ k ∷ []) u ≡ (if nat_eq u (length kept) then k else kept_at kept u)
@@ -79,58 +81,25 @@ module _ (S : Setup) (H : List Entry) (tag : ℕ) (view : View) (asked : Asked) 
   abbrev q : Request
   q = record { tag = tag; view = view; asked = asked; bytes = bytes }
 
-  pub legal-accept : IsLegal S (e ∷ H)
-  unfolding IsLegal MayFollow
-  legal-accept = (legal, may)
-
-  may-follow : MayFollow S H e
-  unfolding MayFollow
-  may-follow = may
-
-  more : accepted (e ∷ H) ≡ accepted H + 1
-  more = accepted-more H e refl
-
-  older : (u : ℕ) → u < accepted H → u ≢ accepted H
-  older u lt same = absurd (omega arith)
-
-  mark-old : (u : ℕ) → u ≢ accepted H → mark_of S (e ∷ H) u ≡ mark_of S H u
-  mark-old u other = mark-other S H e u (accept-concerns H tag view asked bytes u other)
-
-  holds-accept : (t b k : ℕ) → HoldsBy S H t b k → HoldsBy S (e ∷ H) t b k
-  holds-accept t b k holds =
-      holds-by-stays S H e t b k setup may-follow refl (mark-old t (older t holds.holds.outstanding.token) ∙ holds.holds.outstanding.unmarked) holds
-
-  no-fetch : (t b : ℕ) → e ≡ Done t (Fetch b) → ⊥
-  no-fetch t b is = cc
-
-  holds-was : (t b k : ℕ) → HoldsBy S (e ∷ H) t b k → HoldsBy S H t b k
-  holds-was t b k holds = elim (holds-by-before S H e t b k setup legal-accept holds) [
-    | inl before ↦ before
-    | inr is ↦ absurd (no-fetch t b is.0)
-  ]
-
-  contents-accept : contents S (media_id_of (e ∷ H)) (e ∷ H) ≡ contents S (media_id_of H) H
-  contents-accept = ap (λ k. contents S k (e ∷ H)) (media-id-same H e refl) ∙ contents-same S (media_id_of H) H e (piece-none S H e refl)
-
   pub gates-accept : (gates : Gates) → GatesFollow S H gates → GatesFollow S (e ∷ H) gates
   gates-accept gates follow = record {
     sized = follow.sized;
     each = λ k g there. (let t = (follow.each k g there).0 in let is = (follow.each k g there).1 in (
       t,
       record {
-        holds = holds-accept t g.block k is.holds;
+        holds = (holds-accept S H tag view asked bytes setup legal may) t g.block k is.holds;
         lent = is.lent;
-        copied = subst (λ told. AreToldAt told (g.block * size_of S) g.copy) (sym contents-accept) is.copied;
+        copied = subst (λ told. AreToldAt told (g.block * size_of S) g.copy) (sym (contents-accept S H tag view asked bytes setup legal may)) is.copied;
       },
     ));
-    all = λ t b k holds. follow.all t b k (holds-was t b k holds);
+    all = λ t b k holds. follow.all t b k ((holds-was S H tag view asked bytes setup legal may) t b k holds);
     below = λ k out. subst (λ n. k < n) (sym (fetches-same H e refl)) (follow.below k out);
   }
 
   pub holders-accept : (gates : Gates) (holders : List Holder) (places : ℕ) → HoldersFollow S H gates holders places → HoldersFollow S (e ∷ H) gates holders places
   holders-accept gates holders places follow = record {
-    each = λ k t b holds. follow.each k t b (holds-was t b k holds);
-    only = λ k t there. (let h = follow.only k t there in (h.0, holds-accept t h.0 k h.1));
+    each = λ k t b holds. follow.each k t b ((holds-was S H tag view asked bytes setup legal may) t b k holds);
+    only = λ k t there. (let h = follow.only k t there in (h.0, (holds-accept S H tag view asked bytes setup legal may) t h.0 k h.1));
     apart = follow.apart;
     paired = follow.paired;
     rising = follow.rising;
@@ -152,7 +121,7 @@ module _ (S : Setup) (H : List Entry) (tag : ℕ) (view : View) (asked : Asked) 
     asked = is.asked;
     viewed = is.viewed;
     begins = is.begins;
-    mark = mark-old t (older t (request-accepted H t was is.named)) ∙ is.mark;
+    mark = (mark-old S H tag view asked bytes setup legal may) t ((older S H tag view asked bytes setup legal may) t (request-accepted H t was is.named)) ∙ is.mark;
     left = λ unended. is.left unended ∙ sym (left-done S H e t was refl);
   }
 
@@ -208,7 +177,7 @@ module _ (S : Setup) (H : List Entry) (tag : ℕ) (view : View) (asked : Asked) 
 
   pub kept-accept : (kept : List (Option Kept)) (k : Kept) → length k.buffer ≡ buffer_length asked.kind asked.length → (asked.kind ≡ Write → k.buffer ≡ bytes) → KeptFollow S H kept → KeptFollow S (e ∷ H) (kept ++ Some k ∷ [])
   kept-accept kept k long written follow = record {
-    counted = (let one = length-append kept (Some k ∷ []) in let many = follow.counted in let plus = more in omega arith);
+    counted = (let one = length-append kept (Some k ∷ []) in let many = follow.counted in let plus = (more S H tag view asked bytes setup legal may) in omega arith);
     there = λ t found is. elim (cases_eq t (length kept)) [
       | inl same ↦
           let here : k ≡ found = same_Some k found (sym (kept-last kept t (Some k) ∙ rw (eq-eqb t (length kept) same) refl) ∙ is) in
@@ -222,7 +191,7 @@ module _ (S : Setup) (H : List Entry) (tag : ℕ) (view : View) (asked : Asked) 
       | inl same ↦ absurd (some-none (kept_at (kept ++ Some k ∷ []) t) k none (kept-last kept t (Some k) ∙ rw (eq-eqb t (length kept) same) refl))
       | inr other ↦
           let many = follow.counted in
-          let plus = more in
+          let plus = (more S H tag view asked bytes setup legal may) in
           collected-same H e t refl ∙ follow.gone t (omega (arith, other)) (sym (kept-last kept t (Some k) ∙ rw (ne_eqb t (length kept) other) refl) ∙ none)
     ];
   }
@@ -233,7 +202,7 @@ module _ (S : Setup) (H : List Entry) (tag : ℕ) (view : View) (asked : Asked) 
       ap (λ old. old ++ subs_of_request S.geometry (accepted H) asked.kind parts) is
       ∙ ap (λ own. map (sub_of (size_of S)) (pending S H) ++ own) (subs-of-tasks S q (accepted H) parts are)
       ∙ sym (map-append (sub_of (size_of S)) (pending S H) (todos_of S (accepted H) q))
-      ∙ sym (ap (map (sub_of (size_of S))) (pending-accept S H tag view asked bytes setup legal-accept))
+      ∙ sym (ap (map (sub_of (size_of S))) (pending-accept S H tag view asked bytes setup (legal-accept S H tag view asked bytes setup legal may)))
 
   pub ready-accept : (ready : ℕ → Type 0) → AreReady S H ready → (changes_bytes asked.kind ≡ true → mark_of S (e ∷ H) (accepted H) ≡ None → (b : ℕ) → group_low S q ≤ b → b < group_high S q → ready b) → AreReady S (e ∷ H) ready
   ready-accept ready are now t b was open_now named changes low high = elim (cases_eq t (accepted H)) [

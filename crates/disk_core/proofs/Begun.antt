@@ -52,13 +52,6 @@ module _ (S : Setup) (H : List Entry) (e : Entry) (is : IsEnding S H e) where
   pub owed-before : owed_so_far S (e ∷ H) (mark_of S H) ≡ tokens_owed S H (accepted H) + media_owed S (e ∷ H)
   owed-before = rw (accepted-same H e is.adds_none, tokens-before (accepted H)) refl
 
-  -- the units of the tokens that stay open are those that are left
-  pub units-left : filter (λ todo. is_none (mark_of S (e ∷ H) todo.token)) (pending S H) ≡ pending S (e ∷ H)
-  units-left =
-      filter-alike (λ todo. is_none (mark_of S (e ∷ H) todo.token)) (λ todo. is_none (ending S H e todo.token)) (pending S H)
-      (λ k todo there. (let of = pending-is S H k todo there in ap is_none (mark-next S H e todo.token of.1.outstanding.unmarked)))
-      ∙ sym (pending-ends S H e is.adds_none is.unmoving)
-
   kept-begun : (kept : List (Option Kept)) → KeptFollow S H kept → KeptFollow S (e ∷ H) kept
   kept-begun kept follow = record {
     counted = follow.counted ∙ sym (accepted-same H e is.adds_none);
@@ -151,3 +144,4 @@ module _ (S : Setup) (H : List Entry) (e : Entry) (is : IsEnding S H e) where
     gates = gates;
     room = room;
   }
+

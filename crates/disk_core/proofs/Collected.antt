@@ -29,7 +29,8 @@ use Rattle.disk_core.specs.Calls.{CollectSays, IsUnknown, MarkSays}
 use Rattle.disk_core.specs.Moves.{IsDisk, Reaches, HasPlace, entered, collected}
 use Rattle.disk_core.proofs.Following.{era-still}
 use Rattle.disk_core.proofs.Kept.{kept-record, kept-without, kept-cleared, kept-others, records-cleared, records-others}
-use Rattle.disk_core.proofs.Still.{gates-still, holders-still, drive-still, ready-still, tracks-still, buffer-still, accepted-still, fetches-still}
+use Rattle.disk_core.proofs.Still.{gates-still, holders-still, drive-still, ready-still, tracks-still, buffer-still}
+use Rattle.history_laws.proofs.StillLemmas.{accepted-still, fetches-still}
 use Rattle.history_laws.proofs.QuietLemmas.{IsStill}
 use Rattle.disk_core.proofs.Plain.{some-none}
 use Rattle.history_laws.proofs.QuietLemmas.{other-collect, still-collect}

@@ -34,7 +34,8 @@ use Rattle.disk_core.specs.Inside.{AreFitted}
 use Rattle.disk_core.specs.Calls.{Stores, IsHeldBy, Revokes}
 use Rattle.disk_core.specs.Moves.{Reaches, Ends, Fails, Finishes, entered, without_ticket_of}
 use Rattle.disk_core.specs.Storage.{IsStoring}
-use Rattle.disk_core.proofs.Begun.{begun, gates-begun, owed-before, units-left}
+use Rattle.disk_core.proofs.Begun.{begun, gates-begun, owed-before}
+use Rattle.history_laws.proofs.EndingLemmas.{units-left}
 use Rattle.disk_core.proofs.Closed.{kept-ended, closing-step, closed-all}
 use Rattle.disk_core.proofs.Commanded.{entry_for}
 use Rattle.disk_core.proofs.Failed.{open-place, beside-ends}

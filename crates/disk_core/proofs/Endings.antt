@@ -26,7 +26,8 @@ use Rattle.disk_core.specs.Calls.{EndsBy, Revokes}
 use Rattle.disk_core.specs.Closing.{meant_in, GatesSoFar, RoomSoFar, IsClosing, IsToEnd, HaveEnded}
 use Rattle.disk_core.proofs.Following.{era-still}
 use Rattle.disk_core.proofs.Links.{StandsBeside, links-disk, disk-closed}
-use Rattle.disk_core.proofs.Begun.{begun, gates-begun, units-left}
+use Rattle.disk_core.proofs.Begun.{begun, gates-begun}
+use Rattle.history_laws.proofs.EndingLemmas.{units-left}
 use Rattle.history_laws.proofs.QuietLemmas.{IsEnding}
 use Rattle.disk_core.proofs.Closed.{closed-all}
 use Rattle.disk_core.proofs.Failed.{beside-rest}

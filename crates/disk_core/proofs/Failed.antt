@@ -32,7 +32,8 @@ use Rattle.disk_core.specs.Calls.{Fills, IsCommanded, Makes, Revokes}
 use Rattle.disk_core.specs.Closing.{GatesSoFar, RoomSoFar}
 use Rattle.history_laws.proofs.OwingLemmas.{units-few}
 use Rattle.disk_core.proofs.Links.{StandsBeside, AreClosed, links-disk, disk-closed}
-use Rattle.disk_core.proofs.Begun.{begun, gates-begun, units-left, owed-before}
+use Rattle.disk_core.proofs.Begun.{begun, gates-begun, owed-before}
+use Rattle.history_laws.proofs.EndingLemmas.{units-left, fault-open}
 use Rattle.history_laws.proofs.QuietLemmas.{IsEnding}
 use Rattle.disk_core.proofs.Closed.{kept-ended, closing-step, closed-all}
 use Rattle.disk_core.proofs.Queued.{queue-units}
@@ -87,10 +88,6 @@ module _ (S : Setup) (H : List Entry) (t : ℕ) (command : Command) (done : ℕ)
   is_ending : IsEnding S H (Fault t command done)
   is_ending = ending-fault S H t command done may
 
-  pub fault-open : IsOutstanding S H t
-  unfolding MayFollow
-  fault-open = command-open S H t command may.0
-
   -- the parts before the entry, beside their gates, which may be others by now
   module _ (c₀ : Core) (closed : AreClosed S H c₀) (n : ℕ) (s : Gates) where
     abbrev pub Entered : Core
@@ -101,7 +98,7 @@ module _ (S : Setup) (H : List Entry) (t : ℕ) (command : Command) (done : ℕ)
     fault-room =
         let owed = owed-before S H (Fault t command done) is_ending in
         let media = media-same S H (Fault t command done) refl refl in
-        let place = open-place S H c₀ t closed fault-open in
+        let place = open-place S H c₀ t closed (fault-open S H t command done may) in
         let room : owed_entries S H ≤ c₀.owed = subst (λ h. owed_entries S h ≤ c₀.owed) closed.entries closed.room.owed in
         let few = closed.room.few in
         let long : length c₀.history.entries ≡ length H = ap length closed.entries in
@@ -112,9 +109,9 @@ module _ (S : Setup) (H : List Entry) (t : ℕ) (command : Command) (done : ℕ)
     pub failed-closed : (c' : Core) → GatesSoFar S Now (mark_of S H) s c₀.holders.items (vec_capacity c₀.holders) → Ends Entered c' t DeviceError → AreClosed S Now c'
     unfolding entered
     failed-closed c' gates ends =
-        let marked = mark-fault S H t command done fault-open.unmarked in
+        let marked = mark-fault S H t command done (fault-open S H t command done may).unmarked in
         let closing = begun S H (Fault t command done) is_ending c₀ Entered 1 closed (ap (λ h. Fault t command done ∷ h) closed.entries) refl refl gates fault-room in
-        let next = closing-step S Now (mark_of S H) (pending S H) 1 Entered t DeviceError closing fault-open.unmarked marked c' (mark_of S Now) ends marked
+        let next = closing-step S Now (mark_of S H) (pending S H) 1 Entered t DeviceError closing (fault-open S H t command done may).unmarked marked c' (mark_of S Now) ends marked
         (λ u other. mark-other S H (Fault t command done) u (fault-concerns H t u command done (λ e. other (sym e)))) in
         closed-all S Now (pending S H) 0 c' next (units-left S H (Fault t command done) is_ending) (let places = next.room.places in omega arith)
 

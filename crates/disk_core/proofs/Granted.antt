@@ -32,7 +32,8 @@ use Rattle.disk_core.specs.Admission.{IsRoom, IsTouched, accepting, accepted_req
 use Rattle.disk_core.specs.Moves.{IsDisk, Reaches}
 use Rattle.disk_core.proofs.HistoryAccepted.{mark-new, owed-new}
 use Rattle.disk_core.proofs.Keeping.{changed-last}
-use Rattle.disk_core.proofs.Accepted.{IsNew, legal-accept, accept-sound, kept-added, length-kept}
+use Rattle.disk_core.proofs.Accepted.{IsNew, accept-sound, kept-added, length-kept}
+use Rattle.history_laws.proofs.AcceptedLemmas.{legal-accept}
 
 payload-is : (kind : Kind) (n : ℕ) (buffer : List ℕ) → length buffer ≡ buffer_length kind n → IsPayload kind n (payload_of kind buffer)
 payload-is Read n buffer long = refl

@@ -36,6 +36,7 @@ use Rattle.history_laws.proofs.SpareLemmas.{entries-accept}
 use Rattle.subtask_queue.specs.Subs.{AreParts}
 use Rattle.disk_core.specs.Admission.{left_at_first, one_if, parts_count, cost_by}
 use Rattle.history_laws.proofs.CostLemmas.{flush-one, part-span-most, part_most, runs-most, tile-bytes, unless-most}
+use Rattle.history_laws.proofs.AcceptLemmas.{none-done, uncollected-new, unfinished}
 
 parts-most : (kind : Kind) (H : List Entry) (t : ℕ) (G : Geometry) (a m : ℕ) → sum_by (task_owed kind H t) (map Moves (part_in G a m)) ≤ part_most kind * one_if (part_of a m)
 parts-most kind H t G a m = by (nat_lt a m)
@@ -105,31 +106,23 @@ module _ (S : Setup) (H : List Entry) (tag : ℕ) (view : View) (asked : Asked) 
   abbrev q : Request
   q = record { tag = tag; view = view; asked = asked; bytes = bytes }
 
-  none-done : done_commands (new ∷ H) (accepted H) ≡ []
-  none-done = done_commands-same H new (accepted H) refl ∙ untold-done S H (accepted H) (unaccepted S H (accepted H) legal (omega arith))
-
-  unfinished : (task : Task) → is_finished S (new ∷ H) (accepted H) task ≡ false
-  unfolding has_done
-  unfinished (Moves u) = rw none-done refl
-  unfinished Syncs = rw none-done refl
-
   -- all of a new request is left
   pub left-new : left_of S (new ∷ H) (accepted H) q ≡ left_at_first asked.kind asked.length
   unfolding left_of
   left-new =
-      ap (sum_by task_bytes) (filter-everything (λ task. not (is_finished S (new ∷ H) (accepted H) task)) (tasks_of S q) (λ k task there. not_from_false (is_finished S (new ∷ H) (accepted H) task) (unfinished task)))
+      ap (sum_by task_bytes) (filter-everything (λ task. not (is_finished S (new ∷ H) (accepted H) task)) (tasks_of S q) (λ k task there. not_from_false (is_finished S (new ∷ H) (accepted H) task) ((unfinished S H tag view asked bytes setup legal) task)))
       ∙ tasks-bytes S q setup
 
   complete-new : is_complete S (new ∷ H) (accepted H) ≡ nat_eq (left_at_first asked.kind asked.length) 0
   unfolding has_done all_from
   complete-new = elim (cases_Bool (is_flush asked.kind)) [
-    | inl flush ↦ complete-flush S (new ∷ H) (accepted H) q (request-accept H tag view asked bytes) flush ∙ rw none-done (subst (λ k. false ≡ nat_eq (left_at_first k asked.length) 0) (sym (flush-one asked.kind flush)) refl)
+    | inl flush ↦ complete-flush S (new ∷ H) (accepted H) q (request-accept H tag view asked bytes) flush ∙ rw (none-done S H tag view asked bytes setup legal) (subst (λ k. false ≡ nat_eq (left_at_first k asked.length) 0) (sym (flush-one asked.kind flush)) refl)
     | inr moving ↦ complete-moved S (new ∷ H) (accepted H) q (request-accept H tag view asked bytes) moving ∙ unmoved asked.length ∙ moving-empty asked.kind asked.length moving
   ]
     where
       unmoved : (n : ℕ) → all_from (is_moved S (new ∷ H) (accepted H)) (from_of S q) n ≡ nat_eq n 0
       unmoved zero = refl
-      unmoved (suc n) = all_from-false (is_moved S (new ∷ H) (accepted H)) (from_of S q) (suc n) (from_of S q) (omega arith) (omega arith) (rw none-done refl) ∙ sym (ne_eqb (suc n) 0 (λ same. absurd (omega arith)))
+      unmoved (suc n) = all_from-false (is_moved S (new ∷ H) (accepted H)) (from_of S q) (suc n) (from_of S q) (omega arith) (omega arith) (rw (none-done S H tag view asked bytes setup legal) refl) ∙ sym (ne_eqb (suc n) 0 (λ same. absurd (omega arith)))
 
       moving-empty : (kind : Kind) (n : ℕ) → is_flush kind ≡ false → nat_eq n 0 ≡ nat_eq (left_at_first kind n) 0
       moving-empty Read n is = refl
@@ -141,9 +134,6 @@ module _ (S : Setup) (H : List Entry) (tag : ℕ) (view : View) (asked : Asked) 
   pub mark-new : mark_of S (new ∷ H) (accepted H) ≡ status_if (nat_eq (left_at_first asked.kind asked.length) 0) Success
   mark-new = mark-accept S H tag view asked bytes legal ∙ ap (λ b. status_if b Success) complete-new
 
-  pub uncollected-new : was_collected (new ∷ H) (accepted H) ≡ false
-  uncollected-new = collected-same H new (accepted H) refl ∙ untold-collected S H (accepted H) (unaccepted S H (accepted H) legal (omega arith))
-
   -- what a new request owes
   pub owed-new : (parts : Parts) → AreParts S.geometry (from_of S q) (until_of S q) parts
       → owed_entries S (new ∷ H) ≤ owed_entries S H + (if nat_eq (left_at_first asked.kind asked.length) 0 then 1 else cost_by asked.kind (parts_count parts) ((parts.whole * S.geometry.per + 63) / 64) + 2)
@@ -152,10 +142,11 @@ module _ (S : Setup) (H : List Entry) (tag : ℕ) (view : View) (asked : Asked) 
       by : (b : Bool) → mark_of S (new ∷ H) (accepted H) ≡ status_if b Success → owed_entries S (new ∷ H) ≤ owed_entries S H + (if b then 1 else cost_by asked.kind (parts_count parts) ((parts.whole * S.geometry.per + 63) / 64) + 2)
       by true ended =
           let all = entries-accept S H tag view asked bytes in
-          let one = ended-owed S (new ∷ H) (accepted H) q Success (request-accept H tag view asked bytes) ended uncollected-new in
+          let one = ended-owed S (new ∷ H) (accepted H) q Success (request-accept H tag view asked bytes) ended (uncollected-new S H tag view asked bytes setup legal) in
           omega arith
       by false open_ =
           let all = entries-accept S H tag view asked bytes in
           let one = open-owed S (new ∷ H) (accepted H) q (request-accept H tag view asked bytes) open_ in
           let most = cost-most S (new ∷ H) (accepted H) q parts are in
           omega arith
+

@@ -37,27 +37,22 @@ use Rattle.history_laws.proofs.TokenLemmas.{collected-same}
 use Rattle.disk_core.proofs.Following.{era-still}
 use Rattle.disk_core.proofs.Still.{buffer-kept}
 use Rattle.history_laws.proofs.LeftLemmas.{left-done}
-use Rattle.history_laws.proofs.EndedLemmas.{absent-open, mark-insert, open-insert, present-again}
+use Rattle.history_laws.proofs.EndedLemmas.{absent-open, mark-insert, open-insert, present-again, unheld, unheld-now}
 
 module _ (S : Setup) (H : List Entry) (tag k : ℕ) (setup : IsSetup S) (legal : IsLegal S H) (out : is_present H ≡ false) where
-  unheld : (t b j : ℕ) → HoldsBy S H t b j → ⊥
-  unheld t b j holds = absent-open S H t legal out holds.holds.outstanding
-
-  unheld-now : (t b j : ℕ) → HoldsBy S (Insert tag k ∷ H) t b j → ⊥
-  unheld-now t b j holds = absent-open S H t legal out (open-insert S H tag k t holds.holds.outstanding)
 
   gates-insert : (gates : Gates) → GatesFollow S H gates → GatesFollow S (Insert tag k ∷ H) gates
   gates-insert gates follow = record {
     sized = follow.sized;
-    each = λ j g there. absurd (let h = follow.each j g there in unheld h.0 g.block j h.1.holds);
-    all = λ t b j holds. absurd (unheld-now t b j holds);
+    each = λ j g there. absurd (let h = follow.each j g there in (unheld S H tag k setup legal out) h.0 g.block j h.1.holds);
+    all = λ t b j holds. absurd ((unheld-now S H tag k setup legal out) t b j holds);
     below = λ j is. subst (λ n. j < n) (sym (fetches-same H (Insert tag k) refl)) (follow.below j is);
   }
 
   holders-insert : (gates : Gates) (holders : List Holder) (places : ℕ) → HoldersFollow S H gates holders places → HoldersFollow S (Insert tag k ∷ H) gates holders places
   holders-insert gates holders places follow = record {
-    each = λ j t b holds. absurd (unheld-now t b j holds);
-    only = λ j t there. absurd (let h = follow.only j t there in unheld t h.0 j h.1);
+    each = λ j t b holds. absurd ((unheld-now S H tag k setup legal out) t b j holds);
+    only = λ j t there. absurd (let h = follow.only j t there in (unheld S H tag k setup legal out) t h.0 j h.1);
     apart = follow.apart;
     paired = follow.paired;
     rising = follow.rising;

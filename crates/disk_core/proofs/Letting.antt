@@ -26,56 +26,19 @@ use Rattle.disk_core.specs.Inside.{HoldersFollow}
 use Rattle.history_laws.proofs.HoldingLemmas.{held-open}
 use Rattle.disk_core.proofs.Released.{IsReleased}
 use Rattle.disk_core.proofs.Untouched.{gate-stays}
+use Rattle.history_laws.proofs.StoreLemmas.{follows, no-fetch, other-goes, was-holder}
 
 module _ (S : Setup) (H : List Entry) (t b k : ℕ) (setup : IsSetup S) (told : AreToldWhole S) (legal : IsLegal S H) (may : MayCommand S H t (Store b)) (holds : HoldsBy S H t b k)
     (before : Gates) (holders : List Holder) (s : Gates) (left : List Holder) (is : IsReleased k before holders s left) (sound : AreSound before) where
   abbrev e : Entry
   e = Done t (Store b)
 
-  follows : MayFollow S H e
-  unfolding MayFollow
-  follows = may
-
-  now : IsLegal S (e ∷ H)
-  unfolding IsLegal
-  now = (legal, follows)
-
-  no-fetch : (u c : ℕ) → e ≡ Done u (Fetch c) → ⊥
-  no-fetch u c is = cc
-
-  was-holder : (u c j : ℕ) → HoldsBy S (e ∷ H) u c j → HoldsBy S H u c j
-  was-holder u c j held = elim (holds-by-before S H e u c j setup now held) [
-    | inl was ↦ was
-    | inr fetched ↦ absurd (no-fetch u c fetched.0)
-  ]
-
-  one-ticket : (x y : ℕ) → Some x ≡ Some y → x ≡ y
-  one-ticket x y e = cc
-
-  -- another holder goes on
-  other-goes : (u c j : ℕ) → HoldsBy S H u c j → k ≢ j → (is_store_of u c e ≡ false) × (mark_of S (e ∷ H) u ≡ None)
-  other-goes u c j own other = (unstored, goes)
-    where
-      same-ticket : t ≡ u → b ≡ c → k ≡ j
-      same-ticket one two = one-ticket k j (sym (subst (λ v. ticket_of H v c ≡ Some k) one (subst (λ d. ticket_of H t d ≡ Some k) two holds.ticket_is)) ∙ own.ticket_is)
-
-      unstored : (nat_eq t u && nat_eq b c) ≡ false
-      unstored = false_from_ne_true (nat_eq t u && nat_eq b c) (λ both. (let parts = and_parts (nat_eq t u) (nat_eq b c) both in other (same-ticket (eqb-true t u parts.0) (eqb-true b c parts.1))))
-
-      goes : mark_of S (e ∷ H) u ≡ None
-      goes = elim (cases_eq t u) [
-        | inr apart ↦ mark-other S H e u (done-concerns H t u (Store b) apart) ∙ own.holds.outstanding.unmarked
-        | inl same ↦
-            let group : is_at is_store c (Store b) ≡ false = ne_eqb b c (λ two. other (same-ticket same two)) in
-            subst (λ v. mark_of S (e ∷ H) v ≡ None) same (held-open S H t (Store b) c setup legal now group (subst (λ v. Holds S H v c) (sym same) own.holds))
-      ]
-
   pub gates-stored : GatesFollow S H before → GatesFollow S (e ∷ H) s
   gates-stored follow = record {
     sized = is.size ∙ follow.sized;
-    each = λ j g there. (let was = is.gate j g there in let own = follow.each j g was.0 in let on = other-goes own.0 g.block j own.1.holds was.1 in
-        (own.0, gate-stays S H e setup told legal follows refl j g own.0 (sound.long j g was.0 ∙ follow.sized) on.0 on.1 own.1));
-    all = λ u c j held. (let was = was-holder u c j held in
+    each = λ j g there. (let was = is.gate j g there in let own = follow.each j g was.0 in let on = (other-goes S H t b k setup legal may holds) own.0 g.block j own.1.holds was.1 in
+        (own.0, gate-stays S H e setup told legal (follows S H t b k setup legal may holds) refl j g own.0 (sound.long j g was.0 ∙ follow.sized) on.0 on.1 own.1));
+    all = λ u c j held. (let was = (was-holder S H t b k setup legal may holds) u c j held in
         let gate = follow.all u c j was in
         (gate.0, is.stays j gate.0 gate.1 (λ same. stored u c j held was same), gate.2));
     below = λ j out. subst (λ n. j < n) (sym (fetches-same H e refl)) (follow.below j (is.within j out));
@@ -88,8 +51,8 @@ module _ (S : Setup) (H : List Entry) (t b k : ℕ) (setup : IsSetup S) (told : 
 
   pub holders-stored : (places : ℕ) → HoldersFollow S H before holders places → HoldersFollow S (e ∷ H) s left places
   holders-stored places follow = record {
-    each = λ j u c held. (let was = was-holder u c j held in is.held j u (follow.each j u c was) (λ same. stored u c j held was same));
-    only = λ j u there. (let was = is.holder j u there in let own = follow.only j u was.0 in let on = other-goes u own.0 j own.1 was.1 in (own.0, holds-by-stays S H e u own.0 j setup follows on.0 on.1 own.1));
+    each = λ j u c held. (let was = (was-holder S H t b k setup legal may holds) u c j held in is.held j u (follow.each j u c was) (λ same. stored u c j held was same));
+    only = λ j u there. (let was = is.holder j u there in let own = follow.only j u was.0 in let on = (other-goes S H t b k setup legal may holds) u own.0 j own.1 was.1 in (own.0, holds-by-stays S H e u own.0 j setup (follows S H t b k setup legal may holds) on.0 on.1 own.1));
     apart = is.apart;
     paired = is.paired;
     rising = is.rising;

@@ -21,7 +21,8 @@ use Rattle.disk_core.specs.Parts.{kept_of, state_of}
 use Rattle.disk_core.specs.Calls.{Refuses}
 use Rattle.disk_core.specs.Moves.{IsDisk, Reaches, entered, with_spare}
 use Rattle.disk_core.proofs.Following.{era-still}
-use Rattle.disk_core.proofs.Still.{gates-still, holders-still, drive-still, ready-still, tracks-still, buffer-still, accepted-still, fetches-still}
+use Rattle.disk_core.proofs.Still.{gates-still, holders-still, drive-still, ready-still, tracks-still, buffer-still}
+use Rattle.history_laws.proofs.StillLemmas.{accepted-still, fetches-still}
 use Rattle.history_laws.proofs.QuietLemmas.{IsStill}
 
 -- more places change nothing else

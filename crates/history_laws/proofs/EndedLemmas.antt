@@ -4,9 +4,9 @@ use Rattle.std.proofs.lemmas.Bool.{and_from, and_left, and_right, cases_eq, eq-e
 use Rattle.std.specs.Prelude.{if◌then◌else◌}
 use Rattle.efi_status.specs.declared.Status.{Status}
 use Rattle.history.specs.Eras.{ejects, inserts, is_present}
-use Rattle.history.specs.Marks.{IsOutstanding, ending, is_outstanding, mark_of}
+use Rattle.history.specs.Marks.{IsOutstanding, ending, is_outstanding, mark_of, HoldsBy}
 use Rattle.history.specs.Rules.{IsLegal}
-use Rattle.history.specs.Setup.{Setup}
+use Rattle.history.specs.Setup.{Setup, IsSetup}
 use Rattle.history.specs.Tokens.{accepted}
 use Rattle.history.specs.declared.entry.Entry.{Entry}
 use Rattle.history.specs.declared.entry.Entry.TheVariants.{Insert}
@@ -86,3 +86,11 @@ present-again S H tag k legal out =
     let apart : ejects H ≢ inserts H = (λ same. true≢false (sym (eq-eqb (ejects H) (inserts H) same) ∙ out)) in
     let more : ejects H ≡ inserts H + 1 = (let low = counts.0 in let high = counts.1 in omega (arith, apart)) in
     eq-eqb (ejects (Insert tag k ∷ H)) (inserts (Insert tag k ∷ H)) (ejects-same H (Insert tag k) refl ∙ more ∙ sym (inserts-more H (Insert tag k) refl))
+
+module _ (S : Setup) (H : List Entry) (tag k : ℕ) (setup : IsSetup S) (legal : IsLegal S H) (out : is_present H ≡ false) where
+  pub unheld : (t b j : ℕ) → HoldsBy S H t b j → ⊥
+  unheld t b j holds = absent-open S H t legal out holds.holds.outstanding
+
+  pub unheld-now : (t b j : ℕ) → HoldsBy S (Insert tag k ∷ H) t b j → ⊥
+  unheld-now t b j holds = absent-open S H t legal out (open-insert S H tag k t holds.holds.outstanding)
+

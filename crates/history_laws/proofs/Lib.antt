@@ -38,3 +38,8 @@ pub mod FittingLemmas
 pub mod FreshLemmas
 pub mod OpenLemmas
 pub mod BytesLemmas
+pub mod StillLemmas
+pub mod AcceptLemmas
+pub mod AcceptedLemmas
+pub mod EndingLemmas
+pub mod StoreLemmas
