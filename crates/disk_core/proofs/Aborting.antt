@@ -38,17 +38,7 @@ use Rattle.disk_core.proofs.Failed.{open-place}
 use Rattle.disk_core.proofs.Endings.{IsOneMore, one-more, more-to-end, all-ended}
 use Rattle.history_laws.proofs.EndedLemmas.{ended-some, ended-no}
 use Rattle.disk_core.proofs.Walked.{Tells, closed-tells, queue-sorted, queue-below, queued-open, open-queued, open-record, open-answers}
-
-view-same : (v w : View) → is_same_view v w ≡ true → v ≡ w
-view-same v w is =
-    let one = and_parts (nat_eq v.start w.start && nat_eq v.length w.length && nat_eq v.media_id w.media_id) (nat_eq v.index w.index) is in
-    let two = and_parts (nat_eq v.start w.start && nat_eq v.length w.length) (nat_eq v.media_id w.media_id) one.0 in
-    let three = and_parts (nat_eq v.start w.start) (nat_eq v.length w.length) two.0 in
-    let start = eqb-true v.start w.start three.0 in
-    let long = eqb-true v.length w.length three.1 in
-    let media_id = eqb-true v.media_id w.media_id two.1 in
-    let index = eqb-true v.index w.index one.1 in
-    λ i. record { start = start i; length = long i; media_id = media_id i; index = index i }
+use Rattle.history_laws.proofs.RequestLemmas.{view-same}
 
 -- an entry that ends the meant tokens with Aborted, which it may where there is one
 record IsAborting (S : Setup) (H : List Entry) (meant : Meant) (e : Entry) : Type 0 where

@@ -144,4 +144,3 @@ module _ (S : Setup) (H : List Entry) (e : Entry) (is : IsEnding S H e) where
     gates = gates;
     room = room;
   }
-

@@ -33,12 +33,7 @@ use Rattle.disk_core.specs.Storage.{IsHeldPart}
 use Rattle.disk_core.proofs.Kept.{kept-record}
 use Rattle.disk_core.proofs.Opened.{IsOpenRecord, IsHolderOf, open-record}
 use Rattle.disk_core.proofs.Parted.{part-there, found-record}
-
-put-same : (kind : Kind) (n : ℕ) (buffer bytes : List ℕ) → changes_bytes kind ≡ true → (kind ≡ Write → buffer ≡ bytes) → bytes_to_put kind n buffer ≡ bytes_to_put kind n bytes
-put-same Read n buffer bytes changes written = cc
-put-same Write n buffer bytes changes written = written refl
-put-same Flush n buffer bytes changes written = cc
-put-same Erase n buffer bytes changes written = refl
+use Rattle.history_laws.proofs.RequestLemmas.{put-same}
 
 put-long : (kind : Kind) (n : ℕ) (buffer : List ℕ) → changes_bytes kind ≡ true → length buffer ≡ buffer_length kind n → length (bytes_to_put kind n buffer) ≡ n
 put-long Read n buffer changes long = cc

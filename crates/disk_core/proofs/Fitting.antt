@@ -20,13 +20,7 @@ use Rattle.disk_core.specs.Moves.{IsDisk}
 use Rattle.disk_core.proofs.Setups.{all-at}
 use Rattle.disk_core.proofs.Prepared.{medium-place}
 use Rattle.disk_core.proofs.Admitted.{medium-there, blocks-of}
-
--- where a flush is asked, it is at the beginning of its view
-flush-at : (kind : Kind) (unit : UnitKind) (at n size : ℕ) → is_flush kind ≡ true → IsAsked kind unit at n → (in_bytes size unit at ≡ 0) × (n ≡ 0)
-flush-at Flush unit at n size flush (bytes, first, none) = (ap (λ u. in_bytes size u at) bytes ∙ first, none)
-flush-at Read unit at n size flush well = cc
-flush-at Write unit at n size flush well = cc
-flush-at Erase unit at n size flush well = cc
+use Rattle.history_laws.proofs.RequestLemmas.{flush-at}
 
 module _ {M : Type 0} (device : M → Device) (prepared : M → ℕ → Type 0) (drive : DriveState M) (c : Core) (sound : IsDisk device prepared drive c) (shaped : (m : M) → IsShaped (device m)) (view : View) (asked : Asked) (media_id : ℕ)
     (unrefused : refusal_of (setup_of device drive c.protected_at_first) c.history.entries view asked media_id ≡ None) (well : IsWellAsked asked) where

@@ -31,6 +31,7 @@ use Rattle.disk_core.specs.GoingOn.{IsBufferRest, StaysKept, GoesOn, SubmitGoesO
 use Rattle.disk_core.proofs.Accepted.{kept-last}
 use Rattle.disk_core.proofs.Buffered.{at-set, at-other}
 use Rattle.disk_core.proofs.Kept.{kept-others}
+use Rattle.history_laws.proofs.RequestLemmas.{outside}
 
 some-kept : (a b : Kept) → Some a ≡ Some b → a ≡ b
 some-kept a b e = cc
@@ -86,17 +87,6 @@ still-on old new setup entries same = record {
 
 stays-on : (old new : State) → new ≡ old → GoesOn old new
 stays-on old new same = still-on old new (ap (λ (s : State). s.setup) same) (ap (λ (s : State). s.entries) same) (ap (λ (s : State). s.kept) same)
-
--- a byte that a get did not read is as it was
-outside : (S : Setup) (b n from until x : ℕ) (buffer piece : List ℕ) → length piece ≡ min until ((b + n) * size_of S) - max from (b * size_of S) → max from (b * size_of S) - from + length piece ≤ length buffer → from ≤ x → lies_in S b n x ≡ false
-    → slice_get (patch buffer (max from (b * size_of S) - from) piece) (x - from) ≡ slice_get buffer (x - from)
-outside S b n from until x buffer piece counted fits after out =
-    elim (cases_lt x (b * size_of S)) [
-      | inl below ↦ patch-before buffer (max from (b * size_of S) - from) piece (x - from) fits (omega arith)
-      | inr above ↦
-          let behind : (b + n) * size_of S ≤ x = ltb-false x ((b + n) * size_of S) (rw (le-leb (b * size_of S) x above) at out) in
-          patch-behind buffer (max from (b * size_of S) - from) piece (x - from) fits (omega arith)
-    ]
 
 -- the token of a get has the bytes that it read, and the rest as it was
 got-rest : (old new : State) (t b n : ℕ) (q p : Request) (was : Kept) → new.setup ≡ old.setup → new.entries ≡ Done t (Get b n) ∷ old.entries → (gets : Gets old.setup old.entries t b n old.kept new.kept q)

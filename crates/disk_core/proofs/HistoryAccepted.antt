@@ -149,4 +149,3 @@ module _ (S : Setup) (H : List Entry) (tag : ℕ) (view : View) (asked : Asked) 
           let one = open-owed S (new ∷ H) (accepted H) q (request-accept H tag view asked bytes) open_ in
           let most = cost-most S (new ∷ H) (accepted H) q parts are in
           omega arith
-

@@ -84,4 +84,3 @@ module _ (S : Setup) (H : List Entry) (e : Entry) (still : IsStill S H e) where
 
   pub buffer-still : (t : ℕ) (q : Request) (buffer : List ℕ) → IsBuffer S H t q buffer → IsBuffer S (e ∷ H) t q buffer
   buffer-still t q buffer is = buffer-kept S H e t q buffer still.quiet is
-

@@ -33,6 +33,7 @@ use Rattle.disk_core.proofs.IdleLemmas.{idle-stays}
 use Rattle.disk_core.proofs.GoingOn.{step_goes_on, store_goes_on, goes_on_twice}
 use Rattle.disk_io2.specs.Blocking.{Continues, AreWhileOpen, ends_in_fault, OnFaults, FaultsRose, Serves}
 use Rattle.disk_io2.proofs.Faults.{faults-command, faults-failed, faults-from, faults-to, faults-on, later-later, rose-later, later-rose}
+use Rattle.history_laws.proofs.TurnOwedLemmas.{turn-lowers}
 
 goes-on-same : (s : State) → GoesOn s s
 goes-on-same s = record {
@@ -145,12 +146,6 @@ fetch-open S H u t (Put b n) is legal fetched open_ = cc
 fetch-open S H u t (Get b n) is legal fetched open_ = cc
 fetch-open S H u t (Wipe b n) is legal fetched open_ = cc
 fetch-open S H u t Sync is legal fetched open_ = cc
-
--- a command that was made lowers what is owed
-turn-lowers : (S : Setup) (H : List Entry) (turn : Turn) (outcome : Outcome) → IsSetup S → IsLegal S (entry_of turn outcome ∷ H) → owed_entries S (entry_of turn outcome ∷ H) + 1 ≤ owed_entries S H
-unfolding IsLegal MayFollow
-turn-lowers S H turn Made is (legal, may) = entries-done S H turn.token turn.command is legal may
-turn-lowers S H turn (Failed done) is (legal, may) = omega (arith, entries-fault S H turn.token turn.command done is legal may.0)
 
 taken-legal : (old new : State) (turn : Turn) (outcome : Outcome) → TakesTurn old turn outcome new → IsLegal old.setup (entry_of turn outcome ∷ old.entries)
 taken-legal old new turn outcome takes = subst (λ S. IsLegal S (entry_of turn outcome ∷ old.entries)) takes.makes.setup (subst (λ H. IsLegal new.setup H) takes.makes.entries takes.makes.legal)

@@ -43,3 +43,8 @@ pub mod AcceptLemmas
 pub mod AcceptedLemmas
 pub mod EndingLemmas
 pub mod StoreLemmas
+pub mod TaskOrderLemmas
+pub mod TurnOwedLemmas
+pub mod OneMediumLemmas
+pub mod TurnNoneLemmas
+pub mod RequestLemmas

@@ -16,28 +16,6 @@ use Rattle.stack_run.specs.Serving.{disk_over}
 use Rattle.history_laws.proofs.CountLemmas.{inserts-none, inserts-same, faults-more, faults-same}
 use Rattle.history_laws.proofs.EraLemmas.{era_count-same, era_count-more}
 
--- no other medium is ever put in
-no-insert : (S : Setup) (H : List Entry) (e : Entry) → MayFollow S H e → length S.media ≡ 1 → is_insert e ≡ false
-unfolding MayFollow
-no-insert S H (Insert tag k) (out, next, there) one = absurd (omega (arith, next, there, one))
-no-insert S H e may one = refl
-
-first-era : (S : Setup) (H : List Entry) → IsLegal S H → length S.media ≡ 1 → inserts H ≡ 0
-unfolding IsLegal
-first-era S [] legal one = inserts-none
-first-era S (e ∷ H) (legal, may) one = inserts-same H e (no-insert S H e may one) ∙ first-era S H legal one
-
--- so all its failed commands are of that era
-pub faults-alone : (S : Setup) (H : List Entry) → IsLegal S H → length S.media ≡ 1 → era_faults 1 H ≡ faults H
-unfolding IsLegal faults era_count
-faults-alone S [] legal one = refl
-faults-alone S (e ∷ H) (legal, may) one = elim (cases_Bool (is_fault e)) [
-  | inl is ↦
-      let id : media_id_of H ≡ 1 = omega (arith, first-era S H legal one) in
-      era_count-more is_fault 1 H e id is ∙ (ap (λ n. n + 1) (faults-alone S H legal one) ∙ sym (faults-more H e is))
-  | inr isnt ↦ era_count-same is_fault 1 H e isnt ∙ (faults-alone S H legal one ∙ sym (faults-same H e isnt))
-]
-
 -- what holds of the one element holds of each
 pub all-one : {X : Type 0} (P : X → Type 0) (xs : List X) (x : X) → xs ≡ x ∷ [] → P x → All P xs
 all-one {X} P xs x is holds = subst (λ (ys : List X). All P ys) (sym is) one

@@ -15,7 +15,8 @@ use Rattle.script_text.specs.Report.{givens_of, AreEnds}
 use Rattle.stack_run.specs.declared.refusal.NotRun.{NotRun}
 use Rattle.stack_run.specs.declared.serving.Run.{Run}
 use Rattle.stack_run.specs.Serving.{RanOver, RanSome, RanOn, RanPlain, RanDisk, RanInPart, NotPutBack, Opens, Leaves, IsLost, Served, one_medium, blocks_alone, disk_over, run_report}
-use Rattle.stack_run.proofs.Alone.{faults-alone}
+use Rattle.history_laws.proofs.OneMediumLemmas.{faults-alone}
+use Rattle.history_laws.proofs.FreshLemmas.{fresh-legal}
 
 setup-is : (d : Device) (size : ℕ) → d.size ≡ size → disk_over d ≡ one_medium size d.blocks d.first
 setup-is d size sized = ap (λ n. one_medium n d.blocks d.first) sized
@@ -23,13 +24,9 @@ setup-is d size sized = ap (λ n. one_medium n d.blocks d.first) sized
 pub size-is : (d : Device) → size_of (disk_over d) ≡ d.size
 size-is d = refl
 
-legal-none : (S : Setup) → IsLegal S []
-unfolding IsLegal
-legal-none S = tt
-
 -- where nothing has happened
 pub none-ran : (d : Device) → IsFresh d → d.cached ≡ false → RanSome (disk_over d) d
-none-ran d fresh uncached = record { history = []; legal = legal-none (disk_over d); meets = fresh-era (disk_over d) 1 d fresh refl refl uncached }
+none-ran d fresh uncached = record { history = []; legal = fresh-legal (disk_over d); meets = fresh-era (disk_over d) 1 d fresh refl refl uncached }
 
 kept-uncached : (d : Device) (H : List Entry) → kept_contents (disk_over d) 1 H ≡ option_map (patch_all (pieces_of (disk_over d) 1 H)) d.first
 unfolding kept_contents contents

@@ -209,10 +209,6 @@ next-collected old new kinds ends n kind status buffer line q was at some keeps 
           (rw at at collects.read) collects.long ends_so (rw same at gives));
     }
 
--- where no token is outstanding, no token is
-pub none-outstanding : (S : Setup) (H : List Entry) (t : ℕ) → first_open S H ≡ None → t < accepted H → mark_of S H t ≡ None → ⊥
-none-outstanding S H t none there unmarked = first-open-fails S H t none (record { token = there; unmarked = unmarked })
-
 -- the next token is there
 pub next-known : (S : Setup) (H : List Entry) (kinds : List Kind) (ends : List TokenLine) (n : ℕ) → n ≡ length ends → Keeps S H kinds ends → length ends < length kinds → (accepted H ≤ n) ⊎ (was_collected H n ≡ true) → ⊥
 next-known S H kinds ends n at keeps some (inl past) = omega (arith, keeps.count)

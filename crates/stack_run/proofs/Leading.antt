@@ -12,6 +12,7 @@ use Rattle.history.specs.Next.{first_open, Turn, next_turn, Outcome, Made, Faile
 use Rattle.stack_run.specs.Plain.{outcomes_onto, Stand, stand, whole_view, payload_bytes, answer_of, after_answer, after_own_collects, after_line, after_step, after_command, a_round, is_over, plain_from}
 use Rattle.stack_run.specs.Leading.{LeadsFor, Leads, StepsOn, IsStep, IsTurned, Stay}
 use Rattle.stack_run.proofs.Collecting.{collected-drained, onto-own}
+use Rattle.history_laws.proofs.TurnNoneLemmas.{drained-turn}
 
 pub leads-same : (S : Setup) (H : List Entry) (lines : List Order) → Leads S H lines H lines
 leads-same S H lines = record {
@@ -73,10 +74,6 @@ step-fetched-drained S H G t none lines more =
       same = rw (t.entries) (onto-entry t.turn t.outcome H more);
       goes = rw (t.next, t.answer, there, t.entries);
     }
-
-pub drained-turn : (S : Setup) (H : List Entry) → first_open S H ≡ None → next_turn S H ≡ None
-unfolding next_turn
-drained-turn S H none = rw none
 
 -- a round that is not the last one
 a-round : (S : Setup) (n : ℕ) (s : Stand) → is_over S s ≡ false → plain_from (n + 1) S s ≡ plain_from n S (a_round S s)

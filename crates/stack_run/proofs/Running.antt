@@ -25,11 +25,6 @@ use Rattle.stack_run.proofs.Leading.{leads-on, leads-request, leads-wait}
 use Rattle.stack_run.proofs.Ending.{plain-ends}
 use Rattle.stack_run.proofs.Keeping.{keeps-stays}
 
--- the medium of a disk on which nothing has happened is the first
-pub first-id : (H : List Entry) (media_id : ℕ) → H ≡ [] → media_id ≡ media_id_of H → media_id ≡ 1
-unfolding inserts
-first-id H media_id fresh is = is ∙ ap media_id_of fresh
-
 -- the whole of it
 pub whole-is : (S : Setup) (blocks size media_id : ℕ) → blocks ≡ blocks_of S 1 → size ≡ size_of S → media_id ≡ 1
     → record { start = 0; length = blocks * size; media_id = media_id; index = 0 } ≡ whole_view S 1

@@ -27,7 +27,9 @@ use Rattle.history_laws.proofs.TokenLemmas.{bytes_read-other}
 use Rattle.history_laws.proofs.PlainLemmas.{IsTurnOf, turn-of, turn-open, turn-concerns, turn-accepted, turn-request, turn-collected}
 use Rattle.stack_run.specs.Leading.{Leads, IsTurned, Stay}
 use Rattle.stack_run.specs.Keeping.{Stays, Steps, StepsOnce, Waits}
-use Rattle.stack_run.proofs.Leading.{leads-same, leads-on, leads-step, step-did, step-fetched, step-drained, drained-turn}
+use Rattle.stack_run.proofs.Leading.{leads-same, leads-on, leads-step, step-did, step-fetched, step-drained}
+use Rattle.history_laws.proofs.TurnNoneLemmas.{drained-turn}
+use Rattle.history_laws.proofs.TurnOwedLemmas.{turn-lowers}
 
 pub stays-same : (S : Setup) (H : List Entry) → Stays S H H
 stays-same S H = record {
@@ -76,12 +78,6 @@ is-turned old new turn outcome fetched takes answer = record {
 
 stays-taken : (old new : State) (turn : Turn) (outcome : Outcome) → TakesTurn old turn outcome new → Stays old.setup old.entries new.entries
 stays-taken old new turn outcome takes = rw (takes.makes.entries) (stays-turn old.setup old.entries turn outcome takes.next)
-
--- a command that was made lowers what is owed
-turn-lowers : (S : Setup) (H : List Entry) (turn : Turn) (outcome : Outcome) → IsSetup S → IsLegal S (entry_of turn outcome ∷ H) → owed_entries S (entry_of turn outcome ∷ H) + 1 ≤ owed_entries S H
-unfolding IsLegal MayFollow
-turn-lowers S H turn Made is (legal, may) = entries-done S H turn.token turn.command is legal may
-turn-lowers S H turn (Failed done) is (legal, may) = omega (arith, entries-fault S H turn.token turn.command done is legal may.0)
 
 taken-lowers : (old new : State) (turn : Turn) (outcome : Outcome) → IsSetup old.setup → TakesTurn old turn outcome new → owed_entries old.setup new.entries + 1 ≤ owed_entries old.setup old.entries
 taken-lowers old new turn outcome is takes =

@@ -1,7 +1,8 @@
 use Rattle.std.proofs.Common.{arith}
 use Rattle.disk_core.specs.Calls.{CollectSays}
 use Rattle.disk_core.proofs.IdleLemmas.{collect-keeps}
-use Rattle.stack_run.proofs.Keeping.{next-collected, none-outstanding, next-known}
+use Rattle.stack_run.proofs.Keeping.{next-collected, next-known}
+use Rattle.history_laws.proofs.TurnNoneLemmas.{none-outstanding}
 use Rattle.stack_run.proofs.kept_tokens.collect_next.Goals as goal
 
 pub unreachable-requires : goal.unreachable-requires

@@ -1,6 +1,7 @@
 use Rattle.std.proofs.Common.{◌∙◌, refl, arith}
 use Rattle.stack_run.proofs.Alone.{first-medium, some-first}
-use Rattle.stack_run.proofs.Running.{first-id, whole-is}
+use Rattle.stack_run.proofs.Running.{whole-is}
+use Rattle.history_laws.proofs.OneMediumLemmas.{first-id}
 use Rattle.stack_run.proofs.plain_run.whole_medium.Goals as goal
 
 pub returns-clause-view : goal.returns-clause-view
