@@ -40,7 +40,6 @@ use Rattle.history_laws.proofs.LeftLemmas.{left-done}
 use Rattle.history_laws.proofs.EndedLemmas.{absent-open, mark-insert, open-insert, present-again, unheld, unheld-now}
 
 module _ (S : Setup) (H : List Entry) (tag k : ℕ) (setup : IsSetup S) (legal : IsLegal S H) (out : is_present H ≡ false) where
-
   gates-insert : (gates : Gates) → GatesFollow S H gates → GatesFollow S (Insert tag k ∷ H) gates
   gates-insert gates follow = record {
     sized = follow.sized;

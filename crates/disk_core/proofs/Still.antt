@@ -34,7 +34,6 @@ buffer-kept S H e t q buffer still is = record {
 }
 
 module _ (S : Setup) (H : List Entry) (e : Entry) (still : IsStill S H e) where
-
   pub gates-still : (gates : Gates) → GatesFollow S H gates → GatesFollow S (e ∷ H) gates
   gates-still gates follow = record {
     sized = follow.sized;

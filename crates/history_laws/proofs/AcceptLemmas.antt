@@ -27,4 +27,3 @@ module _ (S : Setup) (H : List Entry) (tag : ℕ) (view : View) (asked : Asked) 
 
   pub uncollected-new : was_collected (new ∷ H) (accepted H) ≡ false
   uncollected-new = collected-same H new (accepted H) refl ∙ untold-collected S H (accepted H) (unaccepted S H (accepted H) legal (omega arith))
-

@@ -54,4 +54,3 @@ module _ (S : Setup) (H : List Entry) (tag : ℕ) (view : View) (asked : Asked) 
 
   pub contents-accept : contents S (media_id_of (e ∷ H)) (e ∷ H) ≡ contents S (media_id_of H) H
   contents-accept = ap (λ k. contents S k (e ∷ H)) (media-id-same H e refl) ∙ contents-same S (media_id_of H) H e (piece-none S H e refl)
-

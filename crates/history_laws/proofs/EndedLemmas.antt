@@ -93,4 +93,3 @@ module _ (S : Setup) (H : List Entry) (tag k : ℕ) (setup : IsSetup S) (legal :
 
   pub unheld-now : (t b j : ℕ) → HoldsBy S (Insert tag k ∷ H) t b j → ⊥
   unheld-now t b j holds = absent-open S H t legal out (open-insert S H tag k t holds.holds.outstanding)
-

@@ -14,7 +14,6 @@ use Rattle.history.specs.declared.entry.Command.{Command}
 use Rattle.history.specs.declared.entry.Entry.TheVariants.{Fault}
 
 module _ (S : Setup) (H : List Entry) (e : Entry) (is : IsEnding S H e) where
-
   -- the units of the tokens that stay open are those that are left
   pub units-left : filter (λ todo. is_none (mark_of S (e ∷ H) todo.token)) (pending S H) ≡ pending S (e ∷ H)
   units-left =
@@ -23,8 +22,6 @@ module _ (S : Setup) (H : List Entry) (e : Entry) (is : IsEnding S H e) where
       ∙ sym (pending-ends S H e is.adds_none is.unmoving)
 
 module _ (S : Setup) (H : List Entry) (t : ℕ) (command : Command) (done : ℕ) (may : MayFollow S H (Fault t command done)) where
-
   pub fault-open : IsOutstanding S H t
   unfolding MayFollow
   fault-open = command-open S H t command may.0
-

@@ -44,4 +44,3 @@ module _ (S : Setup) (H : List Entry) (e : Entry) (still : IsStill S H e) where
 
   pub left-still : (t : ℕ) (q : Request) → left_of S (e ∷ H) t q ≡ left_of S H t q
   left-still t q = left-done S H e t q (no-done e still.quiet)
-

@@ -55,4 +55,3 @@ module _ (S : Setup) (H : List Entry) (t b k : ℕ) (setup : IsSetup S) (legal :
             let group : is_at is_store c (Store b) ≡ false = ne_eqb b c (λ two. other (same-ticket same two)) in
             subst (λ v. mark_of S (e ∷ H) v ≡ None) same (held-open S H t (Store b) c setup legal now group (subst (λ v. Holds S H v c) (sym same) own.holds))
       ]
-
