@@ -1,7 +1,7 @@
 -- A cancel and a reset.
-use Rattle.std.proofs.Common.{◌≡◌, ℕ, zero, suc, ◌≤◌, Bool, true, false, nat_eq, ◌&&◌, List, ◌∷◌, None, Some, refl, sym, ◌∙◌, ap, subst, arith}
+use Rattle.std.proofs.Common.{◌≡◌, ℕ, zero, suc, ◌≤◌, Bool, true, false, List, ◌∷◌, None, Some, refl, sym, ◌∙◌, ap, subst, arith}
 use Rattle.std.specs.Option.{option_map}
-use Rattle.std.proofs.lemmas.Bool.{and_from, and_parts, eqb-true, lt-ltb}
+use Rattle.std.proofs.lemmas.Bool.{and_from, and_parts, lt-ltb}
 use Rattle.efi_status.specs.declared.Status.TheVariants.{Aborted}
 use Rattle.medium.specs.Device.{Device}
 use Rattle.drive.specs.Drives.{DriveState}
@@ -11,7 +11,7 @@ use Rattle.history.specs.declared.entry.Entry.TheVariants.{Cancel, Reset}
 use Rattle.history.specs.Setup.{Setup}
 use Rattle.history.specs.Eras.{is_command, is_eject, is_insert}
 use Rattle.history.specs.Tokens.{Request, is_accept, accepted, request, is_collect_of}
-use Rattle.history.specs.Marks.{ending, status_if, is_same_view, mark_of, IsOutstanding}
+use Rattle.history.specs.Marks.{ending, status_if, mark_of, IsOutstanding}
 use Rattle.history.specs.Rules.{MayFollow}
 use Rattle.history.specs.Room.{owed_entries}
 use Rattle.history_laws.specs.Told.{is_done}
@@ -27,12 +27,12 @@ use Rattle.disk_core.specs.declared.ending.Meant.TheVariants.{OfView, Changes, A
 use Rattle.disk_core.specs.State.{State, setup_of}
 use Rattle.disk_core.specs.Parts.{state_of}
 use Rattle.disk_core.specs.Inside.{DriveFollows}
-use Rattle.disk_core.specs.Moves.{IsDisk, Reaches, HasPlace, entered, with_spare}
+use Rattle.disk_core.specs.Moves.{IsDisk, Reaches, HasPlace, with_entry, with_spare}
 use Rattle.disk_core.specs.Calls.{EndsBy, EndSays}
 use Rattle.disk_core.specs.Closing.{meant_in, is_some_meant, is_queued, IsNextMeant, IsAbort, AreSorted, HasToEnd, IsToEnd, EndsMeant, NoneMeantBefore, RoomSoFar}
 use Rattle.subtask_queue.specs.Subs.{AreBelow}
 use Rattle.disk_core.proofs.Links.{AreClosed, disk-closed}
-use Rattle.disk_core.proofs.Begun.{owed-before}
+use Rattle.history_laws.proofs.OwedSoFarLemmas.{owed-before}
 use Rattle.history_laws.proofs.QuietLemmas.{IsEnding}
 use Rattle.disk_core.proofs.Failed.{open-place}
 use Rattle.disk_core.proofs.Endings.{IsOneMore, one-more, more-to-end, all-ended}
@@ -165,20 +165,20 @@ module _ {M : Type 0} (device : M → Device) (prepared : M → ℕ → Type 0) 
     abort-place = open-place Begin Before c t closed abort-open
 
     -- no token before it is meant, and it is one of the disk
-    pub abort-first : NoneMeantBefore (entered c e 0) meant t
-    unfolding entered
+    pub abort-first : NoneMeantBefore (with_entry c e 0) meant t
+    unfolding with_entry
     abort-first u below = next.2 u (omega arith) below
 
-    pub abort-within : t ≤ (entered c e 0).accepted
-    unfolding entered state_of
+    pub abort-within : t ≤ (with_entry c e 0).accepted
+    unfolding with_entry state_of
     abort-within = (let token = abort-open.token in let accepts = sound.fitted.accepts in omega arith)
 
-    abort-more : IsOneMore e c (entered c e 0)
+    abort-more : IsOneMore e c (with_entry c e 0)
     unfolding with_spare
     abort-more = one-more c e c.history.spare 0
 
-    abort-room : RoomSoFar Begin (e ∷ Before) (mark_of Begin Before) 1 (entered c e 0)
-    unfolding entered owed_entries
+    abort-room : RoomSoFar Begin (e ∷ Before) (mark_of Begin Before) 1 (with_entry c e 0)
+    unfolding with_entry owed_entries
     abort-room =
         let owed = owed-before Begin Before e is_ending in
         let media = media-same Begin Before e aborting.stays_in aborting.puts_none in
@@ -197,18 +197,18 @@ module _ {M : Type 0} (device : M → Device) (prepared : M → ℕ → Type 0) 
       protected = sound.drive_follows.protected ∙ sym (protected-same Begin Before e aborting.keeps_protection);
     }
 
-    abort-to-end : AreToldWhole Begin → IsToEnd meant Aborted Begin Before e 1 (entered c e 0)
-    abort-to-end whole = more-to-end device prepared drive drive c (entered c e 0) e sound abort-more aborting.quiet is_ending refl refl abort-follows (λ m there. there) meant Aborted 1 whole abort-room aborting.means
+    abort-to-end : AreToldWhole Begin → IsToEnd meant Aborted Begin Before e 1 (with_entry c e 0)
+    abort-to-end whole = more-to-end device prepared drive drive c (with_entry c e 0) e sound abort-more aborting.quiet is_ending refl refl abort-follows (λ m there. there) meant Aborted 1 whole abort-room aborting.means
 
-    pub abort-has : AreToldWhole Begin → HasToEnd meant Aborted (entered c e 0)
+    pub abort-has : AreToldWhole Begin → HasToEnd meant Aborted (with_entry c e 0)
     abort-has whole = (Begin, Before, e, 1, abort-to-end whole)
 
     -- all meant tokens have ended
-    pub abort-done : AreToldWhole Begin → (c' : Core) (count : ℕ) → EndsMeant meant Aborted (entered c e 0) c' count → Reaches device prepared drive c drive c' (λ s s'. EndSays s e count s')
+    pub abort-done : AreToldWhole Begin → (c' : Core) (count : ℕ) → EndsMeant meant Aborted (with_entry c e 0) c' count → Reaches device prepared drive c drive c' (λ s s'. EndSays s e count s')
     abort-done whole c' count ends =
         let ended = ends Begin Before e 1 (abort-to-end whole) in
         let of = open-answers Begin Before Before (mark_of Begin Before) c tells meant Aborted e aborting.means t abort-open abort-open.unmarked ∙ ap (λ b. status_if b Aborted) both.1 in
         let some = ended-some Begin Before e t Aborted abort-open of in
         let many : 1 ≤ count = (let counted = ended.counted in omega arith) in
-        let after = all-ended device prepared drive drive c (entered c e 0) e sound abort-more aborting.quiet is_ending refl refl abort-follows (λ m there. there) 1 c' count many ended in
+        let after = all-ended device prepared drive drive c (with_entry c e 0) e sound abort-more aborting.quiet is_ending refl refl abort-follows (λ m there. there) 1 c' count many ended in
         record { sound = after.again; says = end-says (state_of device drive c) e count (state_of device drive c') many after.says }

@@ -1,38 +1,34 @@
 -- A request is accepted.
-use Rattle.std.proofs.Common.{◌≡◌, ◌≢◌, ℕ, suc, ◌+◌, ◌*◌, ◌<◌, ◌≤◌, inl, inr, true, false, List, [], ◌∷◌, ◌++◌, length, map, Option, None, Some, refl, sym, ◌∙◌, ap, subst, arith, nat_eq}
+use Rattle.std.proofs.Common.{◌≡◌, ℕ, suc, ◌+◌, ◌<◌, ◌≤◌, inl, inr, true, false, List, [], ◌∷◌, ◌++◌, length, map, Option, None, Some, refl, sym, ◌∙◌, ap, subst, arith, nat_eq}
 use Rattle.std.specs.Prelude.{vec_capacity, if◌then◌else◌}
 use Rattle.std.specs.Option.{option_map}
 use Rattle.std.proofs.lemmas.Bool.{cases_eq, cases_lt, eq-eqb, ne_eqb}
 use Rattle.std.proofs.lemmas.List.{get_or_past, get_or_append_left, get_or_push, length-append, length-map, map-append}
 use Rattle.std.proofs.lemmas.Option.{same_Some}
-use Rattle.medium.specs.Device.{Device, AreToldAt}
+use Rattle.medium.specs.Device.{Device}
 use Rattle.drive.specs.Drives.{DriveState, medium_in}
 use Rattle.disk_split.specs.declared.parts.Parts.{Parts}
 use Rattle.block_gate.specs.Gates.{Gates}
 use Rattle.history.specs.declared.entry.View.{View}
 use Rattle.history.specs.declared.entry.Kind.TheVariants.{Write}
 use Rattle.history.specs.declared.entry.Asked.{Asked}
-use Rattle.history.specs.declared.entry.Command.TheVariants.{Fetch}
 use Rattle.history.specs.declared.entry.Entry.{Entry}
-use Rattle.history.specs.declared.entry.Entry.TheVariants.{Accept, Done}
+use Rattle.history.specs.declared.entry.Entry.TheVariants.{Accept}
 use Rattle.history.specs.Setup.{Setup, IsSetup, size_of}
-use Rattle.history.specs.Eras.{media_id_of}
 use Rattle.history.specs.Tokens.{Request, accepted, request, was_collected, changes_bytes, from_of, until_of}
-use Rattle.history.specs.Contents.{contents, bytes_read}
-use Rattle.history.specs.Marks.{mark_of, HoldsBy}
-use Rattle.history.specs.Rules.{MayAccept, MayFollow, IsLegal}
+use Rattle.history.specs.Contents.{bytes_read}
+use Rattle.history.specs.Marks.{mark_of}
+use Rattle.history.specs.Rules.{MayAccept, IsLegal}
 use Rattle.history.specs.Tasks.{pending}
 use Rattle.history.specs.Room.{owed_entries}
 use Rattle.history_laws.specs.Pending.{todos_of}
 use Rattle.history_laws.proofs.CountLemmas.{accepted-more, fetches-same}
-use Rattle.history_laws.proofs.TokenLemmas.{mark-other, accept-concerns, request-accept, request-accepted, request-kept, request-stays, collected-same}
+use Rattle.history_laws.proofs.TokenLemmas.{request-accept, request-accepted, request-kept, collected-same}
 use Rattle.history_laws.proofs.EndLemmas.{unaccepted}
-use Rattle.history_laws.proofs.ContentLemmas.{contents-same, piece-none}
 use Rattle.history_laws.proofs.EraLemmas.{protected-same}
 use Rattle.history_laws.proofs.MediaLemmas.{media-id-same, present-same}
 use Rattle.history_laws.proofs.PendingLemmas.{open-before}
 use Rattle.history_laws.proofs.FinishLemmas.{pending-accept}
-use Rattle.history_laws.proofs.TicketLemmas.{holds-by-before, holds-by-stays}
 use Rattle.token_table.specs.declared.record.Record.{Record}
 use Rattle.token_table.specs.Records.{Records, IsShown}
 use Rattle.token_table.proofs.RecordsLemmas.{at-push}
@@ -45,12 +41,14 @@ use Rattle.disk_core.specs.State.{Kept, kept_at, setup_of}
 use Rattle.disk_core.specs.Facts.{IsBuffer, KeptFollow, GatesFollow, buffer_length}
 use Rattle.disk_core.specs.Parts.{kept_from, kept_of, state_of}
 use Rattle.disk_core.specs.Inside.{DriveFollows, Tracks, RecordsFollow, HoldersFollow, AreReady, group_low, group_high}
-use Rattle.disk_core.specs.Admission.{accepting, left_at_first}
+use Rattle.history_laws.specs.Costs.{left_at_first}
+use Rattle.disk_core.specs.Admission.{after_accept}
 use Rattle.disk_core.specs.Moves.{IsDisk}
 use Rattle.disk_core.proofs.Following.{era-still}
-use Rattle.disk_core.proofs.Still.{buffer-kept}
+use Rattle.disk_core.proofs.Over.{gates-over, drive-over, holders-over, tracks-over, buffer-same}
+use Rattle.history_laws.proofs.QuietLemmas.{read-same}
 use Rattle.history_laws.proofs.LeftLemmas.{left-done}
-use Rattle.disk_core.proofs.HistoryAccepted.{left-new}
+use Rattle.history_laws.proofs.AcceptLemmas.{left-new}
 use Rattle.history_laws.proofs.AcceptLemmas.{uncollected-new}
 use Rattle.disk_core.proofs.Plain.{some-none}
 use Rattle.history_laws.proofs.AcceptedLemmas.{contents-accept, holds-accept, holds-was, legal-accept, mark-old, more, older}
@@ -82,48 +80,19 @@ module _ (S : Setup) (H : List Entry) (tag : ℕ) (view : View) (asked : Asked) 
   q = record { tag = tag; view = view; asked = asked; bytes = bytes }
 
   pub gates-accept : (gates : Gates) → GatesFollow S H gates → GatesFollow S (e ∷ H) gates
-  gates-accept gates follow = record {
-    sized = follow.sized;
-    each = λ k g there. (let t = (follow.each k g there).0 in let is = (follow.each k g there).1 in (
-      t,
-      record {
-        holds = (holds-accept S H tag view asked bytes setup legal may) t g.block k is.holds;
-        lent = is.lent;
-        copied = subst (λ told. AreToldAt told (g.block * size_of S) g.copy) (sym (contents-accept S H tag view asked bytes setup legal may)) is.copied;
-      },
-    ));
-    all = λ t b k holds. follow.all t b k ((holds-was S H tag view asked bytes setup legal may) t b k holds);
-    below = λ k out. subst (λ n. k < n) (sym (fetches-same H e refl)) (follow.below k out);
-  }
+  gates-accept gates =
+      gates-over S H (e ∷ H) gates (holds-was S H tag view asked bytes setup legal may) (holds-accept S H tag view asked bytes setup legal may) (contents-accept S H tag view asked bytes setup legal may) (fetches-same H e refl)
 
   pub holders-accept : (gates : Gates) (holders : List Holder) (places : ℕ) → HoldersFollow S H gates holders places → HoldersFollow S (e ∷ H) gates holders places
-  holders-accept gates holders places follow = record {
-    each = λ k t b holds. follow.each k t b ((holds-was S H tag view asked bytes setup legal may) t b k holds);
-    only = λ k t there. (let h = follow.only k t there in (h.0, (holds-accept S H tag view asked bytes setup legal may) t h.0 k h.1));
-    apart = follow.apart;
-    paired = follow.paired;
-    rising = follow.rising;
-    fits = follow.fits;
-  }
+  holders-accept gates holders places = holders-over S H (e ∷ H) gates holders places (holds-was S H tag view asked bytes setup legal may) (holds-accept S H tag view asked bytes setup legal may)
 
   pub drive-accept : {M : Type 0} (device : M → Device) (drive : DriveState M) → DriveFollows device S H drive → DriveFollows device S (e ∷ H) drive
-  drive-accept device drive follow = record {
-    shape = follow.shape;
-    fit = follow.fit;
-    media_id = follow.media_id ∙ sym (media-id-same H e refl);
-    present = follow.present ∙ sym (present-same H e refl refl);
-    protected = follow.protected ∙ sym (protected-same S H e refl);
-  }
+  drive-accept device drive = drive-over device S H (e ∷ H) drive (media-id-same H e refl) (present-same H e refl refl) (protected-same S H e refl)
 
   tracks-old : (t : ℕ) (r : Record) (was : Request) → Tracks S H t r was → Tracks S (e ∷ H) t r was
-  tracks-old t r was is = record {
-    named = request-stays H e t was is.named;
-    asked = is.asked;
-    viewed = is.viewed;
-    begins = is.begins;
-    mark = (mark-old S H tag view asked bytes setup legal may) t ((older S H tag view asked bytes setup legal may) t (request-accepted H t was is.named)) ∙ is.mark;
-    left = λ unended. is.left unended ∙ sym (left-done S H e t was refl);
-  }
+  tracks-old t r was is =
+      tracks-over S H e t r was (mark_of S H) (mark_of S (e ∷ H)) (mark-old S H tag view asked bytes setup legal may t (older S H tag view asked bytes setup legal may t (request-accepted H t was is.named)))
+      (left-done S H e t was refl) is
 
   -- the record of the new token
   pub record IsNew (r : Record) (buffer : List ℕ) : Type 0 where
@@ -185,7 +154,7 @@ module _ (S : Setup) (H : List Entry) (tag : ℕ) (view : View) (asked : Asked) 
           (subst (λ x. (was_collected (e ∷ H) (accepted H) ≡ false) × ((was : Request) × IsBuffer S (e ∷ H) (accepted H) was x.buffer)) here (uncollected-new S H tag view asked bytes setup legal, (q, buffer-new k.buffer long written)))
       | inr other ↦
           let old = follow.there t found (sym (kept-last kept t (Some k) ∙ rw (ne_eqb t (length kept) other) refl) ∙ is) in
-          (collected-same H e t refl ∙ old.0, (old.1.0, buffer-kept S H e t old.1.0 found.buffer refl old.1.1))
+          (collected-same H e t refl ∙ old.0, (old.1.0, buffer-same S H e t old.1.0 found.buffer (λ x. read-same S H e t x refl) old.1.1))
     ];
     gone = λ t lt none. elim (cases_eq t (length kept)) [
       | inl same ↦ absurd (some-none (kept_at (kept ++ Some k ∷ []) t) k none (kept-last kept t (Some k) ∙ rw (eq-eqb t (length kept) same) refl))
@@ -228,8 +197,8 @@ module _ {M : Type 0} (device : M → Device) (prepared : M → ℕ → Type 0) 
       → AreParts S.geometry (from_of S asks) (until_of S asks) parts → length buffer ≡ buffer_length asked.kind asked.length → (asked.kind ≡ Write → buffer ≡ bytes)
       → owed_entries S (entry ∷ c.history.entries) ≤ owed_entries S c.history.entries + owed → c.owed + owed + 1 ≤ c.history.spare
       → (changes_bytes asked.kind ≡ true → mark_of S (entry ∷ c.history.entries) (accepted c.history.entries) ≡ None → (m : M) → medium_in drive ≡ Some m → (b : ℕ) → group_low S asks ≤ b → b < group_high S asks → prepared m b)
-      → IsDisk device prepared drive (accepting c entry owed (c.tokens ++ Some r ∷ []) (c.queue ++ subs_of_request c.blocks c.accepted asked.kind parts))
-  unfolding state_of accepting
+      → IsDisk device prepared drive (after_accept c entry owed (c.tokens ++ Some r ∷ []) (c.queue ++ subs_of_request c.blocks c.accepted asked.kind parts))
+  unfolding state_of after_accept
   accept-sound r buffer owed parts is are long written more_owed places now =
       let H = c.history.entries in
       let many : accepted H ≡ length c.tokens = sym sound.facts.tokens.counted ∙ length-kept c.tokens in

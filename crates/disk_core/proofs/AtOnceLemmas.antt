@@ -23,9 +23,10 @@ use Rattle.disk_core.specs.declared.answers.Stored.{Stored}
 use Rattle.disk_core.specs.declared.answers.Stored.TheVariants as stored
 use Rattle.disk_core.specs.State.{State}
 use Rattle.disk_core.specs.Facts.{AreFacts}
-use Rattle.disk_core.specs.Calls.{low_in, high_in, Revokes, LendsFirst, StepSays, IsHeldBy, expected_of, GatesStored, StoreSays}
+use Rattle.disk_core.specs.Calls.{Revokes, LendsFirst, StepSays, IsHeldBy, expected_of, GatesStored, StoreSays}
+use Rattle.history_laws.specs.Ranges.{low_in, high_in}
 use Rattle.disk_core.specs.Turns.{IsIdle, merged, StoresAtOnce}
-use Rattle.disk_core.proofs.TurnLemmas.{none-held}
+use Rattle.disk_core.proofs.TurnLemmas.{none-held, steps-turn}
 use Rattle.disk_core.proofs.IdleLemmas.{idle-stays, gate_for, lent-gate, lent-out, lent-size, back-again}
 use Rattle.history_laws.proofs.HoldingLemmas.{new-holder}
 use Rattle.history_laws.proofs.FetchLemmas.{store-turn}
@@ -145,3 +146,11 @@ module _ (old mid : State) (w : Lent) (todo : Todo) (q : Request) (is : IsSetup 
 pub stores-merged : (old mid new : State) (w : Lent) (result : Stored) → IsSetup old.setup → AreFacts old → IsIdle old.gates → StepSays old (step.Lent w) mid → StoreSays mid (merged w) result new → StoresAtOnce old mid result new
 unfolding StepSays
 stores-merged old mid new w result is facts idle (todo, q, lends) says = stores old mid w todo q is facts idle lends new result says
+
+-- and no other answer comes, whatever the merged work is called
+pub answered : (old : State) → IsSetup old.setup → AreFacts old → IsIdle old.gates → (mid new : State) (w w' : Lent) (result : Stored) → StepSays old (step.Lent w) mid → w' ≡ merged w → StoreSays mid w' result new → StoresAtOnce old mid result new
+answered old is facts idle mid new w w' result says merges stores = stores-merged old mid new w result is facts idle says (subst (λ v. StoreSays mid v result new) merges stores)
+
+-- an idle step does not come
+pub never-idle : (old : State) → IsSetup old.setup → AreFacts old → IsIdle old.gates → (new : State) → StepSays old step.Idle new → ⊥
+never-idle old is facts idle new says = steps-turn old new step.Idle is facts idle.held idle.free says

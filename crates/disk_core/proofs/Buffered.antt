@@ -28,39 +28,39 @@ use Rattle.disk_core.specs.State.{Kept, kept_at}
 use Rattle.disk_core.specs.Facts.{IsBuffer, KeptFollow, HasBytesRead}
 use Rattle.disk_core.specs.Parts.{kept_from, kept_of}
 use Rattle.disk_core.specs.Inside.{Tracks, RecordsFollow}
-use Rattle.disk_core.specs.Moves.{put_into}
-use Rattle.disk_core.proofs.Finished.{buffer-same}
+use Rattle.disk_core.specs.Moves.{with_bytes_in}
+use Rattle.disk_core.proofs.Over.{buffer-same}
 use Rattle.disk_core.proofs.Kept.{each-changed}
 
 -- records do not see the bytes of a buffer
-tracks-put : (S : Setup) (H : List Entry) (t place : ℕ) (piece : List ℕ) (r : Record) (q : Request) → Tracks S H t r q → Tracks S H t (put_into place piece r) q
-unfolding put_into
+tracks-put : (S : Setup) (H : List Entry) (t place : ℕ) (piece : List ℕ) (r : Record) (q : Request) → Tracks S H t r q → Tracks S H t (with_bytes_in place piece r) q
+unfolding with_bytes_in
 tracks-put S H t place piece r q is = record { named = is.named; viewed = is.viewed; asked = is.asked; begins = is.begins; mark = is.mark; left = is.left }
 
-shown-put : (place : ℕ) (piece : List ℕ) (r : Record) → IsShown r → IsShown (put_into place piece r)
-unfolding IsShown put_into
+shown-put : (place : ℕ) (piece : List ℕ) (r : Record) → IsShown r → IsShown (with_bytes_in place piece r)
+unfolding IsShown with_bytes_in
 shown-put place piece r is = is
 
-pub records-put : (S : Setup) (H : List Entry) (t place : ℕ) (piece : List ℕ) (records : Records) → RecordsFollow S H records → RecordsFollow S H (changed (put_into place piece) records t)
+pub records-put : (S : Setup) (H : List Entry) (t place : ℕ) (piece : List ℕ) (records : Records) → RecordsFollow S H records → RecordsFollow S H (changed (with_bytes_in place piece) records t)
 records-put S H t place piece records follow = record {
-  each = each-changed (put_into place piece) records t (λ u r. (q : Request) × Tracks S H u r q) (λ u r. (q : Request) × Tracks S H u r q) follow.each (λ u r other old. old)
+  each = each-changed (with_bytes_in place piece) records t (λ u r. (q : Request) × Tracks S H u r q) (λ u r. (q : Request) × Tracks S H u r q) follow.each (λ u r other old. old)
       (λ r old. (old.0, tracks-put S H t place piece r old.0 old.1));
   shown = record {
-    each = each-changed (put_into place piece) records t (λ u r. IsShown r) (λ u r. IsShown r) follow.shown.each (λ u r other shown. shown) (λ r shown. shown-put place piece r shown);
+    each = each-changed (with_bytes_in place piece) records t (λ u r. IsShown r) (λ u r. IsShown r) follow.shown.each (λ u r other shown. shown) (λ r shown. shown-put place piece r shown);
   };
 }
 
-put-from : (place : ℕ) (piece : List ℕ) (r : Record) → kept_from (put_into place piece r) ≡ record (kept_from r) { buffer = patch r.request.buffer place piece }
-unfolding put_into
+put-from : (place : ℕ) (piece : List ℕ) (r : Record) → kept_from (with_bytes_in place piece r) ≡ record (kept_from r) { buffer = patch r.request.buffer place piece }
+unfolding with_bytes_in
 put-from place piece r = refl
 
 -- what callers see of it
 pub kept-put : (t place : ℕ) (piece : List ℕ) (records : Records) (own : Record) → record_at records t ≡ Some own
-    → kept_of (changed (put_into place piece) records t) ≡ slice_set (kept_of records) t (Some (record (kept_from own) { buffer = patch own.request.buffer place piece }))
+    → kept_of (changed (with_bytes_in place piece) records t) ≡ slice_set (kept_of records) t (Some (record (kept_from own) { buffer = patch own.request.buffer place piece }))
 unfolding kept_of changed
 kept-put t place piece records own there =
-    map-set (option_map kept_from) records t (option_map (put_into place piece) (record_at records t))
-    ∙ ap (λ o. slice_set (map (option_map kept_from) records) t (option_map kept_from (option_map (put_into place piece) o))) there
+    map-set (option_map kept_from) records t (option_map (with_bytes_in place piece) (record_at records t))
+    ∙ ap (λ o. slice_set (map (option_map kept_from) records) t (option_map kept_from (option_map (with_bytes_in place piece) o))) there
     ∙ ap (λ k. slice_set (map (option_map kept_from) records) t (Some k)) (put-from place piece own)
 
 pub at-set : (kept : List (Option Kept)) (t : ℕ) (old new : Kept) → kept_at kept t ≡ Some old → kept_at (slice_set kept t (Some new)) t ≡ Some new

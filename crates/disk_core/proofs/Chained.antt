@@ -5,33 +5,33 @@ use Rattle.block_gate.specs.Gates.{holding, lending, AreSound}
 use Rattle.history.specs.declared.entry.Command.TheVariants.{Fetch}
 use Rattle.history.specs.declared.entry.Entry.TheVariants.{Done}
 use Rattle.disk_core.specs.declared.parts.Core.{Core}
-use Rattle.disk_core.specs.Moves.{entered}
+use Rattle.disk_core.specs.Moves.{with_entry}
 use Rattle.disk_core.proofs.Lending.{HasLent}
 
-module _ (c mid enter hold : Core) (t b k : ℕ) (group : List ℕ) (items : mid.group.items ≡ group) (entering_ : enter ≡ entered (record c { fetched = c.fetched + 1; group = mid.group }) (Done t (Fetch b)) 1) where
+module _ (c mid enter hold : Core) (t b k : ℕ) (group : List ℕ) (items : mid.group.items ≡ group) (entering_ : enter ≡ with_entry (record c { fetched = c.fetched + 1; group = mid.group }) (Done t (Fetch b)) 1) where
   pub enter-gates : enter.gates ≡ c.gates
-  unfolding entered
+  unfolding with_entry
   enter-gates = ap (λ v. v.gates) entering_
 
   pub enter-holders : enter.holders ≡ c.holders
-  unfolding entered
+  unfolding with_entry
   enter-holders = ap (λ v. v.holders) entering_
 
   pub enter-group : enter.group.items ≡ group
-  unfolding entered
+  unfolding with_entry
   enter-group = ap (λ v. v.group.items) entering_ ∙ items
 
   module _ (gates : hold.gates ≡ holding enter.gates b k enter.group.items) (rest : hold ≡ record enter { gates = hold.gates; holders = hold.holders }) where
     pub hold-tokens : hold.tokens ≡ c.tokens
-    unfolding entered
+    unfolding with_entry
     hold-tokens = ap (λ v. v.tokens) rest ∙ ap (λ v. v.tokens) entering_
 
     pub hold-blocks : hold.blocks ≡ c.blocks
-    unfolding entered
+    unfolding with_entry
     hold-blocks = ap (λ v. v.blocks) rest ∙ ap (λ v. v.blocks) entering_
 
     pub hold-zeros : hold.zeros ≡ c.zeros
-    unfolding entered
+    unfolding with_entry
     hold-zeros = ap (λ v. v.zeros) rest ∙ ap (λ v. v.zeros) entering_
 
     pub hold-gates : hold.gates ≡ holding c.gates b k group
@@ -47,7 +47,7 @@ module _ (c mid enter hold : Core) (t b k : ℕ) (group : List ℕ) (items : mid
       pub zeros : c'.zeros ≡ c.zeros
 
     pub lend-beside : (c' : Core) → c' ≡ record hold { gates = lending hold.gates k } → Beside c'
-    unfolding entered
+    unfolding with_entry
     lend-beside c' is = subst Beside (sym is) (record {
       protected_at_first = ap (λ v. v.protected_at_first) rest ∙ ap (λ v. v.protected_at_first) entering_;
       blocks = hold-blocks;
@@ -59,7 +59,7 @@ module _ (c mid enter hold : Core) (t b k : ℕ) (group : List ℕ) (items : mid
 
     pub lend-links : (c' : Core) → hold.holders.items ≡ enter.holders.items ++ record { ticket = k; token = t } ∷ [] → vec_capacity hold.holders ≡ vec_capacity enter.holders → c' ≡ record hold { gates = lending hold.gates k } → AreSound c'.gates
         → HasLent c.history.entries t b k group c c'
-    unfolding entered
+    unfolding with_entry
     lend-links c' holders places is sound = record {
       entries = ap (λ v. v.history.entries) is ∙ ap (λ v. v.history.entries) rest ∙ ap (λ v. v.history.entries) entering_;
       spare = ap (λ v. v.history.spare) is ∙ ap (λ v. v.history.spare) rest ∙ ap (λ v. v.history.spare) entering_;

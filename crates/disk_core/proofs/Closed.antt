@@ -1,5 +1,5 @@
 -- The parts carry one end after the other, and follow the history again after the last.
-use Rattle.std.proofs.Common.{◌≡◌, ◌≢◌, ℕ, zero, suc, ◌+◌, ◌-◌, ◌<◌, ◌≤◌, inl, inr, Bool, true, false, not, nat_eq, List, [], ◌∷◌, map, slice_get, Option, None, Some, refl, sym, ◌∙◌, ap, subst, arith}
+use Rattle.std.proofs.Common.{◌≡◌, ◌≢◌, ℕ, zero, suc, ◌+◌, ◌-◌, ◌≤◌, inl, inr, true, false, not, nat_eq, List, [], ◌∷◌, map, slice_get, Option, None, Some, refl, sym, ◌∙◌, ap, subst, arith}
 use Rattle.std.specs.Prelude.{filter, count_by, is_none, vec_capacity}
 use Rattle.std.specs.Option.{option_map}
 use Rattle.std.proofs.lemmas.Bool.{cases_Bool, cases_eq, eq-eqb}
@@ -7,31 +7,35 @@ use Rattle.std.proofs.lemmas.Option.{slice_get-map}
 use Rattle.efi_status.specs.declared.Status.{Status}
 use Rattle.history.specs.declared.entry.Entry.{Entry}
 use Rattle.history.specs.Setup.{Setup, size_of}
-use Rattle.history.specs.Tokens.{Request, accepted, request, was_collected}
+use Rattle.history.specs.Tokens.{Request, accepted, request}
 use Rattle.history.specs.Marks.{mark_of, HoldsBy}
 use Rattle.history.specs.Tasks.{Todo, pending}
-use Rattle.history.specs.Room.{commands_owed, owed_by, token_owed, tokens_owed, owed_entries}
+use Rattle.history.specs.Room.{commands_owed, owed_entries}
+use Rattle.history_laws.specs.OwedSoFar.{token_owed_so_far}
 use Rattle.history_laws.specs.Pending.{Ordered}
 use Rattle.history_laws.proofs.TokenLemmas.{request-some}
 use Rattle.history_laws.proofs.OrderLemmas.{ordered-filter}
 use Rattle.history_laws.proofs.SpareLemmas.{marked-accepted}
 use Rattle.history_laws.proofs.TicketLemmas.{ticket-one}
+use Rattle.history_laws.proofs.OwedSoFarLemmas.{owed-some, owed-falls, owed-within, owed-all}
 use Rattle.token_table.specs.declared.record.Record.{Record}
 use Rattle.token_table.specs.declared.record.Mark.{Mark}
-use Rattle.token_table.specs.Records.{Records, record_at, changed, ended_record, mark_at, mark_of_record, mark_of_end, word_for, IsShown}
+use Rattle.token_table.specs.Records.{Records, record_at, changed, ended_record, mark_at, mark_of_record, mark_of_end}
 use Rattle.subtask_queue.specs.Subs.{is_of, sub_of, without_token}
 use Rattle.block_gate.specs.Gates.{Gate, gate_of}
 use Rattle.disk_core.specs.declared.parts.Core.{Core}
 use Rattle.disk_core.specs.declared.parts.Holder.{Holder}
 use Rattle.disk_core.specs.Facts.{KeptFollow, GatesFollow}
 use Rattle.disk_core.specs.Parts.{kept_from, kept_of, holder_of}
-use Rattle.disk_core.specs.Inside.{IsEarlier, HoldersFollow, HasRoom}
+use Rattle.disk_core.specs.Inside.{IsEarlier, HoldersFollow, HasRoom, RecordsBy}
 use Rattle.disk_core.specs.Moves.{Ends}
-use Rattle.disk_core.specs.Closing.{HoldsSoFar, TracksSoFar, RecordsSoFar, GatesSoFar, token_owed_so_far, tokens_owed_so_far, RoomSoFar, IsClosing}
-use Rattle.disk_core.proofs.Kept.{kept-record, kept-changed, each-changed}
+use Rattle.disk_core.specs.Closing.{HoldsSoFar, GatesSoFar, RoomSoFar, IsClosing}
+use Rattle.disk_core.proofs.Kept.{kept-record, kept-changed}
 use Rattle.disk_core.proofs.Queued.{queue-without, queue-count}
-use Rattle.disk_core.proofs.Revoked.{filter-mapped, HaveLost, is_ticket_of, revoked-lost, left-gate, gate-left, holder-first, other-ticket, ticket-other, holder-others, others-tickets}
+use Rattle.disk_core.proofs.Revoked.{HaveLost, is_ticket_of, revoked-lost, left-gate, gate-left, holder-first, other-ticket, ticket-other, holder-others, others-tickets}
+use Rattle.history_laws.proofs.FilterLemmas.{filter-mapped}
 use Rattle.disk_core.proofs.Links.{AreClosed}
+use Rattle.disk_core.proofs.Over.{records-step}
 
 -- ---- records
 
@@ -39,63 +43,6 @@ use Rattle.disk_core.proofs.Links.{AreClosed}
 pub kept-ended : (status : Status) (records : Records) (t : ℕ) → kept_of (changed (ended_record status) records t) ≡ kept_of records
 unfolding ended_record
 kept-ended status records t = kept-changed (ended_record status) (λ r. refl) records t
-
-records-step : (S : Setup) (H : List Entry) (marks marks' : ℕ → Option Status) (records : Records) (t : ℕ) (status : Status) → marks' t ≡ Some status → ((u : ℕ) → u ≢ t → marks' u ≡ marks u)
-    → RecordsSoFar S H marks records → RecordsSoFar S H marks' (changed (ended_record status) records t)
-unfolding ended_record IsShown word_for
-records-step S H marks marks' records t status here away follow = record {
-  each = each-changed (ended_record status) records t (λ u r. (q : Request) × TracksSoFar S H marks u r q) (λ u r. (q : Request) × TracksSoFar S H marks' u r q) follow.each
-      (λ u r other was. (
-        was.0,
-        record { named = was.1.named; viewed = was.1.viewed; asked = was.1.asked; begins = was.1.begins; mark = away u (λ same. other (sym same)) ∙ was.1.mark; left = was.1.left },
-      ))
-      (λ r was. (was.0, record { named = was.1.named; viewed = was.1.viewed; asked = was.1.asked; begins = was.1.begins; mark = here; left = λ never. absurd (some-none never) }));
-  shown = record { each = each-changed (ended_record status) records t (λ u r. IsShown r) (λ u r. IsShown r) follow.shown.each (λ u r other shown. shown) (λ r shown. refl) };
-}
-  where
-    some-none : Some status ≡ None → ⊥
-    some-none e = cc
-
--- ---- what is owed
-
-owed-some : (S : Setup) (H : List Entry) (t : ℕ) (q : Request) (marks marks' : ℕ → Option Status) (status : Status) → request H t ≡ Some q → marks t ≡ None → marks' t ≡ Some status
-    → token_owed_so_far S H marks' t + (commands_owed S H t q + 1) ≤ token_owed_so_far S H marks t
-owed-some S H t q marks marks' status named open_now here = rw (named, open_now, here) (by _)
-  where
-    by : (collected : Bool) → owed_by S H t (Some q) (Some status) collected + (commands_owed S H t q + 1) ≤ commands_owed S H t q + 2
-    by true = omega arith
-    by false = omega arith
-
-owed-same : (S : Setup) (H : List Entry) (marks marks' : ℕ → Option Status) (t n : ℕ) → n ≤ t → ((u : ℕ) → u ≢ t → marks' u ≡ marks u) → tokens_owed_so_far S H marks' n ≡ tokens_owed_so_far S H marks n
-unfolding tokens_owed_so_far
-owed-same S H marks marks' t zero below away = refl
-owed-same S H marks marks' t (suc n) below away =
-    let rest = owed-same S H marks marks' t n (omega arith) away in
-    let one = away n (λ same. absurd (omega arith)) in
-    rw (rest, one) refl
-
-owed-falls : (S : Setup) (H : List Entry) (marks marks' : ℕ → Option Status) (t n paid : ℕ) → t < n → token_owed_so_far S H marks' t + paid ≤ token_owed_so_far S H marks t → ((u : ℕ) → u ≢ t → marks' u ≡ marks u)
-    → tokens_owed_so_far S H marks' n + paid ≤ tokens_owed_so_far S H marks n
-unfolding tokens_owed_so_far
-owed-falls S H marks marks' t zero paid below falls away = absurd (omega arith)
-owed-falls S H marks marks' t (suc n) paid below falls away = elim (cases_eq n t) [
-  | inl same ↦
-      let rest = owed-same S H marks marks' t n (omega arith) away in
-      let one : token_owed_so_far S H marks' n + paid ≤ token_owed_so_far S H marks n = subst (λ m. token_owed_so_far S H marks' m + paid ≤ token_owed_so_far S H marks m) (sym same) falls in
-      omega arith
-  | inr other ↦
-      let rest = owed-falls S H marks marks' t n paid (omega (arith, other)) falls away in
-      let one : token_owed_so_far S H marks' n ≡ token_owed_so_far S H marks n = ap (λ m. owed_by S H n (request H n) m (was_collected H n)) (away n other) in
-      omega arith
-]
-
-owed-within : (S : Setup) (H : List Entry) (marks : ℕ → Option Status) (t n : ℕ) → t < n → token_owed_so_far S H marks t ≤ tokens_owed_so_far S H marks n
-unfolding tokens_owed_so_far
-owed-within S H marks t zero below = absurd (omega arith)
-owed-within S H marks t (suc n) below = elim (cases_eq n t) [
-  | inl same ↦ rw same (omega arith)
-  | inr other ↦ (let rest = owed-within S H marks t n (omega (arith, other)) in omega arith)
-]
 
 -- ---- one end
 
@@ -207,7 +154,7 @@ module _ (S : Setup) (H : List Entry) (marks : ℕ → Option Status) (units : L
         | inl same ↦ absurd (clash (sym here ∙ (ap marks' (sym same) ∙ open_now)))
         | inr other ↦ closing.uncollected u (sym (away u other) ∙ open_now)
       ];
-      records = subst (RecordsSoFar S H marks') (sym ends.tokens) (records-step S H marks marks' c.tokens t status here away closing.records);
+      records = subst (RecordsBy S H marks') (sym ends.tokens) (records-step S H marks marks' c.tokens t status here away closing.records);
       queue = ends.queue ∙ (ap (without_token t) closing.queue ∙ queue-without (size_of S) t (λ todo. is_none (marks todo.token)) (λ todo. is_none (marks' todo.token)) units
           (λ todo is. ap (λ u. is_none (marks' u)) is ∙ ap is_none here) (λ todo isnt. ap is_none (away todo.token isnt)));
       costs = closing.costs;
@@ -234,11 +181,6 @@ pub holder-gate : (holders : List Holder) (held : List Gate) (k t : ℕ) → map
 holder-gate holders held k t paired is =
     let first = holder-first holders k t is in
     gate-listed held first.0 k (ap (λ l. slice_get l first.0) (sym paired) ∙ (slice_get-map (λ (h : Holder). h.ticket) holders first.0 ∙ (ap (option_map (λ (h : Holder). h.ticket)) first.2 ∙ ap Some first.3)))
-
-owed-all : (S : Setup) (H : List Entry) (n : ℕ) → tokens_owed_so_far S H (mark_of S H) n ≡ tokens_owed S H n
-unfolding tokens_owed_so_far tokens_owed token_owed
-owed-all S H zero = refl
-owed-all S H (suc n) = ap (λ m. m + token_owed_so_far S H (mark_of S H) n) (owed-all S H n)
 
 module _ (S : Setup) (H : List Entry) (units : List Todo) (late : ℕ) (c : Core) (closing : IsClosing S H (mark_of S H) units late c) where
   held-by : (k t b : ℕ) → HoldsSoFar H (mark_of S H) t b k → HoldsBy S H t b k
@@ -298,10 +240,7 @@ module _ (S : Setup) (H : List Entry) (units : List Todo) (late : ℕ) (c : Core
     legal = closing.legal;
     tokens = closing.tokens;
     gates = closed-gates;
-    records = record {
-      each = λ t r is. (let was = closing.records.each t r is in (was.0, record { named = was.1.named; viewed = was.1.viewed; asked = was.1.asked; begins = was.1.begins; mark = was.1.mark; left = was.1.left }));
-      shown = closing.records.shown;
-    };
+    records = closing.records;
     queue = closing.queue ∙ ap (map (sub_of (size_of S))) units_are;
     holders = closed-holders;
     room = closed-room places;

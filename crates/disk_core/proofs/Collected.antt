@@ -26,7 +26,7 @@ use Rattle.disk_core.specs.Facts.{IsBuffer, KeptFollow}
 use Rattle.disk_core.specs.Parts.{kept_from, kept_of, state_of}
 use Rattle.disk_core.specs.Inside.{RecordsFollow, HasRoom}
 use Rattle.disk_core.specs.Calls.{CollectSays, IsUnknown, MarkSays}
-use Rattle.disk_core.specs.Moves.{IsDisk, Reaches, HasPlace, entered, collected}
+use Rattle.disk_core.specs.Moves.{IsDisk, Reaches, HasPlace, with_entry, after_collect}
 use Rattle.disk_core.proofs.Following.{era-still}
 use Rattle.disk_core.proofs.Kept.{kept-record, kept-without, kept-cleared, kept-others, records-cleared, records-others}
 use Rattle.disk_core.proofs.Still.{gates-still, holders-still, drive-still, ready-still, tracks-still, buffer-still}
@@ -69,16 +69,16 @@ collect-records S H tag t records still follow = record {
       | inr other ↦ sym (records-others records t u other) ∙ is
     ]
 
-collect-room : (S : Setup) (c : Core) (tag t : ℕ) → IsLegal S c.history.entries → MayFollow S c.history.entries (Collect tag t) → HasRoom S c → HasRoom S (collected c tag t)
-unfolding collected entered
+collect-room : (S : Setup) (c : Core) (tag t : ℕ) → IsLegal S c.history.entries → MayFollow S c.history.entries (Collect tag t) → HasRoom S c → HasRoom S (after_collect c tag t)
+unfolding after_collect with_entry
 collect-room S c tag t legal may room =
     let less = entries-collect S c.history.entries tag t legal may in
     let owed = room.owed in let places = room.places in let few = room.few in
     record { owed = omega arith; places = omega arith; few = omega arith }
 
 pub collect-sound : {M : Type 0} (device : M → Device) (prepared : M → ℕ → Type 0) (drive : DriveState M) (c : Core) (tag t : ℕ) → IsDisk device prepared drive c
-    → MayFollow (setup_of device drive c.protected_at_first) c.history.entries (Collect tag t) → IsDisk device prepared drive (collected c tag t)
-unfolding state_of collected entered
+    → MayFollow (setup_of device drive c.protected_at_first) c.history.entries (Collect tag t) → IsDisk device prepared drive (after_collect c tag t)
+unfolding state_of after_collect with_entry
 collect-sound device prepared drive c tag t sound may =
     let S = setup_of device drive c.protected_at_first in
     let H = c.history.entries in
@@ -156,8 +156,8 @@ module _ {M : Type 0} (device : M → Device) (prepared : M → ℕ → Type 0) 
       by (Some r) is = mark-ended r r.ended is refl
 
   collects : (r : Record) (status : Status) → record_at c.tokens n ≡ Some r → r.ended ≡ Some status
-      → CollectSays (state_of device drive c) tag n (Ok (record { status = status; buffer = r.request.buffer })) (state_of device drive (collected c tag n))
-  unfolding state_of CollectSays collected entered MayFollow IsLegal
+      → CollectSays (state_of device drive c) tag n (Ok (record { status = status; buffer = r.request.buffer })) (state_of device drive (after_collect c tag n))
+  unfolding state_of CollectSays after_collect with_entry MayFollow IsLegal
   collects r status is ended =
       let tracks = (sound.records.each n r is).1 in
       let there = kept-record c.tokens n ∙ ap (option_map kept_from) is in
@@ -187,7 +187,7 @@ module _ {M : Type 0} (device : M → Device) (prepared : M → ℕ → Type 0) 
       )
 
   abbrev pub Goal : Result Done NotThere → Type 0
-  Goal result = (c' : Core) → OnOk result (c' ≡ collected c tag n) → OnErr result (c' ≡ c) → Reaches device prepared drive c drive c' (λ s s'. CollectSays s tag n result s')
+  Goal result = (c' : Core) → OnOk result (c' ≡ after_collect c tag n) → OnErr result (c' ≡ c) → Reaches device prepared drive c drive c' (λ s s'. CollectSays s tag n result s')
 
   ends-reaches : (r : Record) (s : Option Status) → record_at c.tokens n ≡ Some r → r.ended ≡ s → Goal (done_by s r.request.buffer)
   unfolding state_of CollectSays

@@ -32,9 +32,10 @@ use Rattle.disk_core.specs.Commands.{OnMedium}
 use Rattle.disk_core.specs.Parts.{kept_of, state_of}
 use Rattle.disk_core.specs.Inside.{AreFitted}
 use Rattle.disk_core.specs.Calls.{Stores, IsHeldBy, Revokes}
-use Rattle.disk_core.specs.Moves.{Reaches, Ends, Fails, Finishes, entered, without_ticket_of}
+use Rattle.disk_core.specs.Moves.{Reaches, Ends, EntersFault, EntersDone, with_entry, without_ticket_of}
 use Rattle.disk_core.specs.Storage.{IsStoring}
-use Rattle.disk_core.proofs.Begun.{begun, gates-begun, owed-before}
+use Rattle.disk_core.proofs.Begun.{begun, gates-begun}
+use Rattle.history_laws.proofs.OwedSoFarLemmas.{owed-before}
 use Rattle.history_laws.proofs.EndingLemmas.{units-left}
 use Rattle.disk_core.proofs.Closed.{kept-ended, closing-step, closed-all}
 use Rattle.disk_core.proofs.Commanded.{entry_for}
@@ -110,13 +111,13 @@ module _ {M : Type 0} (device : M → Device) (prepared : M → ℕ → Type 0) 
 
   -- a done store
   pub part-done : (unit : Sub) (c' : Core) → OnMedium device prepared drive drive' (λ d d'. IsWrite d part.block c.group.items (Ok _) d') → token_of unit ≡ part.token → block_of unit ≡ part.block
-      → Finishes mid c' unit (Store part.block) (part.range.high - part.range.low) → Reaches device prepared drive base drive' c' (λ s s'. Stores s c.gates part.ticket g part.token q Made s')
+      → EntersDone mid c' unit (Store part.block) (part.range.high - part.range.low) → Reaches device prepared drive base drive' c' (λ s s'. Stores s c.gates part.ticket g part.token q Made s')
   unfolding state_of
   part-done unit c' on token block done =
       let e = Done part.token (Store g.block) in
       let bytes = bytes-are device prepared drive shaped c before part g q is in
-      let at : Finishes let_go c' unit (Store g.block) (task_bytes (Moves (part_of_range S q g.block))) =
-      subst (λ n. Finishes let_go c' unit (Store g.block) n) bytes (subst (λ b. Finishes let_go c' unit (Store b) (part.range.high - part.range.low)) is.held.block (subst (λ d. Finishes d c' unit (Store part.block) (part.range.high - part.range.low)) rest done)) in
+      let at : EntersDone let_go c' unit (Store g.block) (task_bytes (Moves (part_of_range S q g.block))) =
+      subst (λ n. EntersDone let_go c' unit (Store g.block) n) bytes (subst (λ b. EntersDone let_go c' unit (Store b) (part.range.high - part.range.low)) is.held.block (subst (λ d. EntersDone d c' unit (Store part.block) (part.range.high - part.range.low)) rest done)) in
       let closed = finishes-closed S part.token (Store g.block) q (Moves (part_of_range S q g.block)) let_go can unit c' token (block ∙ is.held.block) at in
       let f = is.sound.fitted in
       let fitted : AreFitted S c' = record {
@@ -143,15 +144,15 @@ module _ {M : Type 0} (device : M → Device) (prepared : M → ℕ → Type 0) 
         };
       }
 
-  module _ (fault : BlockFailed) (c' : Core) (on : OnMedium device prepared drive drive' (λ d d'. IsWrite d part.block c.group.items (Err fault) d')) (fails : Fails mid c' part.token (Store part.block) fault.done) where
+  module _ (fault : BlockFailed) (c' : Core) (on : OnMedium device prepared drive drive' (λ d d'. IsWrite d part.block c.group.items (Err fault) d')) (fails : EntersFault mid c' part.token (Store part.block) fault.done) where
     abbrev e : Entry
     e = Fault part.token (Store g.block) fault.done
 
     abbrev begins : Core
-    begins = entered let_go e 0
+    begins = with_entry let_go e 0
 
     ends : Ends begins c' part.token DeviceError
-    ends = subst (λ b. Ends (entered let_go (Fault part.token (Store b) fault.done) 0) c' part.token DeviceError) is.held.block (subst (λ d. Fails d c' part.token (Store part.block) fault.done) rest fails)
+    ends = subst (λ b. Ends (with_entry let_go (Fault part.token (Store b) fault.done) 0) c' part.token DeviceError) is.held.block (subst (λ d. EntersFault d c' part.token (Store part.block) fault.done) rest fails)
 
     stops : fault.done < per_of S
     stops = stops-before device prepared drive shaped c before part g q is fault.done (device on.before) (size-is device prepared drive shaped c before part g q is on.before on.was_in) on.does.done
@@ -179,7 +180,7 @@ module _ {M : Type 0} (device : M → Device) (prepared : M → ℕ → Type 0) 
         (gates-begun S H e (ending-fault S H part.token (Store g.block) fault.done follows) before c.holders.items (vec_capacity c.holders) is.sound.geometry told legal is.sound.facts.gates is.sound.holders))
 
     room-now : RoomSoFar S (e ∷ H) (mark_of S H) 1 begins
-    unfolding entered owed_entries
+    unfolding with_entry owed_entries
     room-now =
         let owed = owed-before S H e (ending-fault S H part.token (Store g.block) fault.done follows) in
         let media = media-same S H e refl refl in
@@ -190,7 +191,7 @@ module _ {M : Type 0} (device : M → Device) (prepared : M → ℕ → Type 0) 
         record { owes = omega arith; places = omega arith; few = omega arith }
 
     after-closed : AreClosed S (e ∷ H) c'
-    unfolding entered
+    unfolding with_entry
     after-closed =
         let ending = ending-fault S H part.token (Store g.block) fault.done follows in
         let closing = begun S H e ending base begins 1 before-closed refl refl refl gates-now room-now in
@@ -199,7 +200,7 @@ module _ {M : Type 0} (device : M → Device) (prepared : M → ℕ → Type 0) 
         closed-all S (e ∷ H) (pending S H) 0 c' next (units-left S H e ending) (let spare = next.room.places in omega arith)
 
     after-beside : StandsBeside device prepared S (e ∷ H) drive' c'
-    unfolding entered
+    unfolding with_entry
     after-beside =
         let f = is.sound.fitted in
         beside-ends device prepared S (e ∷ H) drive' begins c' part.token DeviceError ends
@@ -208,13 +209,13 @@ module _ {M : Type 0} (device : M → Device) (prepared : M → ℕ → Type 0) 
 
     -- the other gates of the token are revoked
     revoked-now : Revokes (releasing c.gates part.ticket) c'.gates
-    unfolding entered state_of
+    unfolding with_entry state_of
     revoked-now =
         subst (λ s. Revokes s c'.gates) gates_is (subst (Revokes mid.gates) (sym ends.gates) (revokes part.token mid.holders.items mid.gates
         (holders-lent mid.holders.items mid.gates.held released.paired released.rising (λ k h there. (is.sound.facts.gates.each k h (released.gate k h there).0).1.lent))))
 
     kept-now : kept_of c'.tokens ≡ kept_of c.tokens
-    unfolding entered
+    unfolding with_entry
     kept-now = ap kept_of ends.tokens ∙ kept-ended DeviceError c.tokens part.token
 
     -- a store that failed

@@ -1,5 +1,5 @@
 -- A kept copy with the token's bytes put in.
-use Rattle.std.proofs.Common.{◌≡◌, ℕ, ◌+◌, ◌-◌, ◌*◌, ◌<◌, ◌≤◌, true, false, List, ◌++◌, length, take, drop, replicate, None, Some, refl, sym, ◌∙◌, ap, subst, arith}
+use Rattle.std.proofs.Common.{◌≡◌, ℕ, ◌+◌, ◌-◌, ◌*◌, ◌<◌, ◌≤◌, true, false, List, ◌++◌, length, take, drop, replicate, None, Some, sym, ◌∙◌, ap, subst, arith}
 use Rattle.std.specs.Option.{option_map}
 use Rattle.std.proofs.lemmas.List.{length-take, length-drop, length-replicate}
 use Rattle.std.proofs.lemmas.Nat.{mul-le}
@@ -27,7 +27,8 @@ use Rattle.disk_core.specs.State.{setup_of}
 use Rattle.disk_core.specs.Facts.{IsBuffer, buffer_length}
 use Rattle.disk_core.specs.Parts.{kept_from, state_of}
 use Rattle.disk_core.specs.Pieces.{bytes_in}
-use Rattle.disk_core.specs.Calls.{low_in, high_in, expected_of}
+use Rattle.disk_core.specs.Calls.{expected_of}
+use Rattle.history_laws.specs.Ranges.{low_in, high_in}
 use Rattle.disk_core.specs.Moves.{IsDisk}
 use Rattle.disk_core.specs.Storage.{IsHeldPart}
 use Rattle.disk_core.proofs.Kept.{kept-record}

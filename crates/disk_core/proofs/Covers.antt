@@ -39,7 +39,7 @@ use Rattle.disk_core.specs.Pieces.{bytes_in}
 use Rattle.disk_core.specs.Commands.{OnMedium}
 use Rattle.disk_core.specs.Inside.{Tracks, group_low, group_high}
 use Rattle.disk_core.specs.Calls.{StepSays, Fills, command_of}
-use Rattle.disk_core.specs.Moves.{IsDisk, IsFirst, Reaches, HasBytesIn, MayPut, low_of, high_of, blocks_bytes, cover_by, MayEnter, Settles, Finishes, Fails}
+use Rattle.disk_core.specs.Moves.{IsDisk, IsFirst, Reaches, HasBytesIn, MayPut, low_of, high_of, blocks_bytes, cover_by, MayEnter, Settles, EntersDone, EntersFault}
 use Rattle.disk_core.proofs.Commanded.{entry_for, write-era, run-written}
 use Rattle.disk_core.proofs.Finished.{kept-done}
 use Rattle.history_laws.proofs.LeftLemmas.{FinishesTask}
@@ -264,11 +264,11 @@ module _ {M : Type 0} (device : M → Device) (prepared : M → ℕ → Type 0) 
         did-done device prepared drive c sound shaped unit todo first covers r drive' c c' command-is cover.no_fetch cover.no_store refl
         (subst (FinishesTask S H todo.token covers r) (sym task_is) (moving-finishes device prepared drive c sound todo.token _ r u own moving covers of cover.moving)) sound.records (own, moving.there)
         (kept-done S H todo.token covers (kept_of c.tokens) cover.no_get sound.facts.tokens) (cover.fills S H todo.token (kept_of c.tokens)) (follows (Ok x) on)
-        (subst (λ task. Finishes c c' unit covers (task_bytes task)) (sym task_is) (subst (Finishes c c' unit covers) (sym cover-bytes) done))
+        (subst (λ task. EntersDone c c' unit covers (task_bytes task)) (sym task_is) (subst (EntersDone c c' unit covers) (sym cover-bytes) done))
     cover-settled (Err fault) on failed =
         did-failed device prepared drive c sound shaped unit todo first covers fault drive' c c' c.fetched command-is
         (cover.stops S fault.done (stops (device on.before) (device on.after) fault (medium-meets device prepared drive c sound on.before on.was_in).size on.does)) refl
-        (sound.fitted.fetches_are ∙ sym (fetches-same H (Fault todo.token covers fault.done) cover.no_fetch)) (follows (Err fault) on) (subst (λ t. Fails c c' t covers fault.done) token-is failed)
+        (sound.fitted.fetches_are ∙ sym (fetches-same H (Fault todo.token covers fault.done) cover.no_fetch)) (follows (Err fault) on) (subst (λ t. EntersFault c c' t covers fault.done) token-is failed)
 
   pub cover-command : (command : Command) → IfSome (request_at c.tokens (token_of unit)) (λ q. command ≡ cover_by q.asked.kind b n) → command ≡ covers
   cover-command command is = subst (λ o. IfSome o (λ q. command ≡ cover_by q.asked.kind b n)) cover-request is ∙ ap (λ a. cover_by a.kind b n) moving.tracks.asked

@@ -25,10 +25,10 @@ use Rattle.disk_core.specs.declared.ending.Meant.TheVariants.{All}
 use Rattle.disk_core.specs.State.{opening_from, setup_of}
 use Rattle.disk_core.specs.Parts.{state_of}
 use Rattle.disk_core.specs.Inside.{DriveFollows}
-use Rattle.disk_core.specs.Moves.{IsDisk, Reaches, HasPlace, entered, with_spare}
+use Rattle.disk_core.specs.Moves.{IsDisk, Reaches, HasPlace, with_entry, with_spare}
 use Rattle.disk_core.specs.Calls.{EjectSays}
 use Rattle.disk_core.specs.Closing.{HasToEnd, IsToEnd, EndsMeant, RoomSoFar}
-use Rattle.disk_core.proofs.Begun.{owed-before}
+use Rattle.history_laws.proofs.OwedSoFarLemmas.{owed-before}
 use Rattle.history_laws.proofs.QuietLemmas.{IsEnding}
 use Rattle.disk_core.proofs.Endings.{IsOneMore, one-more, more-to-end, all-ended}
 
@@ -43,7 +43,7 @@ module _ {M : Type 0} (device : M → Device) (prepared : M → ℕ → Type 0) 
   Out = record drive { present = false }
 
   abbrev Entered : Core
-  Entered = entered c (Eject tag) 1
+  Entered = with_entry c (Eject tag) 1
 
   present-now : is_present Before ≡ true
   present-now = sym sound.drive_follows.present ∙ in_
@@ -83,7 +83,7 @@ module _ {M : Type 0} (device : M → Device) (prepared : M → ℕ → Type 0) 
   eject-more = one-more c (Eject tag) c.history.spare 1
 
   eject-room : RoomSoFar Begin (Eject tag ∷ Before) (mark_of Begin Before) 0 Entered
-  unfolding entered state_of owed_entries
+  unfolding with_entry state_of owed_entries
   eject-room =
       let owed = owed-before Begin Before (Eject tag) is_ending in
       let falls = media-falls in

@@ -21,7 +21,7 @@ use Rattle.disk_core.specs.declared.ending.Meant.{Meant}
 use Rattle.disk_core.specs.State.{setup_of}
 use Rattle.disk_core.specs.Parts.{kept_of, state_of}
 use Rattle.disk_core.specs.Inside.{DriveFollows, AreReady}
-use Rattle.disk_core.specs.Moves.{IsDisk, entered, with_spare}
+use Rattle.disk_core.specs.Moves.{IsDisk, with_entry, with_spare}
 use Rattle.disk_core.specs.Calls.{EndsBy, Revokes}
 use Rattle.disk_core.specs.Closing.{meant_in, GatesSoFar, RoomSoFar, IsClosing, IsToEnd, HaveEnded}
 use Rattle.disk_core.proofs.Following.{era-still}
@@ -53,8 +53,8 @@ pub record IsOneMore (e : Entry) (c₀ c : Core) : Type 0 where
   pub group : c.group ≡ c₀.group
   pub zeros : c.zeros ≡ c₀.zeros
 
-pub one-more : (c : Core) (e : Entry) (spare paid : ℕ) → IsOneMore e c (entered (with_spare c spare) e paid)
-unfolding entered with_spare
+pub one-more : (c : Core) (e : Entry) (spare paid : ℕ) → IsOneMore e c (with_entry (with_spare c spare) e paid)
+unfolding with_entry with_spare
 one-more c e spare paid = record {
   entries = refl;
   protected_at_first = refl;

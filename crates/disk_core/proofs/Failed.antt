@@ -18,7 +18,7 @@ use Rattle.history.specs.Next.{Failed}
 use Rattle.history.specs.Room.{owed_entries}
 use Rattle.history_laws.specs.Ranges.{AreToldWhole}
 use Rattle.history_laws.proofs.TokenLemmas.{fault-concerns, request-some}
-use Rattle.history_laws.proofs.EndLemmas.{mark-fault, command-open}
+use Rattle.history_laws.proofs.EndLemmas.{mark-fault}
 use Rattle.history_laws.proofs.TokenLemmas.{mark-other}
 use Rattle.history_laws.proofs.RoomLemmas.{open-owed}
 use Rattle.history_laws.proofs.SpareLemmas.{media-same, owed-within}
@@ -27,12 +27,13 @@ use Rattle.block_gate.specs.Gates.{Gates}
 use Rattle.disk_core.specs.declared.parts.Core.{Core}
 use Rattle.disk_core.specs.State.{Kept, setup_of}
 use Rattle.disk_core.specs.Parts.{kept_of, state_of}
-use Rattle.disk_core.specs.Moves.{IsDisk, HasPlace, Ends, Fails, StaysBeside, entered}
+use Rattle.disk_core.specs.Moves.{IsDisk, HasPlace, Ends, EntersFault, StaysBeside, with_entry}
 use Rattle.disk_core.specs.Calls.{Fills, IsCommanded, Makes, Revokes}
 use Rattle.disk_core.specs.Closing.{GatesSoFar, RoomSoFar}
 use Rattle.history_laws.proofs.OwingLemmas.{units-few}
 use Rattle.disk_core.proofs.Links.{StandsBeside, AreClosed, links-disk, disk-closed}
-use Rattle.disk_core.proofs.Begun.{begun, gates-begun, owed-before}
+use Rattle.disk_core.proofs.Begun.{begun, gates-begun}
+use Rattle.history_laws.proofs.OwedSoFarLemmas.{owed-before}
 use Rattle.history_laws.proofs.EndingLemmas.{units-left, fault-open}
 use Rattle.history_laws.proofs.QuietLemmas.{IsEnding}
 use Rattle.disk_core.proofs.Closed.{kept-ended, closing-step, closed-all}
@@ -91,10 +92,10 @@ module _ (S : Setup) (H : List Entry) (t : ℕ) (command : Command) (done : ℕ)
   -- the parts before the entry, beside their gates, which may be others by now
   module _ (c₀ : Core) (closed : AreClosed S H c₀) (n : ℕ) (s : Gates) where
     abbrev pub Entered : Core
-    Entered = entered (record c₀ { fetched = n; gates = s }) (Fault t command done) 0
+    Entered = with_entry (record c₀ { fetched = n; gates = s }) (Fault t command done) 0
 
     fault-room : RoomSoFar S Now (mark_of S H) 1 Entered
-    unfolding entered owed_entries
+    unfolding with_entry owed_entries
     fault-room =
         let owed = owed-before S H (Fault t command done) is_ending in
         let media = media-same S H (Fault t command done) refl refl in
@@ -107,7 +108,7 @@ module _ (S : Setup) (H : List Entry) (t : ℕ) (command : Command) (done : ℕ)
 
     -- all links but those beside
     pub failed-closed : (c' : Core) → GatesSoFar S Now (mark_of S H) s c₀.holders.items (vec_capacity c₀.holders) → Ends Entered c' t DeviceError → AreClosed S Now c'
-    unfolding entered
+    unfolding with_entry
     failed-closed c' gates ends =
         let marked = mark-fault S H t command done (fault-open S H t command done may).unmarked in
         let closing = begun S H (Fault t command done) is_ending c₀ Entered 1 closed (ap (λ h. Fault t command done ∷ h) closed.entries) refl refl gates fault-room in
@@ -135,14 +136,14 @@ module _ {M : Type 0} (device : M → Device) (prepared : M → ℕ → Type 0) 
   -- `c₀` are the parts of the disk before; by now `n` fetches are counted and the gates are `s`
   pub failed-from : IsDisk device prepared drive c₀ → MayFollow Begin c₀.history.entries (Fault t command done)
       → GatesSoFar Begin (Fault t command done ∷ c₀.history.entries) (mark_of Begin c₀.history.entries) s c₀.holders.items (vec_capacity c₀.holders)
-      → StandsBeside device prepared Begin (Fault t command done ∷ c₀.history.entries) drive' (entered (record c₀ { fetched = n; gates = s }) (Fault t command done) 0)
-      → Fails (record c₀ { fetched = n; gates = s }) c' t command done → HasFailed device prepared drive drive' c₀ c' t command done
-  unfolding state_of entered IsLegal
+      → StandsBeside device prepared Begin (Fault t command done ∷ c₀.history.entries) drive' (with_entry (record c₀ { fetched = n; gates = s }) (Fault t command done) 0)
+      → EntersFault (record c₀ { fetched = n; gates = s }) c' t command done → HasFailed device prepared drive drive' c₀ c' t command done
+  unfolding state_of with_entry IsLegal
   failed-from sound may gates beside fails =
       let S = Begin in
       let H = c₀.history.entries in
       let closed = failed-closed S H t command done may c₀ (disk-closed device prepared drive c₀ sound) n s c' gates fails in
-      let after = beside-ends device prepared S (Fault t command done ∷ H) drive' (entered (record c₀ { fetched = n; gates = s }) (Fault t command done) 0) c' t DeviceError fails beside in
+      let after = beside-ends device prepared S (Fault t command done ∷ H) drive' (with_entry (record c₀ { fetched = n; gates = s }) (Fault t command done) 0) c' t DeviceError fails beside in
       record {
         sound = links-disk device prepared drive' c' S (Fault t command done ∷ H) closed after;
         makes = λ commanded. record {
@@ -157,8 +158,8 @@ module _ {M : Type 0} (device : M → Device) (prepared : M → ℕ → Type 0) 
 -- the gates before the command are those of the disk
 pub failed-sound : {M : Type 0} (device : M → Device) (prepared : M → ℕ → Type 0) (drive drive' : DriveState M) (c₀ c' : Core) (t : ℕ) (command : Command) (done n : ℕ)
     → AreToldWhole (setup_of device drive c₀.protected_at_first) → IsDisk device prepared drive c₀ → MayFollow (setup_of device drive c₀.protected_at_first) c₀.history.entries (Fault t command done)
-    → StandsBeside device prepared (setup_of device drive c₀.protected_at_first) (Fault t command done ∷ c₀.history.entries) drive' (entered (record c₀ { fetched = n }) (Fault t command done) 0)
-    → Fails (record c₀ { fetched = n }) c' t command done → HasFailed device prepared drive drive' c₀ c' t command done
+    → StandsBeside device prepared (setup_of device drive c₀.protected_at_first) (Fault t command done ∷ c₀.history.entries) drive' (with_entry (record c₀ { fetched = n }) (Fault t command done) 0)
+    → EntersFault (record c₀ { fetched = n }) c' t command done → HasFailed device prepared drive drive' c₀ c' t command done
 unfolding state_of
 failed-sound device prepared drive drive' c₀ c' t command done n whole sound may beside fails =
     failed-from device prepared drive drive' c₀ c' t command done n c₀.gates sound may
@@ -167,8 +168,8 @@ failed-sound device prepared drive drive' c₀ c' t command done n whole sound m
 
 -- the gates of the token are revoked: those of a disk are all lent
 pub failed-revokes : {M : Type 0} (device : M → Device) (prepared : M → ℕ → Type 0) (drive : DriveState M) (c₀ c' : Core) (t : ℕ) (command : Command) (done n : ℕ) → IsDisk device prepared drive c₀
-    → Fails (record c₀ { fetched = n }) c' t command done → Revokes c₀.gates c'.gates
-unfolding state_of entered
+    → EntersFault (record c₀ { fetched = n }) c' t command done → Revokes c₀.gates c'.gates
+unfolding state_of with_entry
 failed-revokes device prepared drive c₀ c' t command done n sound fails =
     subst (Revokes c₀.gates) (sym fails.gates) (revokes t c₀.holders.items c₀.gates
     (holders-lent c₀.holders.items c₀.gates.held sound.holders.paired sound.holders.rising (λ k g there. (sound.facts.gates.each k g there).1.lent)))

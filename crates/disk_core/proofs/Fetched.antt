@@ -39,8 +39,9 @@ use Rattle.index_links.specs.Lists.{is_among}
 use Rattle.disk_core.specs.Pieces.{bytes_in}
 use Rattle.disk_core.specs.Commands.{OnMedium, OfMedium}
 use Rattle.disk_core.specs.Inside.{AreFitted}
-use Rattle.disk_core.specs.Calls.{StepSays, IsWork, LendsFirst, Makes, command_of, low_in, high_in}
-use Rattle.disk_core.specs.Moves.{IsDisk, IsFirst, Reaches, HasPlace, HasBytesIn, MayName, MayHold, MayLend, low_of, high_of, blocks_bytes, lent_of, Fails}
+use Rattle.disk_core.specs.Calls.{StepSays, IsWork, LendsFirst, Makes, command_of}
+use Rattle.history_laws.specs.Ranges.{low_in, high_in}
+use Rattle.disk_core.specs.Moves.{IsDisk, IsFirst, Reaches, HasPlace, HasBytesIn, MayName, MayHold, MayLend, low_of, high_of, blocks_bytes, lent_of, EntersFault}
 use Rattle.disk_core.proofs.Commanded.{entry_for, read-era}
 use Rattle.disk_core.proofs.Covers.{bytes-same}
 use Rattle.history_laws.proofs.BytesLemmas.{between-long}
@@ -270,12 +271,12 @@ module _ {M : Type 0} (device : M → Device) (prepared : M → ℕ → Type 0) 
         (λ d d' does. record { command = does.command; era = λ meets. read-era S H todo.token d d' few-entries meets (Fetch b) b result was group refl refl does }) on
 
     -- the read failed
-    pub fetch-failed : (mid c' : Core) (fault : BlockFailed) → length mid.group.items ≡ length c.group.items → OnMedium device prepared drive drive' (λ d d'. IsRead d b (Err fault) d' was group) → Fails (record c { fetched = c.fetched + 1; group = mid.group }) c' t (Fetch b) fault.done
+    pub fetch-failed : (mid c' : Core) (fault : BlockFailed) → length mid.group.items ≡ length c.group.items → OnMedium device prepared drive drive' (λ d d'. IsRead d b (Err fault) d' was group) → EntersFault (record c { fetched = c.fetched + 1; group = mid.group }) c' t (Fetch b) fault.done
         → Reaches device prepared drive c drive' c' (λ s s'. StepSays s Did s')
     fetch-failed mid c' fault long on failed =
         did-failed device prepared drive c sound shaped unit todo first (Fetch b) fault drive' mid c' (c.fetched + 1) command-is on.does.done long
         (ap (λ k. k + 1) sound.fitted.fetches_are ∙ sym (fetches-more H (Fault todo.token (Fetch b) fault.done) refl)) (follows (Err fault) on)
-        (subst (λ k. Fails (record c { fetched = c.fetched + 1; group = mid.group }) c' k (Fetch b) fault.done) token-is failed)
+        (subst (λ k. EntersFault (record c { fetched = c.fetched + 1; group = mid.group }) c' k (Fetch b) fault.done) token-is failed)
 
     told-now : (x : Unit {0}) → OnMedium device prepared drive drive' (λ d d'. IsRead d b (Ok x) d' was group) → AreToldAt (contents S (media_id_of H) H) (b * size_of S) group
     told-now x on =

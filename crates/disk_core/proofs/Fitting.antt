@@ -8,11 +8,10 @@ use Rattle.disk_split.specs.declared.geometry.Geometry.{Geometry}
 use Rattle.history.specs.declared.entry.View.{View}
 use Rattle.history.specs.declared.entry.Kind.{Kind}
 use Rattle.history.specs.declared.entry.Kind.TheVariants.{Read, Write, Flush, Erase}
-use Rattle.history.specs.declared.entry.UnitKind.{UnitKind}
 use Rattle.history.specs.declared.entry.Asked.{Asked}
 use Rattle.history.specs.Setup.{Setup}
 use Rattle.history.specs.Tokens.{in_bytes, is_flush, changes_bytes}
-use Rattle.history.specs.Rules.{refusal_of, IsAsked, IsWellAsked}
+use Rattle.history.specs.Rules.{refusal_of, IsWellAsked}
 use Rattle.history_laws.proofs.MediaLemmas.{IsAdmitted, admitted, range-inside}
 use Rattle.disk_core.specs.declared.parts.Core.{Core}
 use Rattle.disk_core.specs.State.{setup_of}

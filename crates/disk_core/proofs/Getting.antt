@@ -36,7 +36,7 @@ use Rattle.disk_core.specs.Commands.{OnMedium, OfMedium}
 use Rattle.byte_lists.specs.Patching.{patch}
 use Rattle.disk_core.specs.Inside.{RecordsFollow}
 use Rattle.disk_core.specs.Calls.{StepSays, Fills, command_of}
-use Rattle.disk_core.specs.Moves.{IsDisk, IsFirst, Reaches, HasPlace, HasBytesIn, IsTarget, IsGot, GetsInto, put_into, Finishes, Fails, MayEnter, Settles}
+use Rattle.disk_core.specs.Moves.{IsDisk, IsFirst, Reaches, HasPlace, HasBytesIn, IsTarget, IsGot, GetsInto, with_bytes_in, EntersDone, EntersFault, MayEnter, Settles}
 use Rattle.disk_core.proofs.Buffered.{records-put, kept-put, kept-got}
 use Rattle.disk_core.proofs.Commanded.{entry_for, quiet-era, no-flush}
 use Rattle.history_laws.proofs.LeftLemmas.{FinishesTask}
@@ -148,7 +148,7 @@ module _ {M : Type 0} (device : M → Device) (prepared : M → ℕ → Type 0) 
         subst (λ told. AreToldAt told u.low piece) (medium-meets device prepared drive c sound on.before on.was_in).now (subst (λ n. AreToldAt (device on.before).now n piece) at on.does.given)
 
     -- the bytes were read
-    pub get-done : (x : Unit {0}) → GetsInto device prepared drive drive' c mid (token_of unit) target.range.low target.place target.count (Ok x) → Finishes mid c' unit get target.count → Reaches device prepared drive c drive' c' (λ s s'. StepSays s Did s')
+    pub get-done : (x : Unit {0}) → GetsInto device prepared drive drive' c mid (token_of unit) target.range.low target.place target.count (Ok x) → EntersDone mid c' unit get target.count → Reaches device prepared drive c drive' c' (λ s s'. StepSays s Did s')
     unfolding state_of
     get-done x gets done =
         let t = todo.token in
@@ -156,8 +156,8 @@ module _ {M : Type 0} (device : M → Device) (prepared : M → ℕ → Type 0) 
         let at = u.low - from_of S r in
         let counted : length piece ≡ u.high - u.low = gets.long ∙ goes.count in
         let told = told-now target.range.low piece x gets.on goes.low in
-        let tokens : mid.tokens ≡ changed (put_into at piece) c.tokens t =
-        gets.tokens ∙ ap (λ n. changed (put_into n piece) c.tokens (token_of unit)) goes.place ∙ ap (changed (put_into at piece) c.tokens) token-is in
+        let tokens : mid.tokens ≡ changed (with_bytes_in at piece) c.tokens t =
+        gets.tokens ∙ ap (λ n. changed (with_bytes_in n piece) c.tokens (token_of unit)) goes.place ∙ ap (changed (with_bytes_in at piece) c.tokens) token-is in
         let was = kept_from own in
         let there : kept_at (kept_of c.tokens) t ≡ Some was = kept-record c.tokens t ∙ ap (option_map kept_from) moving.there in
         let seen : kept_of mid.tokens ≡ slice_set (kept_of c.tokens) t (Some (record was { buffer = patch own.request.buffer at piece })) = ap kept_of tokens ∙ kept-put t at piece c.tokens own moving.there in
@@ -181,25 +181,25 @@ module _ {M : Type 0} (device : M → Device) (prepared : M → ℕ → Type 0) 
         did-done device prepared drive c sound shaped unit todo first get r drive' mid c' command-is refl refl gets.group
         (subst (FinishesTask S H t get r) (sym task_is) (moving-finishes device prepared drive c sound t place r u own moving get of refl))
         (subst (RecordsFollow S H) (sym tokens) (records-put S H t at piece c.tokens sound.records))
-        (put_into at piece own, ap (λ ts. record_at ts t) tokens ∙ changed-at (put_into at piece) c.tokens t ∙ ap (option_map (put_into at piece)) moving.there)
+        (with_bytes_in at piece own, ap (λ ts. record_at ts t) tokens ∙ changed-at (with_bytes_in at piece) c.tokens t ∙ ap (option_map (with_bytes_in at piece)) moving.there)
         kept fills (follows (Ok x) target.range.low piece gets.on)
-        (subst (λ v. Finishes v c' unit get (task_bytes todo.task)) gets.core (subst (λ task. Finishes mid c' unit get (task_bytes task)) (sym task_is) (subst (Finishes mid c' unit get) goes.count done)))
+        (subst (λ v. EntersDone v c' unit get (task_bytes todo.task)) gets.core (subst (λ task. EntersDone mid c' unit get (task_bytes task)) (sym task_is) (subst (EntersDone mid c' unit get) goes.count done)))
 
     -- the read failed
-    pub get-failed : (fault : BlockFailed) → GetsInto device prepared drive drive' c mid (token_of unit) target.range.low target.place target.count (Err fault) → Fails mid c' (token_of unit) get fault.done → Reaches device prepared drive c drive' c' (λ s s'. StepSays s Did s')
+    pub get-failed : (fault : BlockFailed) → GetsInto device prepared drive drive' c mid (token_of unit) target.range.low target.place target.count (Err fault) → EntersFault mid c' (token_of unit) get fault.done → Reaches device prepared drive c drive' c' (λ s s'. StepSays s Did s')
     get-failed fault gets failed =
         let same : mid ≡ record c { group = mid.group } = gets.core ∙ ap (λ ts. record c { tokens = ts; group = mid.group }) gets.left in
         did-failed device prepared drive c sound shaped unit todo first get fault drive' mid c' c.fetched command-is gets.on.does.done gets.group
         (sound.fitted.fetches_are ∙ sym (fetches-same H (Fault todo.token get fault.done) refl)) (follows (Err fault) target.range.low gets.piece gets.on)
-        (subst (λ v. Fails v c' todo.token get fault.done) same (subst (λ t. Fails mid c' t get fault.done) token-is failed))
+        (subst (λ v. EntersFault v c' todo.token get fault.done) same (subst (λ t. EntersFault mid c' t get fault.done) token-is failed))
 
-    mark-put : (at : ℕ) (piece : List ℕ) (t : ℕ) → record_at c.tokens t ≡ Some own → mark_at (changed (put_into at piece) c.tokens t) t ≡ mark_at c.tokens t
-    unfolding mark_at put_into
-    mark-put at piece t there = ap mark_of_record (changed-at (put_into at piece) c.tokens t ∙ ap (option_map (put_into at piece)) there) ∙ sym (ap mark_of_record there)
+    mark-put : (at : ℕ) (piece : List ℕ) (t : ℕ) → record_at c.tokens t ≡ Some own → mark_at (changed (with_bytes_in at piece) c.tokens t) t ≡ mark_at c.tokens t
+    unfolding mark_at with_bytes_in
+    mark-put at piece t there = ap mark_of_record (changed-at (with_bytes_in at piece) c.tokens t ∙ ap (option_map (with_bytes_in at piece)) there) ∙ sym (ap mark_of_record there)
 
-    left-put : (at : ℕ) (piece : List ℕ) (t : ℕ) → record_at c.tokens t ≡ Some own → option_map (λ q. q.left) (request_at (changed (put_into at piece) c.tokens t) t) ≡ option_map (λ q. q.left) (request_at c.tokens t)
-    unfolding request_at put_into
-    left-put at piece t there = ap (λ o. option_map (λ q. q.left) (option_map (λ x. x.request) o)) (changed-at (put_into at piece) c.tokens t ∙ ap (option_map (put_into at piece)) there) ∙ sym (ap (λ o. option_map (λ q. q.left) (option_map (λ x. x.request) o)) there)
+    left-put : (at : ℕ) (piece : List ℕ) (t : ℕ) → record_at c.tokens t ≡ Some own → option_map (λ q. q.left) (request_at (changed (with_bytes_in at piece) c.tokens t) t) ≡ option_map (λ q. q.left) (request_at c.tokens t)
+    unfolding request_at with_bytes_in
+    left-put at piece t there = ap (λ o. option_map (λ q. q.left) (option_map (λ x. x.request) o)) (changed-at (with_bytes_in at piece) c.tokens t ∙ ap (option_map (with_bytes_in at piece)) there) ∙ sym (ap (λ o. option_map (λ q. q.left) (option_map (λ x. x.request) o)) there)
 
     by-left : (o p : Option Asked) (n : ℕ) → option_map (λ q. q.left) o ≡ option_map (λ q. q.left) p → IfSome p (λ q. n ≤ q.left) → IfSome o (λ q. n ≤ q.left)
     by-left None p n same few = tt

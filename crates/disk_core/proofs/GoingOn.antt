@@ -1,16 +1,14 @@
 -- Each call lets a disk go on, and what goes on twice goes on.
-use Rattle.std.proofs.Common.{◌≡◌, ℕ, zero, suc, ◌+◌, ◌-◌, ◌*◌, ◌<◌, ◌≤◌, min, max, inl, inr, true, false, List, [], ◌∷◌, ◌++◌, length, slice_get, Option, None, Some, Ok, Err, refl, sym, ◌∙◌, ap, subst, arith}
-use Rattle.std.proofs.lemmas.Bool.{cases_eq, cases_lt, eq-eqb, le-leb, ltb-false, or_parts, true≢false}
+use Rattle.std.proofs.Common.{◌≡◌, ℕ, zero, suc, ◌+◌, ◌-◌, ◌*◌, ◌<◌, ◌≤◌, max, inl, inr, true, false, List, [], ◌∷◌, ◌++◌, length, slice_get, Option, None, Some, Ok, Err, refl, sym, ◌∙◌, ap, subst, arith}
+use Rattle.std.proofs.lemmas.Bool.{cases_eq, eq-eqb, or_parts, true≢false}
 use Rattle.std.proofs.lemmas.List.{append_assoc}
 use Rattle.std.proofs.lemmas.Option.{same_Some}
 use Rattle.byte_lists.specs.Patching.{patch}
-use Rattle.byte_lists.proofs.Patches.{patch-before, patch-behind}
 use Rattle.byte_lists.proofs.Patched.{length-patch}
 use Rattle.history.specs.declared.entry.Command.{Command}
 use Rattle.history.specs.declared.entry.Command.TheVariants.{Fetch, Store, Put, Get, Wipe, Sync}
 use Rattle.history.specs.declared.entry.Entry.{Entry}
 use Rattle.history.specs.declared.entry.Entry.TheVariants.{Accept, Done, Collect}
-use Rattle.history.specs.Setup.{Setup, size_of}
 use Rattle.history.specs.Tokens.{Request, accepted, request, was_collected, from_of, until_of}
 use Rattle.history.specs.Commands.{lies_in, moves, is_moved}
 use Rattle.history.specs.Next.{Outcome, Made, Failed, entry_of}

@@ -16,7 +16,7 @@ use Rattle.token_table.specs.declared.record.Request.{Request}
 use Rattle.token_table.specs.Records.{Records, record_at, request_at, changed, fill_record}
 use Rattle.disk_core.specs.declared.parts.Core.{Core}
 use Rattle.disk_core.specs.Commands.{OnMedium, OfMedium}
-use Rattle.disk_core.specs.Moves.{IsGot, GetsInto, put_into}
+use Rattle.disk_core.specs.Moves.{IsGot, GetsInto, with_bytes_in}
 
 -- a change is seen at its own record alone
 changed-alike : (f g : Record → Record) (records : Records) (t : ℕ) → ((r : Record) → record_at records t ≡ Some r → f r ≡ g r) → changed f records t ≡ changed g records t
@@ -76,8 +76,8 @@ module _ (place count : ℕ) (buffer now : List ℕ) (long : length now ≡ coun
   written-same : now ≡ take count (drop place buffer) → written ≡ buffer
   written-same same = ap (λ part. take place buffer ++ (part ++ drop count (drop place buffer))) same ∙ ap (λ rest. take place buffer ++ rest) (take-append-drop count (drop place buffer)) ∙ take-append-drop place buffer
 
-  filled-is : (r : Record) → r.request.buffer ≡ buffer → fill_record r written ≡ put_into place now r
-  unfolding fill_record put_into
+  filled-is : (r : Record) → r.request.buffer ≡ buffer → fill_record r written ≡ with_bytes_in place now r
+  unfolding fill_record with_bytes_in
   filled-is r own = λ i. record r { request = record r.request { buffer = (refill-same r.request.buffer written (written-long ∙ ap length (sym own)) ∙ written-patch ∙ ap (λ b. patch b place now) (sym own)) i } }
 
   filled-same : (r : Record) → r.request.buffer ≡ buffer → now ≡ take count (drop place buffer) → fill_record r written ≡ r
@@ -100,9 +100,9 @@ module _ (c : Core) (token place count : ℕ) (now buffer whole : List ℕ) (lon
   whole-is : whole ≡ take place buffer ++ (now ++ drop count (drop place buffer))
   whole-is = is ∙ ap (λ n. take place buffer ++ (now ++ drop n (drop place buffer))) (omega arith)
 
-  pub whole-tokens : changed (λ r. fill_record r whole) c.tokens token ≡ changed (put_into place now) c.tokens token
+  pub whole-tokens : changed (λ r. fill_record r whole) c.tokens token ≡ changed (with_bytes_in place now) c.tokens token
   whole-tokens = ap (λ w. changed (λ r. fill_record r w) c.tokens token) whole-is
-      ∙ changed-alike (λ r. fill_record r (written place count buffer now long fits)) (put_into place now) c.tokens token (λ r there. filled-is place count buffer now long fits r (buffer-is c.tokens token buffer r lent there))
+      ∙ changed-alike (λ r. fill_record r (written place count buffer now long fits)) (with_bytes_in place now) c.tokens token (λ r there. filled-is place count buffer now long fits r (buffer-is c.tokens token buffer r lent there))
 
   pub whole-still : now ≡ take count (drop place buffer) → changed (λ r. fill_record r whole) c.tokens token ≡ c.tokens
   whole-still same = ap (λ w. changed (λ r. fill_record r w) c.tokens token) whole-is
@@ -164,7 +164,7 @@ part-told (Some bytes) at skip count group inside are = by (take count (drop ski
 -- a group was read, and a part of it copied
 pub group-gets : {M : Type 0} (device : M → Device) (prepared : M → ℕ → Type 0) (drive drive' : DriveState M) (c mid c' : Core) (token block size low place count : ℕ) (was now : List ℕ) (x : Unit {0})
     → OnMedium device prepared drive drive' (λ d d'. IsRead d block (Ok x) d' was now) → OfMedium drive (λ m. size ≡ (device m).size) → block * size ≤ low → low + count ≤ block * size + length now → length now ≡ length c.group.items
-    → mid.group.items ≡ now → c' ≡ record c { tokens = changed (put_into place (take count (drop (low - block * size) mid.group.items))) c.tokens token; group = mid.group }
+    → mid.group.items ≡ now → c' ≡ record c { tokens = changed (with_bytes_in place (take count (drop (low - block * size) mid.group.items))) c.tokens token; group = mid.group }
     → GetsInto device prepared drive drive' c c' token low place count (Ok x)
 group-gets device prepared drive drive' c mid c' token block size low place count was now x on sized begins ends long items is = record {
   piece = take count (drop (low - block * size) mid.group.items);

@@ -28,9 +28,10 @@ use Rattle.disk_core.specs.Facts.{buffer_length}
 use Rattle.disk_core.specs.Parts.{kept_from, kept_of, state_of}
 use Rattle.disk_core.specs.Inside.{group_low, group_high}
 use Rattle.disk_core.specs.Calls.{Accepts}
-use Rattle.disk_core.specs.Admission.{IsRoom, IsTouched, accepting, accepted_request, ended_empty, kept_with, start_at, payload_of, left_at_first, cost_by, parts_count}
+use Rattle.history_laws.specs.Costs.{left_at_first, cost_by, cost_of}
+use Rattle.disk_core.specs.Admission.{IsRoom, IsTouched, after_accept, accepted_request, after_empty_end, after_keep, start_at, payload_of, parts_count}
 use Rattle.disk_core.specs.Moves.{IsDisk, Reaches}
-use Rattle.disk_core.proofs.HistoryAccepted.{mark-new, owed-new}
+use Rattle.history_laws.proofs.AcceptLemmas.{mark-new, owed-new}
 use Rattle.disk_core.proofs.Keeping.{changed-last}
 use Rattle.disk_core.proofs.Accepted.{IsNew, accept-sound, kept-added, length-kept}
 use Rattle.history_laws.proofs.AcceptedLemmas.{legal-accept}
@@ -109,13 +110,13 @@ module _ {M : Type 0} (device : M → Device) (prepared : M → ℕ → Type 0) 
 
   -- what is kept with it, where something is left and where not
   kept-open : nat_eq (left_at_first asked.kind asked.length) 0 ≡ false
-      → kept_with c tag view asked room buffer ≡ accepting c entry room.owed (c.tokens ++ Some fresh ∷ []) (c.queue ++ subs_of_request c.blocks c.accepted asked.kind room.parts)
-  unfolding kept_with ended_empty added
+      → after_keep c tag view asked room buffer ≡ after_accept c entry room.owed (c.tokens ++ Some fresh ∷ []) (c.queue ++ subs_of_request c.blocks c.accepted asked.kind room.parts)
+  unfolding after_keep after_empty_end added
   kept-open left = rw left refl
 
   kept-ended : nat_eq (left_at_first asked.kind asked.length) 0 ≡ true
-      → kept_with c tag view asked room buffer ≡ accepting c entry (room.owed - 1) (c.tokens ++ Some (ended_record Success fresh) ∷ []) (c.queue ++ subs_of_request c.blocks c.accepted asked.kind room.parts)
-  unfolding kept_with ended_empty added accepting
+      → after_keep c tag view asked room buffer ≡ after_accept c entry (room.owed - 1) (c.tokens ++ Some (ended_record Success fresh) ∷ []) (c.queue ++ subs_of_request c.blocks c.accepted asked.kind room.parts)
+  unfolding after_keep after_empty_end added after_accept
   kept-ended left =
       let one : c.owed + room.owed - 1 ≡ c.owed + (room.owed - 1) = (let some = fits.owed in omega arith) in
       rw left (λ i. record c {
@@ -134,8 +135,8 @@ module _ {M : Type 0} (device : M → Device) (prepared : M → ℕ → Type 0) 
       → owed_entries S (entry ∷ c.history.entries) ≤ owed_entries S c.history.entries + owed → c.owed + owed + 1 ≤ c.history.spare
       → (changes_bytes asked.kind ≡ true → mark_of S (entry ∷ c.history.entries) (accepted c.history.entries) ≡ None → 0 < asked.length)
       → token.number ≡ c.accepted → token.event ≡ room.event
-      → Reaches device prepared drive c drive (accepting c entry owed (c.tokens ++ Some r ∷ []) (c.queue ++ subs_of_request c.blocks c.accepted asked.kind room.parts)) (Says token)
-  unfolding state_of accepting
+      → Reaches device prepared drive c drive (after_accept c entry owed (c.tokens ++ Some r ∷ []) (c.queue ++ subs_of_request c.blocks c.accepted asked.kind room.parts)) (Says token)
+  unfolding state_of after_accept
   granted r owed token is same_word more enough some number event = record {
     sound = accept-sound device prepared drive c sound tag view asked room.bytes lawful may r buffer owed room.parts is parts-are long written more enough (λ changes open_ m there b low high. ready changes (some changes open_) m there b (touched b low high));
     says = record {
@@ -156,15 +157,20 @@ module _ {M : Type 0} (device : M → Device) (prepared : M → ℕ → Type 0) 
       kept-is : kept_from r ≡ record { buffer = buffer; word = token.event.word }
       kept-is = λ i. record { buffer = is.kept i; word = (same_word ∙ sym fits.word ∙ sym (ap (λ e. e.word) event)) i }
 
-  pub accept-reaches : (token : Token) → token.number ≡ c.accepted → token.event ≡ room.event → Reaches device prepared drive c drive (kept_with c tag view asked room buffer) (Says token)
+  pub accept-reaches : (token : Token) → token.number ≡ c.accepted → token.event ≡ room.event → Reaches device prepared drive c drive (after_keep c tag view asked room buffer) (Says token)
   unfolding new_record ended_record
   accept-reaches token number event = by (nat_eq (left_at_first asked.kind asked.length) 0) refl
     where
       marked : (b : Bool) → nat_eq (left_at_first asked.kind asked.length) 0 ≡ b → mark_of S (entry ∷ c.history.entries) (accepted c.history.entries) ≡ status_if b Success
       marked b left = mark-new S c.history.entries tag view asked room.bytes sound.geometry lawful ∙ ap (λ x. status_if x Success) left
 
-      owed-is : room.owed ≡ cost_by asked.kind (parts_count room.parts) ((room.parts.whole * S.geometry.per + 63) / 64) + 2
-      owed-is = fits.owed ∙ ap (λ (G : Geometry). cost_by asked.kind (parts_count room.parts) ((room.parts.whole * G.per + 63) / 64) + 2) sound.fitted.blocks
+      asking : Request
+      asking = record { tag = tag; view = view; asked = asked; bytes = room.bytes }
+
+      owed-is : room.owed ≡ cost_of S asking + 2
+      owed-is =
+          fits.owed ∙ ap (λ (G : Geometry). cost_by asked.kind (parts_count room.parts) ((room.parts.whole * G.per + 63) / 64) + 2) sound.fitted.blocks
+          ∙ rw (parts-are.under, parts-are.over, parts-are.count) refl
 
       clash : Some Success ≡ None → ⊥
       clash e = cc
@@ -173,9 +179,9 @@ module _ {M : Type 0} (device : M → Device) (prepared : M → ℕ → Type 0) 
       more b left =
           subst (λ x. owed_entries S (entry ∷ c.history.entries) ≤ owed_entries S c.history.entries + (if x then 1 else room.owed)) left
           (subst (λ n. owed_entries S (entry ∷ c.history.entries) ≤ owed_entries S c.history.entries + (if nat_eq (left_at_first asked.kind asked.length) 0 then 1 else n)) (sym owed-is)
-          (owed-new S c.history.entries tag view asked room.bytes sound.geometry lawful room.parts parts-are))
+          (owed-new S c.history.entries tag view asked room.bytes sound.geometry lawful))
 
-      by : (b : Bool) → nat_eq (left_at_first asked.kind asked.length) 0 ≡ b → Reaches device prepared drive c drive (kept_with c tag view asked room buffer) (Says token)
+      by : (b : Bool) → nat_eq (left_at_first asked.kind asked.length) 0 ≡ b → Reaches device prepared drive c drive (after_keep c tag view asked room buffer) (Says token)
       by true left =
           subst (λ d. Reaches device prepared drive c drive d (Says token)) (sym (kept-ended left))
           (granted (ended_record Success fresh) (room.owed - 1) token (record-ended (marked true left)) refl (let most = more true left in let some = fits.owed in omega arith) (let some = fits.owed in omega arith) (λ changes open_. absurd (clash (sym (marked true left) ∙ open_))) number event)

@@ -19,10 +19,10 @@ use Rattle.disk_core.specs.declared.ending.Meant.TheVariants.{Changes}
 use Rattle.disk_core.specs.State.{setup_of}
 use Rattle.disk_core.specs.Parts.{state_of}
 use Rattle.disk_core.specs.Inside.{DriveFollows}
-use Rattle.disk_core.specs.Moves.{IsDisk, Reaches, entered, with_spare}
+use Rattle.disk_core.specs.Moves.{IsDisk, Reaches, with_entry, with_spare}
 use Rattle.disk_core.specs.Calls.{ProtectSays}
 use Rattle.disk_core.specs.Closing.{IsClosing, HasToEnd, IsToEnd, HaveEnded, EndsChanges, RoomSoFar}
-use Rattle.disk_core.proofs.Begun.{owed-before}
+use Rattle.history_laws.proofs.OwedSoFarLemmas.{owed-before}
 use Rattle.history_laws.proofs.QuietLemmas.{IsEnding}
 use Rattle.disk_core.proofs.Endings.{IsOneMore, one-more, more-closing, more-to-end, all-ended}
 use Rattle.history_laws.proofs.EndedLemmas.{ended-no}
@@ -39,7 +39,7 @@ module _ {M : Type 0} (device : M → Device) (prepared : M → ℕ → Type 0) 
   Guarded = record drive { protected = on }
 
   abbrev Entered : Core
-  Entered = entered (with_spare c spare) (Protect tag on) 0
+  Entered = with_entry (with_spare c spare) (Protect tag on) 0
 
   is_ending : IsEnding Begin Before (Protect tag on)
   unfolding MayFollow
@@ -56,7 +56,7 @@ module _ {M : Type 0} (device : M → Device) (prepared : M → ℕ → Type 0) 
   protect-more = one-more c (Protect tag on) spare 0
 
   protect-room : RoomSoFar Begin (Protect tag on ∷ Before) (mark_of Begin Before) 0 Entered
-  unfolding entered with_spare state_of owed_entries
+  unfolding with_entry with_spare state_of owed_entries
   protect-room =
       let owed = owed-before Begin Before (Protect tag on) is_ending in
       let media = media-same Begin Before (Protect tag on) refl refl in

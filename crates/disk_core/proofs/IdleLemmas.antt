@@ -89,6 +89,17 @@ collect-keeps old tag number (Ok done) new (q, was, collects) = record { setup =
 collect-keeps old tag number (Err not_there.Outstanding) new (there, open_, same) = record { setup = ap (λ s. s.setup) same; gates = ap (λ s. s.gates) same }
 collect-keeps old tag number (Err not_there.Unknown) new (unknown, same) = record { setup = ap (λ s. s.setup) same; gates = ap (λ s. s.gates) same }
 
+-- the gates of two calls, one after the other
+pub keeps-same : (s : State) → KeepsGates s s
+keeps-same s = record { setup = refl; gates = refl }
+
+pub keeps-on : (old mid new : State) → KeepsGates old mid → KeepsGates mid new → KeepsGates old new
+keeps-on old mid new first then = record { setup = then.setup ∙ first.setup; gates = then.gates ∙ first.gates }
+
+-- they are idle after a call as before it
+pub idle-on : (old new : State) → KeepsGates old new → IsIdle old.gates → IsIdle new.gates
+idle-on old new keeps idle = subst IsIdle (sym keeps.gates) idle
+
 -- the gate of a block that was fetched, whose work is out
 abbrev pub gate_for : ℕ → ℕ → Bool → List ℕ → Gate
 gate_for b k out copy = record { ticket = k; block = b; out = out; copy = copy }

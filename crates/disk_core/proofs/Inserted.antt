@@ -13,9 +13,8 @@ use Rattle.history.specs.declared.entry.Entry.TheVariants.{Insert}
 use Rattle.history.specs.Setup.{Setup, IsSetup, size_of}
 use Rattle.history.specs.Eras.{is_present}
 use Rattle.history.specs.Tokens.{Request}
-use Rattle.history.specs.Marks.{HoldsBy}
+use Rattle.history.specs.Marks.{mark_of}
 use Rattle.history.specs.Rules.{MayFollow, IsLegal}
-use Rattle.history_laws.proofs.TokenLemmas.{request-same}
 use Rattle.history_laws.proofs.CountLemmas.{accepted-same, fetches-same, inserts-more}
 use Rattle.history_laws.proofs.EraLemmas.{protected-same}
 use Rattle.history_laws.proofs.PendingLemmas.{pending-insert}
@@ -28,14 +27,15 @@ use Rattle.disk_core.specs.Facts.{GatesFollow, KeptFollow}
 use Rattle.disk_core.specs.Parts.{state_of, kept_of}
 use Rattle.disk_core.specs.Inside.{DriveFollows, HoldersFollow, HasRoom}
 use Rattle.disk_core.specs.Calls.{InsertSays}
-use Rattle.disk_core.specs.Moves.{IsDisk, Reaches, HasPlace, entered}
+use Rattle.disk_core.specs.Moves.{IsDisk, Reaches, HasPlace, with_entry}
 use Rattle.disk_core.specs.State.{Kept}
 use Rattle.disk_core.specs.Inside.{Tracks}
 use Rattle.token_table.specs.declared.record.Record.{Record}
 use Rattle.history.specs.Room.{owed_entries}
 use Rattle.history_laws.proofs.TokenLemmas.{collected-same}
 use Rattle.disk_core.proofs.Following.{era-still}
-use Rattle.disk_core.proofs.Still.{buffer-kept}
+use Rattle.disk_core.proofs.Over.{holders-over, tracks-over, kept-over}
+use Rattle.history_laws.proofs.QuietLemmas.{read-same}
 use Rattle.history_laws.proofs.LeftLemmas.{left-done}
 use Rattle.history_laws.proofs.EndedLemmas.{absent-open, mark-insert, open-insert, present-again, unheld, unheld-now}
 
@@ -49,34 +49,16 @@ module _ (S : Setup) (H : List Entry) (tag k : ℕ) (setup : IsSetup S) (legal :
   }
 
   holders-insert : (gates : Gates) (holders : List Holder) (places : ℕ) → HoldersFollow S H gates holders places → HoldersFollow S (Insert tag k ∷ H) gates holders places
-  holders-insert gates holders places follow = record {
-    each = λ j t b holds. absurd ((unheld-now S H tag k setup legal out) t b j holds);
-    only = λ j t there. absurd (let h = follow.only j t there in (unheld S H tag k setup legal out) t h.0 j h.1);
-    apart = follow.apart;
-    paired = follow.paired;
-    rising = follow.rising;
-    fits = follow.fits;
-  }
+  holders-insert gates holders places = holders-over S H (Insert tag k ∷ H) gates holders places (λ t b j holds. absurd (unheld-now S H tag k setup legal out t b j holds)) (λ t b j holds. absurd (unheld S H tag k setup legal out t b j holds))
 
   tracks-insert : (t : ℕ) (r : Record) (q : Request) → Tracks S H t r q → Tracks S (Insert tag k ∷ H) t r q
-  tracks-insert t r q is = record {
-    named = request-same H (Insert tag k) t refl ∙ is.named;
-    viewed = is.viewed;
-    asked = is.asked;
-    begins = is.begins;
-    mark = mark-insert S H tag k t ∙ is.mark;
-    left = λ unended. is.left unended ∙ sym (left-done S H (Insert tag k) t q refl);
-  }
+  tracks-insert t r q = tracks-over S H (Insert tag k) t r q (mark_of S H) (mark_of S (Insert tag k ∷ H)) (mark-insert S H tag k t) (left-done S H (Insert tag k) t q refl)
 
   kept-insert : (kept : List (Option Kept)) → KeptFollow S H kept → KeptFollow S (Insert tag k ∷ H) kept
-  kept-insert kept follow = record {
-    counted = follow.counted ∙ sym (accepted-same H (Insert tag k) refl);
-    there = λ t j is. (let old = follow.there t j is in (collected-same H (Insert tag k) t refl ∙ old.0, (old.1.0, buffer-kept S H (Insert tag k) t old.1.0 j.buffer refl old.1.1)));
-    gone = λ t lt none. collected-same H (Insert tag k) t refl ∙ follow.gone t (subst (λ n. t < n) (accepted-same H (Insert tag k) refl) lt) none;
-  }
+  kept-insert kept = kept-over S H (Insert tag k) kept (accepted-same H (Insert tag k) refl) (λ t. collected-same H (Insert tag k) t refl) (λ t x. read-same S H (Insert tag k) t x refl)
 
-  room-insert : (c : Core) → c.history.entries ≡ H → MayFollow S H (Insert tag k) → HasRoom S c → HasRoom S (entered c (Insert tag k) 1)
-  unfolding entered
+  room-insert : (c : Core) → c.history.entries ≡ H → MayFollow S H (Insert tag k) → HasRoom S c → HasRoom S (with_entry c (Insert tag k) 1)
+  unfolding with_entry
   room-insert c is may room =
       let less : owed_entries S (Insert tag k ∷ c.history.entries) + 1 ≤ owed_entries S c.history.entries = subst (λ h. owed_entries S (Insert tag k ∷ h) + 1 ≤ owed_entries S h) (sym is) (entries-insert S H tag k may) in
       let owed = room.owed in let places = room.places in let few = room.few in
@@ -100,8 +82,8 @@ module _ {M : Type 0} (device : M → Device) (prepared : M → ℕ → Type 0) 
   unfolding MayFollow setup_of
   insert-may = (absent, next ∙ ap (λ n. n + 1) sound.drive_follows.media_id, (let many = length-map drive.media (λ m. opening_from (device m)) in omega arith))
 
-  pub insert-sound : IsDisk device prepared (record drive { present = true; media_id = k }) (entered c (Insert tag k) 1)
-  unfolding state_of setup_of entered IsLegal
+  pub insert-sound : IsDisk device prepared (record drive { present = true; media_id = k }) (with_entry c (Insert tag k) 1)
+  unfolding state_of setup_of with_entry IsLegal
   insert-sound =
       let S = setup_of device drive c.protected_at_first in
       let H = c.history.entries in
@@ -139,8 +121,8 @@ module _ {M : Type 0} (device : M → Device) (prepared : M → ℕ → Type 0) 
       let owed = sound.room.owed in let places = sound.room.places in
       (omega arith, omega arith)
 
-  pub insert-reaches : Reaches device prepared drive c (record drive { present = true; media_id = k }) (entered c (Insert tag k) 1) (λ s s'. InsertSays s tag (Ok k) s')
-  unfolding state_of setup_of entered IsLegal InsertSays MayFollow
+  pub insert-reaches : Reaches device prepared drive c (record drive { present = true; media_id = k }) (with_entry c (Insert tag k) 1) (λ s s'. InsertSays s tag (Ok k) s')
+  unfolding state_of setup_of with_entry IsLegal InsertSays MayFollow
   insert-reaches = record {
     sound = insert-sound;
     says = record {
@@ -210,7 +192,7 @@ insert-refuses device prepared drive c tag NoSpare sound is =
     record { sound = sound; says = (sym sound.drive_follows.present ∙ none.0, (let few = none.1 in omega arith), refl) }
 
 pub insert-ok : {M : Type 0} (device : M → Device) (prepared : M → ℕ → Type 0) (drive : DriveState M) (c : Core) (tag k : ℕ) (drive' : DriveState M) (c' : Core) → IsDisk device prepared drive c → Ok k ≡ insertion drive
-    → drive' ≡ record drive { present = true; media_id = k } → c' ≡ entered c (Insert tag k) 1 → Reaches device prepared drive c drive' c' (λ s s'. InsertSays s tag (Ok k) s')
+    → drive' ≡ record drive { present = true; media_id = k } → c' ≡ with_entry c (Insert tag k) 1 → Reaches device prepared drive c drive' c' (λ s s'. InsertSays s tag (Ok k) s')
 insert-ok device prepared drive c tag k drive' c' sound is drive_is core_is =
     let next = insertion-next drive k is in
     subst (λ d. Reaches device prepared drive c d c' (λ s s'. InsertSays s tag (Ok k) s')) (sym drive_is)

@@ -1,7 +1,5 @@
 -- The gates and holders through an entry that lets go of one gate: a store, or a fault of its token.
-use Rattle.std.proofs.Common.{◌≡◌, ◌≢◌, ℕ, ◌<◌, inl, inr, false, ◌&&◌, List, ◌∷◌, None, Some, refl, sym, ◌∙◌, subst, arith}
-use Rattle.std.specs.Prelude.{nat_eq}
-use Rattle.std.proofs.lemmas.Bool.{cases_eq, ne_eqb, and_parts, eqb-true, false_from_ne_true}
+use Rattle.std.proofs.Common.{◌≡◌, ℕ, ◌<◌, inl, inr, List, ◌∷◌, None, Some, refl, sym, ◌∙◌, subst, arith}
 use Rattle.efi_status.specs.declared.Status.TheVariants.{DeviceError}
 use Rattle.block_gate.specs.Gates.{Gates, AreSound}
 use Rattle.history.specs.declared.entry.Command.{Command}
@@ -9,24 +7,20 @@ use Rattle.history.specs.declared.entry.Command.TheVariants.{Fetch, Store}
 use Rattle.history.specs.declared.entry.Entry.{Entry}
 use Rattle.history.specs.declared.entry.Entry.TheVariants.{Done, Fault}
 use Rattle.history.specs.Setup.{Setup, IsSetup}
-use Rattle.history.specs.Commands.{is_store, is_at}
-use Rattle.history.specs.Marks.{mark_of, ticket_of, Holds, HoldsBy}
+use Rattle.history.specs.Marks.{mark_of, Holds, HoldsBy}
 use Rattle.history.specs.Rules.{MayCommand, MayFollow, IsLegal}
-use Rattle.history_laws.specs.Gates.{is_store_of}
 use Rattle.history_laws.specs.Ranges.{AreToldWhole}
 use Rattle.history_laws.proofs.CountLemmas.{fetches-same}
 use Rattle.history_laws.proofs.EndLemmas.{mark-fault}
-use Rattle.history_laws.proofs.TokenLemmas.{mark-other, done-concerns}
 use Rattle.history_laws.proofs.HolderLemmas.{store-frees}
 use Rattle.history_laws.proofs.TicketLemmas.{holds-by-one, holds-by-before, holds-by-stays}
 use Rattle.disk_core.specs.declared.parts.Holder.{Holder}
 use Rattle.disk_core.specs.Facts.{GatesFollow}
 use Rattle.disk_core.specs.Closing.{GatesSoFar}
 use Rattle.disk_core.specs.Inside.{HoldersFollow}
-use Rattle.history_laws.proofs.HoldingLemmas.{held-open}
 use Rattle.disk_core.proofs.Released.{IsReleased}
 use Rattle.disk_core.proofs.Untouched.{gate-stays}
-use Rattle.history_laws.proofs.StoreLemmas.{follows, no-fetch, other-goes, was-holder}
+use Rattle.history_laws.proofs.StoreLemmas.{follows, other-goes, was-holder}
 
 module _ (S : Setup) (H : List Entry) (t b k : ℕ) (setup : IsSetup S) (told : AreToldWhole S) (legal : IsLegal S H) (may : MayCommand S H t (Store b)) (holds : HoldsBy S H t b k)
     (before : Gates) (holders : List Holder) (s : Gates) (left : List Holder) (is : IsReleased k before holders s left) (sound : AreSound before) where

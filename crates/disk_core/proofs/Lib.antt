@@ -24,14 +24,12 @@ pub mod Fresh
 mod Gotten
 mod Granted
 mod Grouped
-mod HistoryAccepted
 mod Guarded
 mod Found
 mod Gated
 mod Getting
 mod Halted
-mod HistoryCopies
-mod HistoryStored
+mod Told
 mod Holders
 mod Inserted
 mod Keeping
@@ -72,3 +70,4 @@ pub mod AtOnceLemmas
 pub mod IdleLemmas
 mod Wrote
 pub mod GoingOn
+mod Over

@@ -28,11 +28,11 @@ use Rattle.disk_core.specs.declared.parts.Core.{Core}
 use Rattle.disk_core.specs.declared.parts.Holder.{Holder}
 use Rattle.disk_core.specs.Facts.{KeptFollow, GatesFollow}
 use Rattle.disk_core.specs.Parts.{kept_of}
-use Rattle.disk_core.specs.Inside.{RecordsFollow, HoldersFollow, HasRoom}
-use Rattle.disk_core.specs.Closing.{RecordsSoFar}
-use Rattle.disk_core.specs.Moves.{entered, finished, left_in, revoked, revoked_one, Ends, EndsIf, Finishes}
+use Rattle.disk_core.specs.Inside.{RecordsFollow, HoldersFollow, HasRoom, RecordsBy}
+use Rattle.disk_core.specs.Moves.{with_entry, after_finish, left_in, without_gates_of, without_gate_of, Ends, EndsIf, EntersDone}
 use Rattle.disk_core.proofs.Kept.{kept-changed}
-use Rattle.disk_core.proofs.Finished.{kept-lowered, kept-ended, records-lowered, records-follow, records-ended}
+use Rattle.disk_core.proofs.Finished.{kept-lowered, kept-ended, records-lowered}
+use Rattle.disk_core.proofs.Over.{records-follow, records-step}
 use Rattle.history_laws.proofs.LeftLemmas.{FinishesTask, mark-finished}
 use Rattle.disk_core.proofs.Links.{AreClosed}
 use Rattle.disk_core.proofs.Revoked.{holder-at}
@@ -49,7 +49,7 @@ pub record IsLastUnit (S : Setup) (marks : ℕ → Option Status) (t : ℕ) (c :
   pub alike : (u : ℕ) → t ≢ u → marks u ≡ mark_of S c.history.entries u
   pub tokens : KeptFollow S c.history.entries (kept_of c.tokens)
   pub gates : GatesFollow S c.history.entries c.gates
-  pub records : RecordsSoFar S c.history.entries marks c.tokens
+  pub records : RecordsBy S c.history.entries marks c.tokens
   pub queue : c.queue ≡ map (sub_of (size_of S)) (pending S c.history.entries)
   pub holders : HoldersFollow S c.history.entries c.gates c.holders.items (vec_capacity c.holders)
   pub owed : owed_entries S c.history.entries + 1 ≤ c.owed
@@ -62,8 +62,8 @@ no-end status m some none = clash (sym some ∙ none)
     clash : Some status ≡ None → ⊥
     clash e = cc
 
-revoked-none : (token : ℕ) (holders : List Holder) (s : Gates) → ((i : ℕ) (h : Holder) → slice_get holders i ≡ Some h → nat_eq token h.token ≡ false) → revoked token holders s ≡ s
-unfolding revoked revoked_one
+revoked-none : (token : ℕ) (holders : List Holder) (s : Gates) → ((i : ℕ) (h : Holder) → slice_get holders i ≡ Some h → nat_eq token h.token ≡ false) → without_gates_of token holders s ≡ s
+unfolding without_gates_of without_gate_of
 revoked-none token [] s none = refl
 revoked-none token (h ∷ holders) s none = rw (none 0 h refl) (revoked-none token holders s (λ i y at. none (suc i) y at))
 
@@ -111,7 +111,7 @@ module _ (S : Setup) (marks : ℕ → Option Status) (t : ℕ) (c c' : Core) (la
         legal = last.legal;
         tokens = subst (KeptFollow S H) (sym (ap kept_of ends.tokens ∙ kept-changed (ended_record Success) (kept-ended Success) c.tokens t)) last.tokens;
         gates = subst (GatesFollow S H) (sym last-gates) last.gates;
-        records = subst (RecordsFollow S H) (sym ends.tokens) (records-ended S H marks t Success c.tokens last.ended last.alike last.records);
+        records = subst (RecordsFollow S H) (sym ends.tokens) (records-step S H marks (mark_of S H) c.tokens t Success last.ended (λ u other. sym (last.alike u (λ same. other (sym same)))) last.records);
         queue = last-queue ∙ last.queue;
         holders = subst (λ g. HoldersFollow S H g c'.holders.items (vec_capacity c'.holders)) (sym last-gates)
             (subst (λ hs. HoldersFollow S H c.gates hs (vec_capacity c'.holders)) (sym last-holders)
@@ -130,13 +130,13 @@ pub record StaysFitted (c c' : Core) : Type 0 where
 
 -- the parts with the entry on top and without the unit
 abbrev done_core : Core → ℕ → ℕ → Command → ℕ → Core
-done_core c t block command bytes = record (entered c (Done t command) 1) {
+done_core c t block command bytes = record (with_entry c (Done t command) 1) {
   queue = without_first (is_unit t block) c.queue;
   tokens = changed (lower_record bytes) c.tokens t;
 }
 
-finished-is : (c : Core) (unit : Sub) (command : Command) (bytes : ℕ) → finished c unit command bytes ≡ done_core c (token_of unit) (block_of unit) command bytes
-unfolding finished
+finished-is : (c : Core) (unit : Sub) (command : Command) (bytes : ℕ) → after_finish c unit command bytes ≡ done_core c (token_of unit) (block_of unit) command bytes
+unfolding after_finish
 finished-is c unit command bytes = refl
 
 -- a done command may finish its unit: gates, holders and buffers follow with it, and the rest does before it
@@ -191,22 +191,22 @@ module _ (S : Setup) (t : ℕ) (command : Command) (r : Request) (task : Task) (
   now = done_core c t (task_block task) command (task_bytes task)
 
   queue-now : now.queue ≡ map (sub_of (size_of S)) (pending S H')
-  unfolding now entered
+  unfolding now with_entry
   queue-now = ap (without_first (is_unit t (task_block task))) is.queue ∙ sym (queue-finished S c.history.entries t command r task is.geometry legal-now open-now is.finishes)
 
   kept-now : kept_of now.tokens ≡ kept_of c.tokens
-  unfolding now entered
+  unfolding now with_entry
   kept-now = kept-changed (lower_record (task_bytes task)) (kept-lowered (task_bytes task)) c.tokens t
 
-  records-now : RecordsSoFar S H' (mark_of S c.history.entries) now.tokens
-  unfolding now entered
+  records-now : RecordsBy S H' (mark_of S c.history.entries) now.tokens
+  unfolding now with_entry
   records-now = records-lowered S c.history.entries t command r task c.tokens is.geometry is.finishes open-now.unmarked is.records
 
   alike-now : (u : ℕ) → t ≢ u → mark_of S c.history.entries u ≡ mark_of S H' u
   alike-now u other = sym (mark-other S c.history.entries (Done t command) u (done-concerns c.history.entries t u command other))
 
   last-now : mark_of S H' t ≡ Some Success → IsLastUnit S (mark_of S c.history.entries) t now
-  unfolding now entered
+  unfolding now with_entry
   last-now ended =
       let less = entries-done-end S c.history.entries t command Success is.geometry is.before is.may ended in
       let one = entries-done S c.history.entries t command is.geometry is.before is.may in
@@ -227,7 +227,7 @@ module _ (S : Setup) (t : ℕ) (command : Command) (r : Request) (task : Task) (
       }
 
   open-closed : mark_of S H' t ≡ None → AreClosed S H' now
-  unfolding now entered
+  unfolding now with_entry
   open-closed goes =
       let one = entries-done S c.history.entries t command is.geometry is.before is.may in
       let owed = is.room.owed in let places = is.room.places in let few = is.room.few in
@@ -237,7 +237,7 @@ module _ (S : Setup) (t : ℕ) (command : Command) (r : Request) (task : Task) (
         legal = legal-now;
         tokens = subst (KeptFollow S H') (sym kept-now) is.tokens;
         gates = is.gates;
-        records = records-follow S H' (mark_of S c.history.entries) now.tokens (λ u. elim (cases_eq t u) [
+        records = records-follow S H' (mark_of S c.history.entries) (mark_of S H') now.tokens (λ u. elim (cases_eq t u) [
           | inl same ↦ subst (λ v. mark_of S c.history.entries v ≡ mark_of S H' v) same (open-now.unmarked ∙ sym goes)
           | inr other ↦ alike-now u other
         ]) records-now;
@@ -247,11 +247,11 @@ module _ (S : Setup) (t : ℕ) (command : Command) (r : Request) (task : Task) (
       }
 
   stays-now : StaysFitted c now
-  unfolding now entered
+  unfolding now with_entry
   stays-now = record { protected_at_first = refl; blocks = refl; accepted = refl; fetched = refl; group = refl; zeros = refl }
 
   closes : (c' : Core) (b : Bool) → nat_eq (left_in (request_at c.tokens t)) (task_bytes task) ≡ b → EndsIf b now c' t → HasClosed c'
-  unfolding now entered
+  unfolding now with_entry
   closes c' true all ends =
       let ended : mark_of S H' t ≡ Some Success = mark-now ∙ ap (λ v. status_if v Success) all in
       let last = last-now ended in
@@ -273,7 +273,7 @@ module _ (S : Setup) (t : ℕ) (command : Command) (r : Request) (task : Task) (
       subst HasClosed (sym same) (record { closed = open-closed goes; gates = refl; tokens = kept-now; rest = stays-now })
 
   -- a done command that finished its unit, and ended its token where that was the last one
-  pub finishes-closed : (unit : Sub) (c' : Core) → token_of unit ≡ t → block_of unit ≡ task_block task → Finishes c c' unit command (task_bytes task) → HasClosed c'
+  pub finishes-closed : (unit : Sub) (c' : Core) → token_of unit ≡ t → block_of unit ≡ task_block task → EntersDone c c' unit command (task_bytes task) → HasClosed c'
   unfolding now
   finishes-closed unit c' token block done =
       let bytes = task_bytes task in

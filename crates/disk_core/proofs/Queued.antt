@@ -7,7 +7,7 @@ use Rattle.history.specs.Tasks.{Task, Moves, Syncs, Todo}
 use Rattle.history_laws.proofs.CountLemmas.{count-more, count-same}
 use Rattle.history_laws.proofs.PendingLemmas.{filter-everything, filter-alike}
 use Rattle.subtask_queue.specs.Subs.{token_of, is_of, sub_of, without_token}
-use Rattle.disk_core.proofs.Revoked.{filter-mapped, filter-twice}
+use Rattle.history_laws.proofs.FilterLemmas.{filter-mapped, filter-twice}
 
 pub sub-token : (size : ℕ) (todo : Todo) → token_of (sub_of size todo) ≡ todo.token
 sub-token size todo = by todo.task

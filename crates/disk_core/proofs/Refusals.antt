@@ -19,7 +19,7 @@ use Rattle.disk_core.specs.State.{Kept, setup_of}
 use Rattle.disk_core.specs.Facts.{KeptFollow}
 use Rattle.disk_core.specs.Parts.{kept_of, state_of}
 use Rattle.disk_core.specs.Calls.{Refuses}
-use Rattle.disk_core.specs.Moves.{IsDisk, Reaches, entered, with_spare}
+use Rattle.disk_core.specs.Moves.{IsDisk, Reaches, with_entry, with_spare}
 use Rattle.disk_core.proofs.Following.{era-still}
 use Rattle.disk_core.proofs.Still.{gates-still, holders-still, drive-still, ready-still, tracks-still, buffer-still}
 use Rattle.history_laws.proofs.StillLemmas.{accepted-still, fetches-still}
@@ -70,8 +70,8 @@ module _ {M : Type 0} (device : M → Device) (prepared : M → ℕ → Type 0) 
       }
 
   pub refuse-reaches : (buffer : List ℕ) → c.owed + 1 ≤ c.history.spare
-      → Reaches device prepared drive c drive (entered c (Refuse tag view asked media_id status) 0) (λ s s'. Refuses s tag view media_id asked status buffer buffer s')
-  unfolding state_of entered IsLegal MayFollow
+      → Reaches device prepared drive c drive (with_entry c (Refuse tag view asked media_id status) 0) (λ s s'. Refuses s tag view media_id asked status buffer buffer s')
+  unfolding state_of with_entry IsLegal MayFollow
   refuse-reaches buffer places =
       let S = setup_of device drive c.protected_at_first in
       let H = c.history.entries in
@@ -108,9 +108,9 @@ module _ {M : Type 0} (device : M → Device) (prepared : M → ℕ → Type 0) 
 
 pub refuse-done : {M : Type 0} (device : M → Device) (prepared : M → ℕ → Type 0) (drive : DriveState M) (c : Core) → IsDisk device prepared drive c → (tag : ℕ) (view : View) (asked : Asked) (media_id : ℕ) (status : Status)
     → refusal_of (setup_of device drive c.protected_at_first) c.history.entries view asked media_id ≡ Some status → IsWellAsked asked → (spare : ℕ) → c.owed + 1 ≤ spare → length c.history.entries + spare < 2 ^ 63 → (buffer : List ℕ) (mid new : Core)
-    → mid ≡ with_spare c spare → new ≡ entered mid (Refuse tag view asked media_id status) 0 → Reaches device prepared drive c drive new (λ s s'. Refuses s tag view media_id asked status buffer buffer s')
-unfolding state_of with_spare entered
+    → mid ≡ with_spare c spare → new ≡ with_entry mid (Refuse tag view asked media_id status) 0 → Reaches device prepared drive c drive new (λ s s'. Refuses s tag view media_id asked status buffer buffer s')
+unfolding state_of with_spare with_entry
 refuse-done device prepared drive c sound tag view asked media_id status refused well spare places few buffer mid new mid_is new_is =
     let e = Refuse tag view asked media_id status in
     let reaches = refuse-reaches device prepared drive (with_spare c spare) (spare-sound device prepared drive c spare sound (omega arith) few) tag view asked media_id status refused well buffer places in
-    subst (λ d. Reaches device prepared drive c drive d (λ s s'. Refuses s tag view media_id asked status buffer buffer s')) (sym (new_is ∙ ap (λ d. entered d e 0) mid_is)) (record { sound = reaches.sound; says = reaches.says })
+    subst (λ d. Reaches device prepared drive c drive d (λ s s'. Refuses s tag view media_id asked status buffer buffer s')) (sym (new_is ∙ ap (λ d. with_entry d e 0) mid_is)) (record { sound = reaches.sound; says = reaches.says })

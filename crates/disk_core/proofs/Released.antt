@@ -1,7 +1,7 @@
 -- The gates and holders without those of one ticket, whose work may have come back before.
-use Rattle.std.proofs.Common.{◌≡◌, ◌≢◌, ℕ, zero, suc, ◌+◌, ◌<◌, ◌≤◌, ◌⊎◌, inl, inr, Bool, true, false, not, List, [], ◌∷◌, ◌++◌, length, map, take, drop, slice_get, get_or, Option, None, Some, eqb, refl, sym, ◌∙◌, ap, subst, arith}
+use Rattle.std.proofs.Common.{◌≡◌, ◌≢◌, ℕ, zero, suc, ◌+◌, ◌<◌, ◌≤◌, ◌⊎◌, inl, inr, Bool, true, false, not, List, [], ◌∷◌, ◌++◌, length, map, take, drop, slice_get, get_or, Option, None, Some, refl, sym, ◌∙◌, ap, subst, arith}
 use Rattle.std.specs.Prelude.{filter, position, nat_eq, cond, if◌then◌else◌}
-use Rattle.std.specs.List.{find, position_from}
+use Rattle.std.specs.List.{position_from}
 use Rattle.std.proofs.lemmas.List.Quantifiers.{position-Some}
 use Rattle.std.proofs.lemmas.Iterator.Adapters.{position_from-zero}
 use Rattle.std.proofs.lemmas.Bool.{cases_Bool, cases_eq, or_cases, or_left, or_right, eqb-true, eq-eqb, ne_eqb, true≢false}
@@ -9,13 +9,16 @@ use Rattle.index_links.specs.Lists.{is_among, without}
 use Rattle.history_laws.specs.Pending.{Ordered}
 use Rattle.history_laws.proofs.OrderLemmas.{ordered-filter}
 use Rattle.history_laws.proofs.PendingLemmas.{filter-everything}
+use Rattle.block_gate.proofs.GatesLemmas.{gate-turned, gate-turned-other}
+use Rattle.std.specs.Option.{option_map}
 use Rattle.block_gate.specs.Gates.{Gate, Gates, gate_of, is_lent, is_out, taking, releasing, turned, AreSound}
 use Rattle.disk_core.specs.declared.parts.Holder.{Holder}
 use Rattle.disk_core.specs.Parts.{holder_of}
 use Rattle.disk_core.specs.Inside.{IsEarlier}
 use Rattle.disk_core.specs.Moves.{without_at, without_ticket_of}
 use Rattle.disk_core.proofs.Late.{without-among, without-less}
-use Rattle.disk_core.proofs.Revoked.{HaveLost, lose-held, left-gate, gate-left, filter-mapped, turned-long, turned-tickets}
+use Rattle.disk_core.proofs.Revoked.{HaveLost, lose-held, left-gate, gate-left, turned-long, turned-tickets}
+use Rattle.history_laws.proofs.FilterLemmas.{filter-mapped}
 
 -- ---- the gates from which a work came back, or not
 
@@ -30,36 +33,15 @@ pub record IsSameBut (k : ℕ) (before lent : Gates) : Type 0 where
 same-all : (k : ℕ) (s : Gates) (g : Gate) → gate_of s.held k ≡ Some g → IsSameBut k s s
 same-all k s g there = record { size = refl; alike = λ j other. refl; there = (g, there); tickets = refl; within = λ j out. out; fits = omega arith }
 
-turned-other : (k j : ℕ) (out : Bool) (held : List Gate) → k ≢ j → gate_of (turned k out held) j ≡ gate_of held j
-unfolding gate_of turned
-turned-other k j out [] other = refl
-turned-other k j out (g ∷ held) other = elim (cases_Bool (eqb k g.ticket)) [
-  | inl same ↦
-      let here : k ≡ g.ticket = eqb-true k g.ticket same in
-      let apart : eqb j g.ticket ≡ false = ne_eqb j g.ticket (λ e. other (here ∙ sym e)) in
-      rw (same, apart) (turned-other k j out held other)
-  | inr kept ↦ rw kept (rest (eqb j g.ticket) (turned-other k j out held other))
-]
-  where
-    rest : (b : Bool) → find (λ h. eqb j h.ticket) (map (λ h. cond (eqb k h.ticket) (record h { out = out }) h) held) ≡ find (λ h. eqb j h.ticket) held
-        → cond b (Some g) (find (λ h. eqb j h.ticket) (map (λ h. cond (eqb k h.ticket) (record h { out = out }) h) held)) ≡ cond b (Some g) (find (λ h. eqb j h.ticket) held)
-    rest true same = refl
-    rest false same = same
-
 turned-there : (k : ℕ) (out : Bool) (held : List Gate) (g : Gate) → gate_of held k ≡ Some g → (h : Gate) × (gate_of (turned k out held) k ≡ Some h) × (h.out ≡ out)
-unfolding gate_of turned
-turned-there k out [] g there = cc
-turned-there k out (h ∷ held) g there = elim (cases_Bool (eqb k h.ticket)) [
-  | inl same ↦ (record h { out = out }, rw (same, same) refl, refl)
-  | inr other ↦ (let rest = turned-there k out held g (rw other at there) in (rest.0, rw (other, other) rest.1, rest.2))
-]
+turned-there k out held g there = (record g { out = out }, gate-turned held k out ∙ ap (option_map (λ (h : Gate). record h { out = out })) there, refl)
 
 taken-within : (k : ℕ) (s : Gates) (g : Gate) → gate_of s.held k ≡ Some g → (j : ℕ) → is_out (record { size = s.size; held = turned k false s.held; gone = without k s.gone; free = s.free }) j ≡ true → is_out s j ≡ true
 unfolding is_out is_lent
 taken-within k s g there j out = elim (or_cases (is_among (without k s.gone) j) (is_lent (gate_of (turned k false s.held) j)) out) [
   | inl gone ↦ or_left (is_among s.gone j) (is_lent (gate_of s.held j)) (without-among k j s.gone gone)
   | inr lent ↦ elim (cases_eq k j) [
-    | inr other ↦ or_right (is_among s.gone j) (is_lent (gate_of s.held j)) (sym (ap is_lent (turned-other k j false s.held other)) ∙ lent)
+    | inr other ↦ or_right (is_among s.gone j) (is_lent (gate_of s.held j)) (sym (ap is_lent (gate-turned-other s.held k j false other)) ∙ lent)
     | inl same ↦
         let now = turned-there k false s.held g there in
         absurd (true≢false (sym lent ∙ (ap (λ n. is_lent (gate_of (turned k false s.held) n)) (sym same) ∙ ap is_lent now.1 ∙ now.2)))
@@ -78,7 +60,7 @@ same-taken k s g sound there = by (is_among s.gone k) refl
     by true gone = absurd (none-some (sound.one_ticket k gone) there)
     by false held = record {
       size = refl;
-      alike = λ j other. turned-other k j false s.held other;
+      alike = λ j other. gate-turned-other s.held k j false other;
       there = (let now = turned-there k false s.held g there in (now.0, now.1));
       tickets = turned-tickets k false s.held;
       within = taken-within k s g there;

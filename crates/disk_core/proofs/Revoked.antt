@@ -4,7 +4,9 @@ use Rattle.std.specs.Prelude.{filter, if◌then◌else◌}
 use Rattle.std.specs.List.{list_any, find}
 use Rattle.std.specs.Option.{option_map}
 use Rattle.std.proofs.lemmas.List.{length-append, length-map}
-use Rattle.std.proofs.lemmas.Bool.{cases_Bool, cases_eq, eq-eqb, ne_eqb, eqb-true, or_left, or_right, or_cases, and_from, and_parts, both_ways, false_from_ne_true}
+use Rattle.std.proofs.lemmas.Bool.{cases_Bool, cases_eq, eq-eqb, ne_eqb, eqb-true, or_left, or_right, or_cases, and_from, and_parts, both_ways, false_from_ne_true, false≢true}
+use Rattle.index_links.proofs.LinkedListsLemmas.{among-append, among-last}
+use Rattle.history_laws.proofs.FilterLemmas.{filter-twice, filter-mapped, filter-less}
 use Rattle.index_links.specs.Lists.{is_among}
 use Rattle.block_gate.specs.Gates.{Gate, Gates, gate_of, is_out, is_lent, releasing, without_ticket, AreSound, turned}
 use Rattle.block_gate.proofs.GatesLemmas.{gate-without, gate-without-other}
@@ -13,51 +15,16 @@ use Rattle.history_laws.proofs.PendingLemmas.{filter-everything, filter-alike}
 use Rattle.disk_core.specs.declared.parts.Holder.{Holder}
 use Rattle.disk_core.specs.Parts.{holder_of}
 use Rattle.disk_core.specs.Inside.{IsEarlier}
-use Rattle.disk_core.specs.Moves.{revoking, revoked, revoked_one, others}
+use Rattle.disk_core.specs.Moves.{without_gate, without_gates_of, without_gate_of, others}
 
--- ---- lists
-
-pub filter-twice : {X : Type 0} (p q : X → Bool) (xs : List X) → filter p (filter q xs) ≡ filter (λ x. q x && p x) xs
-filter-twice p q [] = refl
-filter-twice p q (x ∷ xs) = elim (cases_Bool (q x)) [
-  | inl kept ↦ rw kept (elim (cases_Bool (p x)) [ inl also ↦ rw also (ap (λ ys. x ∷ ys) (filter-twice p q xs)) | inr isnt ↦ rw isnt (filter-twice p q xs) ])
-  | inr dropped ↦ rw dropped (filter-twice p q xs)
-]
-
-pub filter-mapped : {X Y : Type 0} (p : Y → Bool) (f : X → Y) (xs : List X) → filter p (map f xs) ≡ map f (filter (λ x. p (f x)) xs)
-filter-mapped p f [] = refl
-filter-mapped p f (x ∷ xs) = elim (cases_Bool (p (f x))) [
-  | inl kept ↦ rw kept (ap (λ ys. f x ∷ ys) (filter-mapped p f xs))
-  | inr dropped ↦ rw dropped (filter-mapped p f xs)
-]
-
-filter-less : {X : Type 0} (p : X → Bool) (xs : List X) → length (filter p xs) ≤ length xs
-filter-less p [] = omega arith
-filter-less p (x ∷ xs) = elim (cases_Bool (p x)) [
-  | inl kept ↦ rw kept (let rest = filter-less p xs in omega arith)
-  | inr dropped ↦ rw dropped (let rest = filter-less p xs in omega arith)
-]
+-- ---- a ticket more
 
 among-added : (xs : List ℕ) (k j : ℕ) → is_among (xs ++ k ∷ []) j ≡ true → (is_among xs j ≡ true) ⊎ (j ≡ k)
 unfolding is_among
-among-added [] k j is = elim (or_cases (nat_eq j k) false is) [ inl same ↦ inr (eqb-true j k same) | inr never ↦ inl never ]
-among-added (x ∷ xs) k j is = elim (or_cases (nat_eq j x) (list_any (nat_eq j) (xs ++ k ∷ [])) is) [
-  | inl here ↦ inl (or_left (nat_eq j x) (list_any (nat_eq j) xs) here)
-  | inr later ↦ elim (among-added xs k j later) [ inl among ↦ inl (or_right (nat_eq j x) (list_any (nat_eq j) xs) among) | inr same ↦ inr same ]
+among-added xs k j is = elim (or_cases (is_among xs j) (is_among (k ∷ []) j) (sym (among-append xs (k ∷ []) j) ∙ is)) [
+  | inl among ↦ inl among
+  | inr last ↦ elim (or_cases (nat_eq j k) false last) [ inl same ↦ inr (eqb-true j k same) | inr never ↦ absurd (false≢true never) ]
 ]
-
-among-stays : (xs : List ℕ) (k j : ℕ) → is_among xs j ≡ true → is_among (xs ++ k ∷ []) j ≡ true
-unfolding is_among
-among-stays [] k j is = cc
-among-stays (x ∷ xs) k j is = elim (or_cases (nat_eq j x) (list_any (nat_eq j) xs) is) [
-  | inl here ↦ or_left (nat_eq j x) (list_any (nat_eq j) (xs ++ k ∷ [])) here
-  | inr later ↦ or_right (nat_eq j x) (list_any (nat_eq j) (xs ++ k ∷ [])) (among-stays xs k j later)
-]
-
-among-new : (xs : List ℕ) (k : ℕ) → is_among (xs ++ k ∷ []) k ≡ true
-unfolding is_among
-among-new [] k = or_left (nat_eq k k) false (eq-eqb k k refl)
-among-new (x ∷ xs) k = or_right (nat_eq k x) (list_any (nat_eq k) (xs ++ k ∷ [])) (among-new xs k)
 
 -- ---- one release
 
@@ -92,9 +59,9 @@ release-within s k j out = elim (or_cases (is_among (cond (is_lent (gate_of s.he
 pub release-still : (s : Gates) (k j : ℕ) → is_lent (gate_of s.held k) ≡ true → is_out s j ≡ true → is_out (releasing s k) j ≡ true
 unfolding is_out releasing
 release-still s k j lent out = rw lent (elim (cases_eq k j) [
-  | inl same ↦ or_left (is_among (s.gone ++ k ∷ []) j) _ (ap (is_among (s.gone ++ k ∷ [])) (sym same) ∙ among-new s.gone k)
+  | inl same ↦ or_left (is_among (s.gone ++ k ∷ []) j) _ (ap (is_among (s.gone ++ k ∷ [])) (sym same) ∙ among-last s.gone k)
   | inr other ↦ elim (or_cases (is_among s.gone j) (is_lent (gate_of s.held j)) out) [
-    | inl gone ↦ or_left (is_among (s.gone ++ k ∷ []) j) _ (among-stays s.gone k j gone)
+    | inl gone ↦ or_left (is_among (s.gone ++ k ∷ []) j) _ (among-append s.gone (k ∷ []) j ∙ or_left (is_among s.gone j) (is_among (k ∷ []) j) gone)
     | inr there ↦ or_right (is_among (s.gone ++ k ∷ []) j) _ (ap is_lent (gate-without-other s.held k j other) ∙ there)
   ]
 ])
@@ -184,7 +151,7 @@ lose-held t s g is = record {
   fits = release-fits s t g is;
 }
 
-lose-one : (t : ℕ) (s : Gates) → HaveLost (λ k. nat_eq t k) s (revoking s t)
+lose-one : (t : ℕ) (s : Gates) → HaveLost (λ k. nat_eq t k) s (without_gate s t)
 lose-one t s = by (gate_of s.held t) refl
   where
     by : (m : Option Gate) → gate_of s.held t ≡ m → HaveLost (λ k. nat_eq t k) s (if is_some (gate_of s.held t) then releasing s t else s)
@@ -203,15 +170,15 @@ lose-both p q both s mid new joined first second = record {
 }
 
 -- revoking the gates of a token loses those of its holders' tickets
-pub revoked-lost : (token : ℕ) (holders : List Holder) (s : Gates) → HaveLost (is_ticket_of token holders) s (revoked token holders s)
-unfolding revoked revoked_one
+pub revoked-lost : (token : ℕ) (holders : List Holder) (s : Gates) → HaveLost (is_ticket_of token holders) s (without_gates_of token holders s)
+unfolding without_gates_of without_gate_of
 revoked-lost token [] s = lose-none (λ k. false) s (λ k g there. refl)
 revoked-lost token (h ∷ holders) s = elim (cases_Bool (nat_eq token h.token)) [
   | inl same ↦
-      rw same (lose-both (λ k. nat_eq h.ticket k) (is_ticket_of token holders) (is_ticket_of token (h ∷ holders)) s (revoking s h.ticket) (revoked token holders (revoking s h.ticket))
-      (λ k. joined k same) (lose-one h.ticket s) (revoked-lost token holders (revoking s h.ticket)))
+      rw same (lose-both (λ k. nat_eq h.ticket k) (is_ticket_of token holders) (is_ticket_of token (h ∷ holders)) s (without_gate s h.ticket) (without_gates_of token holders (without_gate s h.ticket))
+      (λ k. joined k same) (lose-one h.ticket s) (revoked-lost token holders (without_gate s h.ticket)))
   | inr other ↦
-      rw other (lose-both (λ k. false) (is_ticket_of token holders) (is_ticket_of token (h ∷ holders)) s s (revoked token holders s)
+      rw other (lose-both (λ k. false) (is_ticket_of token holders) (is_ticket_of token (h ∷ holders)) s s (without_gates_of token holders s)
       (λ k. rw other refl) (lose-none (λ k. false) s (λ k g there. refl)) (revoked-lost token holders s))
 ]
   where

@@ -13,8 +13,9 @@ use Rattle.history_laws.proofs.OrderLemmas.{ordered-filter, ordered-map}
 use Rattle.disk_core.specs.declared.parts.Holder.{Holder}
 use Rattle.disk_core.specs.Calls.{Revokes}
 use Rattle.disk_core.specs.Inside.{IsEarlier}
-use Rattle.disk_core.specs.Moves.{revoking, revoked, revoked_one}
-use Rattle.disk_core.proofs.Revoked.{filter-mapped, release-within, release-still, release-gate, is_ticket_of, revoked-lost, left-gate}
+use Rattle.disk_core.specs.Moves.{without_gate, without_gates_of, without_gate_of}
+use Rattle.disk_core.proofs.Revoked.{release-within, release-still, release-gate, is_ticket_of, revoked-lost, left-gate}
+use Rattle.history_laws.proofs.FilterLemmas.{filter-mapped}
 
 abbrev IsLower : ℕ → ℕ → Type 0
 IsLower one other = one < other
@@ -68,10 +69,10 @@ release-lent s k are = record {
 stay-all : (s : Gates) → StayOut s s
 stay-all s = record { works = λ k. refl; count = refl; free = refl }
 
-one-stays : (t : ℕ) (s : Gates) → AreLent s.held → StayOut s (revoking s t) × AreLent (revoking s t).held
+one-stays : (t : ℕ) (s : Gates) → AreLent s.held → StayOut s (without_gate s t) × AreLent (without_gate s t).held
 one-stays t s are = by (gate_of s.held t) refl
   where
-    by : (m : Option Gate) → gate_of s.held t ≡ m → StayOut s (revoking s t) × AreLent (revoking s t).held
+    by : (m : Option Gate) → gate_of s.held t ≡ m → StayOut s (without_gate s t) × AreLent (without_gate s t).held
     by None is = subst (λ m. StayOut s (if is_some m then releasing s t else s) × AreLent (if is_some m then releasing s t else s).held) (sym is) (stay-all s, are)
     by (Some g) is = subst (λ m. StayOut s (if is_some m then releasing s t else s) × AreLent (if is_some m then releasing s t else s).held) (sym is) (release-stays s t g is are, release-lent s t are)
 
@@ -82,16 +83,16 @@ stay-both s mid new first second = record {
   free = second.free ∙ first.free;
 }
 
-revoked-stays : (token : ℕ) (holders : List Holder) (s : Gates) → AreLent s.held → StayOut s (revoked token holders s)
-unfolding revoked revoked_one
+revoked-stays : (token : ℕ) (holders : List Holder) (s : Gates) → AreLent s.held → StayOut s (without_gates_of token holders s)
+unfolding without_gates_of without_gate_of
 revoked-stays token [] s are = stay-all s
 revoked-stays token (h ∷ holders) s are = elim (cases_Bool (nat_eq token h.token)) [
-  | inl same ↦ rw same (let one = one-stays h.ticket s are in stay-both s (revoking s h.ticket) (revoked token holders (revoking s h.ticket)) one.0 (revoked-stays token holders (revoking s h.ticket) one.1))
+  | inl same ↦ rw same (let one = one-stays h.ticket s are in stay-both s (without_gate s h.ticket) (without_gates_of token holders (without_gate s h.ticket)) one.0 (revoked-stays token holders (without_gate s h.ticket) one.1))
   | inr other ↦ rw other (revoked-stays token holders s are)
 ]
 
 -- the gates of a token are revoked
-pub revokes : (token : ℕ) (holders : List Holder) (s : Gates) → AreLent s.held → Revokes s (revoked token holders s)
+pub revokes : (token : ℕ) (holders : List Holder) (s : Gates) → AreLent s.held → Revokes s (without_gates_of token holders s)
 revokes token holders s are =
     let lost = revoked-lost token holders s in
     let stay = revoked-stays token holders s are in

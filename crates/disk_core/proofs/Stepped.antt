@@ -33,7 +33,7 @@ use Rattle.disk_core.specs.Facts.{MeetsEra, KeptFollow}
 use Rattle.disk_core.specs.Parts.{kept_of, state_of}
 use Rattle.disk_core.specs.Inside.{AreFitted, RecordsFollow}
 use Rattle.disk_core.specs.Calls.{StepSays, Makes, Fills, IsCommanded, Revokes, command_of, is_fetched}
-use Rattle.disk_core.specs.Moves.{IsDisk, IsFirst, Reaches, Fails, Finishes, entered}
+use Rattle.disk_core.specs.Moves.{IsDisk, IsFirst, Reaches, EntersFault, EntersDone, with_entry}
 use Rattle.disk_core.proofs.Commanded.{outcome_of}
 use Rattle.disk_core.proofs.Driven.{device-in, setup-driven, media-driven, follows-driven, ready-driven, commanded-driven}
 use Rattle.history_laws.proofs.QuietLemmas.{IsMakingEntry}
@@ -117,16 +117,16 @@ module _ {M : Type 0} (device : M → Device) (prepared : M → ℕ → Type 0) 
   -- a failed command; by now so many fetches are counted
   pub did-failed : (shaped : (m : M) → IsShaped (device m)) (unit : Sub) (todo : Todo) (first : IsFirst device drive c unit todo) (command : Command) (fault : BlockFailed) (drive' : DriveState M) (mid c' : Core) (n : ℕ)
       → command_of (state_of device drive c) todo ≡ command → StopsAt S command fault.done → length mid.group.items ≡ length c.group.items → n ≡ fetches (Fault todo.token command fault.done ∷ H)
-      → OnMedium device prepared drive drive' (Follows S H (Fault todo.token command fault.done) (Err fault)) → Fails (record c { fetched = n; group = mid.group }) c' todo.token command fault.done
+      → OnMedium device prepared drive drive' (Follows S H (Fault todo.token command fault.done) (Err fault)) → EntersFault (record c { fetched = n; group = mid.group }) c' todo.token command fault.done
       → Reaches device prepared drive c drive' c' (λ s s'. StepSays s Did s')
-  unfolding state_of StepSays entered MayFollow
+  unfolding state_of StepSays with_entry MayFollow
   did-failed shaped unit todo first command fault drive' mid c' n named stops long counted on fails =
       let t = todo.token in
       let e = Fault t command fault.done in
       let next = next-is device prepared drive c sound unit todo first in
       let may : MayCommand S H t command = subst (MayCommand S H t) named next.1.may in
       let f = sound.fitted in
-      let beside = beside-command drive' e (Err fault) on (entered (record c { fetched = n; group = mid.group }) e 0) (fault-entry t command fault.done) refl
+      let beside = beside-command drive' e (Err fault) on (with_entry (record c { fetched = n; group = mid.group }) e 0) (fault-entry t command fault.done) refl
       (record { blocks = f.blocks; accepts = f.accepts ∙ sym (accepted-same H e refl); fetches_are = counted; group = long ∙ f.group; zeros = f.zeros }) in
       let failed = failed-sound device prepared drive drive' (record c { group = mid.group }) c' t command fault.done n (whole-in device prepared drive c sound shaped) (group-sound mid long) (may, stops) beside fails in
       let makes = failed.makes (commanded-on drive' e (Err fault) on c') in
@@ -159,7 +159,7 @@ module _ {M : Type 0} (device : M → Device) (prepared : M → ℕ → Type 0) 
       → command_of (state_of device drive c) todo ≡ command → is_fetch command ≡ false → is_store command ≡ false → length mid.group.items ≡ length c.group.items
       → FinishesTask S H todo.token command r todo.task → RecordsFollow S H mid.tokens → (own : Record) × (record_at mid.tokens todo.token ≡ Some own) → KeptFollow S (Done todo.token command ∷ H) (kept_of mid.tokens)
       → Fills S H todo.token command Made (kept_of c.tokens) (kept_of mid.tokens)
-      → OnMedium device prepared drive drive' (Follows S H (Done todo.token command) (Ok _)) → Finishes (record c { tokens = mid.tokens; group = mid.group }) c' unit command (task_bytes todo.task)
+      → OnMedium device prepared drive drive' (Follows S H (Done todo.token command) (Ok _)) → EntersDone (record c { tokens = mid.tokens; group = mid.group }) c' unit command (task_bytes todo.task)
       → Reaches device prepared drive c drive' c' (λ s s'. StepSays s Did s')
   unfolding state_of StepSays IsLegal MayFollow
   did-done shaped unit todo first command r drive' mid c' named unfetched other long finishes records recorded kept fills on done =

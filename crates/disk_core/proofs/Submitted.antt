@@ -19,7 +19,7 @@ use Rattle.disk_core.specs.State.{setup_of}
 use Rattle.disk_core.specs.Facts.{buffer_length}
 use Rattle.disk_core.specs.Parts.{state_of}
 use Rattle.disk_core.specs.Calls.{Accepts, RefusesFor, SubmitsAsked}
-use Rattle.disk_core.specs.Admission.{IsRoom, IsTouched, StaysBut, kept_with, start_at, payload_of}
+use Rattle.disk_core.specs.Admission.{IsRoom, IsTouched, StaysBut, after_keep, start_at, payload_of}
 use Rattle.disk_core.specs.Moves.{IsDisk, Reaches, with_spare}
 use Rattle.disk_core.proofs.Accepted.{length-kept}
 use Rattle.disk_core.proofs.Granted.{accept-reaches}
@@ -61,14 +61,14 @@ module _ {M : Type 0} (device : M → Device) (prepared : M → ℕ → Type 0) 
         → refusal_of (setup_of device drive c.protected_at_first) c.history.entries view asked media_id ≡ None → IsWellAsked asked → length buffer ≡ buffer_length asked.kind asked.length
         → IsRoom c.blocks (start_at c.blocks.size view asked) asked buffer room → c.owed + room.owed + 1 ≤ spare
         → (changes_bytes asked.kind ≡ true → 0 < asked.length → (m : M) → medium_in drive' ≡ Some m → (b : ℕ) → IsTouched c.blocks (start_at c.blocks.size view asked) (start_at c.blocks.size view asked + asked.length) b → prepared m b)
-        → token.number ≡ mid.accepted → token.event ≡ room.event → new ≡ kept_with mid tag view asked room buffer
+        → token.number ≡ mid.accepted → token.event ≡ room.event → new ≡ after_keep mid tag view asked room buffer
         → Reaches device prepared drive c drive' new (λ s s'. SubmitsAsked s tag view media_id asked (payload_of asked.kind buffer) buffer (Ok token) s')
     unfolding with_spare
     mid-accepts tag view media_id asked buffer room token new unrefused well long fits enough ready number event new_is =
         let granted = accept-reaches device prepared drive' (with_spare c spare) spare-disk tag view asked media_id buffer room
         (subst (λ S. refusal_of S c.history.entries view asked media_id ≡ None) (sym (setup-prepared device prepared drive drive' c on)) unrefused) well long fits enough
         (λ changes some m there b touched. ready changes some m there b (subst (λ n. IsTouched c.blocks n (n + asked.length) b) fits.begins touched)) token (number ∙ ap (λ d. d.accepted) is) event in
-        subst (λ d. Reaches device prepared drive c drive' d (λ s s'. SubmitsAsked s tag view media_id asked (payload_of asked.kind buffer) buffer (Ok token) s')) (sym (new_is ∙ ap (λ d. kept_with d tag view asked room buffer) is)) (record {
+        subst (λ d. Reaches device prepared drive c drive' d (λ s s'. SubmitsAsked s tag view media_id asked (payload_of asked.kind buffer) buffer (Ok token) s')) (sym (new_is ∙ ap (λ d. after_keep d tag view asked room buffer) is)) (record {
           sound = granted.sound;
-          says = subst (λ s. Accepts s tag view media_id asked (payload_of asked.kind buffer) buffer token (state_of device drive' (kept_with (with_spare c spare) tag view asked room buffer))) spare-state granted.says;
+          says = subst (λ s. Accepts s tag view media_id asked (payload_of asked.kind buffer) buffer token (state_of device drive' (after_keep (with_spare c spare) tag view asked room buffer))) spare-state granted.says;
         })

@@ -24,7 +24,7 @@ use Rattle.disk_core.specs.State.{setup_of}
 use Rattle.disk_core.specs.Commands.{OnMedium}
 use Rattle.disk_core.specs.Parts.{kept_of, state_of}
 use Rattle.disk_core.specs.Calls.{StepSays, command_of}
-use Rattle.disk_core.specs.Moves.{IsDisk, IsFirst, Reaches, HasPlace, Finishes, Fails, MayEnter, Settles}
+use Rattle.disk_core.specs.Moves.{IsDisk, IsFirst, Reaches, HasPlace, EntersDone, EntersFault, MayEnter, Settles}
 use Rattle.disk_core.proofs.Commanded.{entry_for, sync-era}
 use Rattle.disk_core.proofs.Finished.{kept-done}
 use Rattle.history_laws.proofs.LeftLemmas.{FinishesTask, sync-finishes}
@@ -100,17 +100,17 @@ module _ {M : Type 0} (device : M → Device) (prepared : M → ℕ → Type 0) 
     follows result on = on-as device prepared drive drive' (λ d d'. IsSync d result d') (Follows S H (entry_for todo.token Sync result) result)
         (λ d d' does. record { command = does.command; era = λ meets. sync-era S H todo.token d d' few-entries meets result does }) on
 
-    sync-done : (done : Unit {0}) → OnMedium device prepared drive drive' (λ d d'. IsSync d (Ok done) d') → Finishes c c' unit Sync 1 → Reaches device prepared drive c drive' c' (λ s s'. StepSays s Did s')
+    sync-done : (done : Unit {0}) → OnMedium device prepared drive drive' (λ d d'. IsSync d (Ok done) d') → EntersDone c c' unit Sync 1 → Reaches device prepared drive c drive' c' (λ s s'. StepSays s Did s')
     unfolding state_of
     sync-done done on finished_ =
         did-done device prepared drive c sound shaped unit todo first Sync finishing.0 drive' c c' command-is refl refl refl finishing.1 sound.records
         (let own = open-record device prepared drive c sound todo.token open_ in (own.0, own.2.there)) (kept-done S H todo.token Sync (kept_of c.tokens) refl sound.facts.tokens) refl (follows (Ok done) on)
-        (subst (λ task. Finishes c c' unit Sync (task_bytes task)) (sym task-is) finished_)
+        (subst (λ task. EntersDone c c' unit Sync (task_bytes task)) (sym task-is) finished_)
 
-    sync-failed : (fault : BlockFailed) → OnMedium device prepared drive drive' (λ d d'. IsSync d (Err fault) d') → Fails c c' (token_of unit) Sync fault.done → Reaches device prepared drive c drive' c' (λ s s'. StepSays s Did s')
+    sync-failed : (fault : BlockFailed) → OnMedium device prepared drive drive' (λ d d'. IsSync d (Err fault) d') → EntersFault c c' (token_of unit) Sync fault.done → Reaches device prepared drive c drive' c' (λ s s'. StepSays s Did s')
     sync-failed fault on failed =
         did-failed device prepared drive c sound shaped unit todo first Sync fault drive' c c' c.fetched command-is on.does.done refl (sound.fitted.fetches_are ∙ sym (fetches-same H (Fault todo.token Sync fault.done) refl)) (follows (Err fault) on)
-        (subst (λ t. Fails c c' t Sync fault.done) token-is failed)
+        (subst (λ t. EntersFault c c' t Sync fault.done) token-is failed)
 
     pub sync-settled : (result : Result (Unit {0}) BlockFailed) → OnMedium device prepared drive drive' (λ d d'. IsSync d result d') → Settles c c' unit Sync 1 result → Reaches device prepared drive c drive' c' (λ s s'. StepSays s Did s')
     sync-settled (Ok done) on settles = sync-done done on settles

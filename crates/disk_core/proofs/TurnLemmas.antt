@@ -1,11 +1,14 @@
 -- The steps of a disk that holds no block are the turns of the plain schedule.
-use Rattle.std.proofs.Common.{◌≡◌, ℕ, ◌<◌, true, false, nat_lt, [], Option, None, Some, IsSome, option_map, refl, sym, ◌∙◌, ap, subst}
+use Rattle.std.proofs.Common.{◌≡◌, ℕ, ◌+◌, ◌<◌, ◌≤◌, ◌∷◌, true, false, nat_lt, [], Option, None, Some, IsSome, option_map, refl, sym, ◌∙◌, ap, subst}
 use Rattle.std.proofs.lemmas.Bool.{false_from_ne_true, lt-ltb}
 use Rattle.disk_split.specs.Units.{group_start}
 use Rattle.history.specs.Setup.{IsSetup}
 use Rattle.history.specs.Marks.{Holds, is_held}
 use Rattle.history.specs.Tasks.{Todo, first_runnable, task_command}
-use Rattle.history.specs.Next.{Turn, next_turn, first_open, Outcome, Made}
+use Rattle.history.specs.Next.{Turn, next_turn, first_open, Outcome, Made, entry_of}
+use Rattle.history.specs.Rules.{IsLegal}
+use Rattle.history.specs.Room.{owed_entries}
+use Rattle.history_laws.proofs.TurnOwedLemmas.{turn-lowers}
 use Rattle.history_laws.specs.Turns.{turn_of_todo}
 use Rattle.history_laws.proofs.HolderLemmas.{held-holder}
 use Rattle.history_laws.proofs.NextLemmas.{first-open-some, next-turn-is, next-turn-none}
@@ -74,3 +77,10 @@ steps-turn old new step.Did is facts none free (todo, outcome, does) =
     (turn_of_todo old.entries todo, outcome, first-taken old new todo outcome is facts none free does.makes, does.unfetched, does.gates)
 steps-turn old new step.Idle is facts none free (same, first, open_) = idle-drained old is facts none free first open_
 steps-turn old new step.Drained is facts none free (same, first) = (next-turn-none old.setup old.entries first, same)
+
+-- a turn that was taken leaves a legal history, of which fewer entries are owed
+pub taken-legal : (old new : State) (turn : Turn) (outcome : Outcome) → TakesTurn old turn outcome new → IsLegal old.setup (entry_of turn outcome ∷ old.entries)
+taken-legal old new turn outcome takes = subst (λ S. IsLegal S (entry_of turn outcome ∷ old.entries)) takes.makes.setup (subst (λ H. IsLegal new.setup H) takes.makes.entries takes.makes.legal)
+
+pub taken-lowers : (old new : State) (turn : Turn) (outcome : Outcome) → IsSetup old.setup → TakesTurn old turn outcome new → owed_entries old.setup new.entries + 1 ≤ owed_entries old.setup old.entries
+taken-lowers old new turn outcome is takes = rw (takes.makes.entries) (turn-lowers old.setup old.entries turn outcome is (taken-legal old new turn outcome takes))

@@ -20,8 +20,9 @@ use Rattle.disk_core.specs.declared.parts.Holder.{Holder}
 use Rattle.disk_core.specs.State.{opening_from, setup_of}
 use Rattle.disk_core.specs.Facts.{IsGate, GatesFollow}
 use Rattle.disk_core.specs.Inside.{HoldersFollow}
-use Rattle.disk_core.proofs.HistoryCopies.{copy-stays}
+use Rattle.disk_core.proofs.Told.{copy-stays}
 use Rattle.disk_core.proofs.Setups.{all-at}
+use Rattle.disk_core.proofs.Over.{holders-over}
 use Rattle.std.proofs.lemmas.Bool.{true≢false}
 
 -- the opening bytes that are told are those of all blocks
@@ -72,11 +73,4 @@ module _ (S : Setup) (H : List Entry) (e : Entry) (setup : IsSetup S) (told : Ar
     }
 
     pub holders-stay : (gates : Gates) (holders : List Holder) (places : ℕ) → ((t b k : ℕ) → HoldsBy S H t b k → (is_store_of t b e ≡ false) × (mark_of S (e ∷ H) t ≡ None)) → HoldersFollow S H gates holders places → HoldersFollow S (e ∷ H) gates holders places
-    holders-stay gates holders places each follow = record {
-      each = λ k t b holds. follow.each k t b (holder-was t b k holds);
-      only = λ k t there. (let h = follow.only k t there in let on = each t h.0 k h.1 in (h.0, holds-by-stays S H e t h.0 k setup may on.0 on.1 h.1));
-      apart = follow.apart;
-      paired = follow.paired;
-      rising = follow.rising;
-      fits = follow.fits;
-    }
+    holders-stay gates holders places each = holders-over S H (e ∷ H) gates holders places holder-was (λ t b k holds. (let on = each t b k holds in holds-by-stays S H e t b k setup may on.0 on.1 holds))

@@ -1,5 +1,5 @@
 -- The group of a part is written, done or failed, and the store entered.
-use Rattle.std.proofs.Common.{◌≡◌, ℕ, ◌+◌, ◌-◌, ◌*◌, ◌/◌, ◌<◌, ◌≤◌, true, List, ◌∷◌, length, Some, refl, sym, ◌∙◌, ap, subst, arith, IsSome, Result, Ok, Err, IfErr}
+use Rattle.std.proofs.Common.{◌≡◌, ℕ, ◌+◌, ◌-◌, ◌*◌, ◌/◌, ◌<◌, ◌≤◌, true, List, ◌∷◌, length, take, drop, Some, refl, sym, ◌∙◌, ap, subst, arith, IsSome, Result, Ok, Err, IfErr}
 use Rattle.std.specs.Prelude.{is_some, count_by, IfSome}
 use Rattle.std.proofs.Math.Nat.{lt_of_mul-lt-mul_right, mul_comm, add-mul, one-mul}
 use Rattle.std.specs.Option.{option_map}
@@ -42,7 +42,8 @@ use Rattle.disk_core.proofs.Admitted.{blocks-of}
 use Rattle.disk_core.proofs.Commanded.{entry_for, write-era}
 use Rattle.disk_core.proofs.Composed.{part-record, holder-is, part-in-record}
 use Rattle.history_laws.proofs.HoldingLemmas.{part_of_range, part-listed, part-unmoved}
-use Rattle.disk_core.proofs.HistoryStored.{stored-done, stored-failed}
+use Rattle.history_laws.proofs.StoredLemmas.{stored-done, stored-failed}
+use Rattle.disk_core.proofs.Told.{told-patch, from-told}
 use Rattle.history_laws.proofs.LeftLemmas.{FinishesTask, unit-finishes}
 use Rattle.disk_core.proofs.Opened.{IsOpenRecord, IsHolderOf}
 use Rattle.disk_core.proofs.Parted.{part-there, group-there, medium-there}
@@ -198,10 +199,13 @@ module _ {M : Type 0} (device : M → Device) (prepared : M → ℕ → Type 0) 
       subst (λ n. patch_told (contents S (media_id_of H) H) (n * size_of S) (written result (size_of S) c.group.items) ≡ contents S (media_id_of H) (entry_for part.token (Store g.block) result ∷ H)) (sym is.held.block)
       (subst (λ bytes. patch_told (contents S (media_id_of H) H) (g.block * size_of S) (written result (size_of S) bytes) ≡ contents S (media_id_of H) (entry_for part.token (Store g.block) result ∷ H)) (sym is.group) (by result few))
     where
+      at-bytes : (bytes : List ℕ) → contents S (media_id_of H) H ≡ Some bytes → g.copy ≡ take (length g.copy) (drop (g.block * size_of S) bytes)
+      at-bytes bytes told = from-told (contents S (media_id_of H) H) (g.block * size_of S) g.copy bytes copied told
+
       by : (result : Result (Unit {0}) BlockFailed) → IfErr result (λ fault. fault.done ≤ per_of S)
           → patch_told (contents S (media_id_of H) H) (g.block * size_of S) (written result (size_of S) (expected_of S q g)) ≡ contents S (media_id_of H) (entry_for part.token (Store g.block) result ∷ H)
-      by (Ok done) few = stored-done S H part.token q u is.held.named of-unit g.copy copy-size on-medium copied put-long
-      by (Err fault) few = stored-failed S H part.token q u is.held.named of-unit g.copy copy-size on-medium copied put-long fault.done few
+      by (Ok done) few = told-patch _ _ _ ∙ stored-done S H part.token q u is.held.named of-unit g.copy copy-size on-medium at-bytes put-long
+      by (Err fault) few = told-patch _ _ _ ∙ stored-failed S H part.token q u is.held.named of-unit g.copy copy-size on-medium at-bytes put-long fault.done few
 
   pub store-follows : (d d' : Device) (result : Result (Unit {0}) BlockFailed) → d.size ≡ size_of S → IsWrite d part.block c.group.items result d' → Follows S H (entry_for part.token (Store g.block) result) result d d'
   store-follows d d' result size write = record {

@@ -1,5 +1,5 @@
 -- What an accepted request takes and leaves (own profile).
-use Rattle.std.specs.Prelude.{◌≡◌, ℕ, ◌+◌, ◌-◌, ◌*◌, ◌/◌, ◌^◌, ◌<◌, ◌≤◌, true, nat_eq, if◌then◌else◌, List, [], ◌∷◌, ◌++◌, Option, None, Some}
+use Rattle.std.specs.Prelude.{◌≡◌, ℕ, ◌+◌, ◌-◌, ◌*◌, ◌/◌, ◌^◌, ◌<◌, ◌≤◌, true, nat_eq, if◌then◌else◌, List, [], ◌∷◌, ◌++◌, None, Some}
 use Rattle.efi_status.specs.declared.Status.TheVariants.{Success}
 use Rattle.history.specs.declared.entry.View.{View}
 use Rattle.history.specs.declared.entry.Asked.{Asked}
@@ -20,6 +20,7 @@ use Rattle.subtask_queue.specs.declared.sub.Sub.{Sub}
 use Rattle.subtask_queue.specs.Subs.{subs_of_request, AreParts}
 use Rattle.disk_core.specs.declared.accepting.Room.{Room}
 use Rattle.disk_core.specs.declared.parts.Core.{Core}
+use Rattle.history_laws.specs.Costs.{left_at_first, one_if, cost_by}
 use Rattle.disk_core.specs.State.{setup_of}
 use Rattle.disk_core.specs.Commands.{OnMedium}
 
@@ -30,35 +31,17 @@ payload_of Write buffer = buffer
 payload_of Flush buffer = []
 payload_of Erase buffer = []
 
--- what is left of a new request: its bytes, and 1 for a flush
-abbrev pub left_at_first : Kind → ℕ → ℕ
-left_at_first Read n = n
-left_at_first Write n = n
-left_at_first Flush n = 1
-left_at_first Erase n = n
-
-abbrev pub one_if : {X : Type 0} → Option X → ℕ
-one_if None = 0
-one_if (Some x) = 1
-
 -- how many parts a range has
 abbrev pub parts_count : Parts → ℕ
 parts_count parts = one_if parts.under + one_if parts.over
-
--- the most commands of a request with so many parts and runs: a part of a write or an erase is fetched and stored
-abbrev pub cost_by : Kind → ℕ → ℕ → ℕ
-cost_by Read parts runs = parts + runs
-cost_by Write parts runs = 2 * parts + runs
-cost_by Flush parts runs = 1
-cost_by Erase parts runs = 2 * parts + runs
 
 -- the request of the table for one that was just accepted
 unfoldable pub accepted_request : ℕ → View → Asked → ℕ → List ℕ → Request
 accepted_request tag view asked at buffer = record { tag = tag; view = view; asked = asked; at = at; buffer = buffer; left = left_at_first asked.kind asked.length }
 
 -- an accept was entered, and so many entries more are owed; these records and units are kept
-unfoldable pub accepting : Core → Entry → ℕ → Records → List Sub → Core
-accepting c e owed tokens queue = record c {
+unfoldable pub after_accept : Core → Entry → ℕ → Records → List Sub → Core
+after_accept c e owed tokens queue = record c {
   history = record { entries = e ∷ c.history.entries; spare = c.history.spare - 1 };
   owed = c.owed + owed;
   accepted = c.accepted + 1;
@@ -67,8 +50,8 @@ accepting c e owed tokens queue = record c {
 }
 
 -- a new token of which nothing is left has ended with success
-unfoldable pub ended_empty : ℕ → ℕ → Core → Core
-ended_empty left t c = if nat_eq left 0 then record c { tokens = changed (ended_record Success) c.tokens t; owed = c.owed - 1 } else c
+unfoldable pub after_empty_end : ℕ → ℕ → Core → Core
+after_empty_end left t c = if nat_eq left 0 then record c { tokens = changed (ended_record Success) c.tokens t; owed = c.owed - 1 } else c
 
 -- a block lies in a group in which a range of bytes has one
 pub record IsTouched (G : Geometry) (from until b : ℕ) : Type 0 where
@@ -107,7 +90,7 @@ pub record IsRoom (G : Geometry) (from : ℕ) (asked : Asked) (buffer : List ℕ
   pub owed : room.owed ≡ cost_by asked.kind (parts_count room.parts) ((room.parts.whole * G.per + 63) / 64) + 2
 
 -- a request was accepted with what it needs
-unfoldable pub kept_with : Core → ℕ → View → Asked → Room → List ℕ → Core
-kept_with c tag view asked room buffer =
-    ended_empty (left_at_first asked.kind asked.length) c.accepted
-    (accepting c (Accept tag view asked room.bytes) room.owed (added c.tokens (accepted_request tag view asked room.from buffer) room.signaller) (c.queue ++ subs_of_request c.blocks c.accepted asked.kind room.parts))
+unfoldable pub after_keep : Core → ℕ → View → Asked → Room → List ℕ → Core
+after_keep c tag view asked room buffer =
+    after_empty_end (left_at_first asked.kind asked.length) c.accepted
+    (after_accept c (Accept tag view asked room.bytes) room.owed (added c.tokens (accepted_request tag view asked room.from buffer) room.signaller) (c.queue ++ subs_of_request c.blocks c.accepted asked.kind room.parts))

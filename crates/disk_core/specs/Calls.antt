@@ -1,6 +1,6 @@
 -- What each call of a disk does: its answer and its own entry, over the disk before it (UEFI 2.10, 13.7 to 13.10; steps, works, ends and
 -- erase: own profile).
-use Rattle.std.specs.Prelude.{◌≡◌, ◌≢◌, ℕ, zero, suc, ◌+◌, ◌-◌, ◌*◌, ◌<◌, ◌≤◌, min, max, ◌⊎◌, Bool, true, false, nat_lt, List, [], ◌∷◌, ◌++◌, length, take, slice_get, slice_set, Option, None, Some, IsSome, Result, Ok, Err}
+use Rattle.std.specs.Prelude.{◌≡◌, ◌≢◌, ℕ, zero, suc, ◌+◌, ◌-◌, ◌*◌, ◌<◌, ◌≤◌, ◌⊎◌, Bool, true, false, nat_lt, List, [], ◌∷◌, ◌++◌, length, take, slice_get, slice_set, Option, None, Some, IsSome, Result, Ok, Err}
 use Rattle.byte_lists.specs.Patching.{patch}
 use Rattle.medium.specs.Device.{Device, AreToldAt}
 use Rattle.medium.specs.Counts.{adds, Rose}
@@ -15,13 +15,14 @@ use Rattle.history.specs.declared.entry.Entry.{Entry}
 use Rattle.history.specs.declared.entry.Entry.TheVariants.{Accept, Refuse, Collect, Insert, Protect, Eject}
 use Rattle.history.specs.Setup.{Setup, size_of, per_of}
 use Rattle.history.specs.Eras.{inserts, media_id_of, is_present}
-use Rattle.history.specs.Tokens.{Request, accepted, request, was_collected, from_of, until_of}
+use Rattle.history.specs.Tokens.{Request, accepted, request, was_collected, from_of}
 use Rattle.history.specs.Contents.{contents, bytes_between}
 use Rattle.history.specs.Marks.{mark_of, is_held, fetches, HoldsBy}
 use Rattle.history.specs.Rules.{refusal_of, IsLegal}
 use Rattle.history.specs.Tasks.{Todo, first_runnable, task_command}
 use Rattle.history.specs.Next.{first_open, Outcome, Made, Failed, entry_of}
 use Rattle.history_laws.specs.Left.{ended_by}
+use Rattle.history_laws.specs.Ranges.{low_in, high_in}
 use Rattle.token_table.specs.declared.record.Done.{Done}
 use Rattle.token_table.specs.declared.record.Mark.{Mark}
 use Rattle.token_table.specs.declared.record.NotThere.{NotThere}
@@ -108,14 +109,6 @@ SubmitsAsked old tag view media_id asked bytes buffer (Err refused) new = Refuse
 -- a request is accepted, refused, or forgotten for want of memory
 unfoldable pub SubmitSays : State → ℕ → View → ℕ → Ask → Result Token Refused → State → Type 0
 SubmitSays old tag view media_id ask result new = SubmitsAsked old tag view media_id (asked_of ask) (bytes_of ask) (buffer_of ask) result new
-
--- the bytes of the medium in n blocks from b on that the request is for: from the first one ..
-abbrev pub low_in : Setup → Request → ℕ → ℕ
-low_in S q b = max (from_of S q) (b * size_of S)
-
--- .. and before this one
-abbrev pub high_in : Setup → Request → ℕ → ℕ → ℕ
-high_in S q b n = min (until_of S q) ((b + n) * size_of S)
 
 -- a get puts what the medium holds into its token's buffer, and nothing else of what is kept changes
 pub record Gets (S : Setup) (H : List Entry) (t b n : ℕ) (old new : List (Option Kept)) (q : Request) : Type 0 where

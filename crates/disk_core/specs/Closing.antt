@@ -1,5 +1,5 @@
 -- The parts of a disk whose history has an entry more, while the requests that it ends are ended one after the other (own profile).
-use Rattle.std.specs.Prelude.{◌≡◌, ℕ, zero, suc, ◌+◌, ◌-◌, ◌*◌, ◌^◌, ◌<◌, ◌≤◌, Bool, true, false, nat_eq, nat_lt, ◌&&◌, if◌then◌else◌, List, ◌∷◌, length, map, filter, count_by, Option, None, Some, is_none, vec_capacity}
+use Rattle.std.specs.Prelude.{◌≡◌, ℕ, ◌+◌, ◌-◌, ◌*◌, ◌^◌, ◌<◌, ◌≤◌, Bool, true, false, nat_eq, nat_lt, ◌&&◌, if◌then◌else◌, List, ◌∷◌, length, map, filter, count_by, Option, None, Some, is_none, vec_capacity}
 use Rattle.std.specs.List.{list_any}
 use Rattle.efi_status.specs.declared.Status.{Status}
 use Rattle.efi_status.specs.declared.Status.TheVariants.{WriteProtected}
@@ -11,17 +11,17 @@ use Rattle.history.specs.declared.entry.Entry.{Entry}
 use Rattle.history.specs.declared.entry.Entry.TheVariants.{Cancel, Reset}
 use Rattle.history.specs.Setup.{Setup, IsSetup, size_of}
 use Rattle.history.specs.Eras.{media_id_of}
-use Rattle.history.specs.Tokens.{Request, is_accept, accepted, request, was_collected, changes_bytes, from_of}
+use Rattle.history.specs.Tokens.{Request, is_accept, accepted, request, was_collected, changes_bytes}
 use Rattle.history.specs.Contents.{contents}
 use Rattle.history.specs.Marks.{is_same_view, status_if, ending, mark_of, was_fetched, was_stored, fetches, ticket_of, IsOutstanding, HoldsBy}
 use Rattle.history.specs.Rules.{IsLegal}
 use Rattle.history.specs.Tasks.{Todo, pending}
-use Rattle.history.specs.Room.{commands_owed, owed_by, media_owed}
-use Rattle.history_laws.specs.Left.{left_of, ended_by}
+use Rattle.history.specs.Room.{commands_owed}
+use Rattle.history_laws.specs.OwedSoFar.{owed_so_far}
+use Rattle.history_laws.specs.Left.{ended_by}
 use Rattle.history_laws.specs.Pending.{Ordered}
 use Rattle.token_table.specs.declared.record.Request.{Request as RequestOf}
-use Rattle.token_table.specs.declared.record.Record.{Record}
-use Rattle.token_table.specs.Records.{Records, record_at, request_at, AreShown}
+use Rattle.token_table.specs.Records.{request_at}
 use Rattle.subtask_queue.specs.declared.sub.Sub.{Sub}
 use Rattle.subtask_queue.specs.Subs.{token_of, is_of, sub_of}
 use Rattle.block_gate.specs.Gates.{Gate, Gates, gate_of, is_out, AreSound}
@@ -32,7 +32,7 @@ use Rattle.disk_core.specs.declared.parts.Holder.{Holder}
 use Rattle.disk_core.specs.Facts.{KeptFollow}
 use Rattle.disk_core.specs.Parts.{kept_of, holder_of}
 use Rattle.disk_core.specs.Calls.{Revokes}
-use Rattle.disk_core.specs.Inside.{IsEarlier}
+use Rattle.disk_core.specs.Inside.{IsEarlier, RecordsBy}
 use Rattle.disk_core.specs.Moves.{StaysBeside}
 
 -- In all of these `marks` says how each token stands in the parts so far, where the history says it by `mark_of`.
@@ -44,19 +44,6 @@ pub record HoldsSoFar (H : List Entry) (marks : ℕ → Option Status) (t b k : 
   pub fetched : was_fetched H t b ≡ true
   pub unstored : was_stored H t b ≡ false
   pub ticket_is : ticket_of H t b ≡ Some k
-
--- the record of a token, which stands as the parts say so far
-pub record TracksSoFar (S : Setup) (H : List Entry) (marks : ℕ → Option Status) (t : ℕ) (r : Record) (q : Request) : Type 0 where
-  pub named : request H t ≡ Some q
-  pub viewed : r.request.view ≡ q.view
-  pub asked : r.request.asked ≡ q.asked
-  pub begins : r.request.at ≡ from_of S q
-  pub mark : marks t ≡ r.ended
-  pub left : r.ended ≡ None → r.request.left ≡ left_of S H t q
-
-pub record RecordsSoFar (S : Setup) (H : List Entry) (marks : ℕ → Option Status) (records : Records) : Type 0 where
-  pub each : (t : ℕ) (r : Record) → record_at records t ≡ Some r → (q : Request) × TracksSoFar S H marks t r q
-  pub shown : AreShown records
 
 -- a gate is that of its holder; where the history leaves that one open, its work is out and its copy is the group
 pub record IsGateSoFar (S : Setup) (H : List Entry) (marks : ℕ → Option Status) (holders : List Holder) (k : ℕ) (g : Gate) (t : ℕ) : Type 0 where
@@ -76,19 +63,6 @@ pub record GatesSoFar (S : Setup) (H : List Entry) (marks : ℕ → Option Statu
   pub rising : Ordered IsEarlier holders
   pub fits : length gates.held + (length gates.gone + gates.free) ≤ places
 
--- what a token owes so far
-abbrev pub token_owed_so_far : Setup → List Entry → (ℕ → Option Status) → ℕ → ℕ
-token_owed_so_far S H marks t = owed_by S H t (request H t) (marks t) (was_collected H t)
-
--- what the first n tokens owe so far
-unfoldable pub tokens_owed_so_far : Setup → List Entry → (ℕ → Option Status) → ℕ → ℕ
-tokens_owed_so_far S H marks zero = 0
-tokens_owed_so_far S H marks (suc n) = tokens_owed_so_far S H marks n + token_owed_so_far S H marks n
-
--- the entries that the history must still have room for so far
-abbrev pub owed_so_far : Setup → List Entry → (ℕ → Option Status) → ℕ
-owed_so_far S H marks = tokens_owed_so_far S H marks (accepted H) + media_owed S H
-
 -- room suffices but for `late` places, which the first end brings
 pub record RoomSoFar (S : Setup) (H : List Entry) (marks : ℕ → Option Status) (late : ℕ) (c : Core) : Type 0 where
   pub owes : owed_so_far S H marks ≤ c.owed
@@ -103,7 +77,7 @@ pub record IsClosing (S : Setup) (H : List Entry) (marks : ℕ → Option Status
   pub legal : IsLegal S H
   pub tokens : KeptFollow S H (kept_of c.tokens)
   pub uncollected : (t : ℕ) → marks t ≡ None → was_collected H t ≡ false
-  pub records : RecordsSoFar S H marks c.tokens
+  pub records : RecordsBy S H marks c.tokens
   pub queue : c.queue ≡ map (sub_of (size_of S)) (filter (λ todo. is_none (marks todo.token)) units)
   pub costs : (t : ℕ) (q : Request) → request H t ≡ Some q → count_by (λ todo. nat_eq t todo.token) units ≤ commands_owed S H t q
   pub gates : GatesSoFar S H marks c.gates c.holders.items (vec_capacity c.holders)

@@ -1,5 +1,6 @@
 -- What holds of the parts of a disk whenever no call of it runs: its facts, and how its parts carry them (own profile).
-use Rattle.std.specs.Prelude.{◌≡◌, ℕ, ◌+◌, ◌-◌, ◌*◌, ◌/◌, ◌^◌, ◌<◌, ◌≤◌, true, List, length, map, replicate, None, Some, vec_capacity}
+use Rattle.std.specs.Prelude.{◌≡◌, ℕ, ◌+◌, ◌-◌, ◌*◌, ◌/◌, ◌^◌, ◌<◌, ◌≤◌, true, List, length, map, replicate, Option, None, Some, vec_capacity}
+use Rattle.efi_status.specs.declared.Status.{Status}
 use Rattle.disk_split.specs.Units.{group_size}
 use Rattle.medium.specs.Device.{Device}
 use Rattle.drive.specs.Drives.{DriveState, IsDrive, FitTheDrive, medium_in}
@@ -30,19 +31,26 @@ pub record DriveFollows {M : Type 0} (device : M → Device) (S : Setup) (H : Li
   pub present : drive.present ≡ is_present H
   pub protected : drive.protected ≡ is_protected S H
 
--- the record of a token that was not handed back: what was asked, how it stands, and what is left of it while it is open
-pub record Tracks (S : Setup) (H : List Entry) (t : ℕ) (r : Record) (q : Request) : Type 0 where
+-- the record of a token that was not handed back: what was asked, how it stands by these marks, and what is left of it while it is open
+pub record TracksBy (S : Setup) (H : List Entry) (marks : ℕ → Option Status) (t : ℕ) (r : Record) (q : Request) : Type 0 where
   pub named : request H t ≡ Some q
   pub viewed : r.request.view ≡ q.view
   pub asked : r.request.asked ≡ q.asked
   pub begins : r.request.at ≡ from_of S q
-  pub mark : mark_of S H t ≡ r.ended
+  pub mark : marks t ≡ r.ended
   pub left : r.ended ≡ None → r.request.left ≡ left_of S H t q
 
 -- each record tracks its token, and its event shows its mark
-pub record RecordsFollow (S : Setup) (H : List Entry) (records : Records) : Type 0 where
-  pub each : (t : ℕ) (r : Record) → record_at records t ≡ Some r → (q : Request) × Tracks S H t r q
+pub record RecordsBy (S : Setup) (H : List Entry) (marks : ℕ → Option Status) (records : Records) : Type 0 where
+  pub each : (t : ℕ) (r : Record) → record_at records t ≡ Some r → (q : Request) × TracksBy S H marks t r q
   pub shown : AreShown records
+
+-- so by the marks of the history
+abbrev pub Tracks : Setup → List Entry → ℕ → Record → Request → Type 0
+Tracks S H t r q = TracksBy S H (mark_of S H) t r q
+
+abbrev pub RecordsFollow : Setup → List Entry → Records → Type 0
+RecordsFollow S H records = RecordsBy S H (mark_of S H) records
 
 -- a holder fetched before another
 abbrev pub IsEarlier : Holder → Holder → Type 0

@@ -49,16 +49,16 @@ pub record Reaches {M : Type 0} (device : M → Device) (prepared : M → ℕ �
   pub says : Says (state_of device drive c) (state_of device drive' c')
 
 -- an entry was added in a free place, and so many entries are owed no more
-unfoldable pub entered : Core → Entry → ℕ → Core
-entered c e paid = record c { history = record { entries = e ∷ c.history.entries; spare = c.history.spare - 1 }; owed = c.owed - paid }
+unfoldable pub with_entry : Core → Entry → ℕ → Core
+with_entry c e paid = record c { history = record { entries = e ∷ c.history.entries; spare = c.history.spare - 1 }; owed = c.owed - paid }
 
 -- there are so many spare places
 unfoldable pub with_spare : Core → ℕ → Core
 with_spare c spare = record c { history = record { entries = c.history.entries; spare = spare } }
 
 -- an ended token was handed back
-unfoldable pub collected : Core → ℕ → ℕ → Core
-collected c tag t = record (entered c (Collect tag t) 1) { tokens = without_record c.tokens t }
+unfoldable pub after_collect : Core → ℕ → ℕ → Core
+after_collect c tag t = record (with_entry c (Collect tag t) 1) { tokens = without_record c.tokens t }
 
 -- there is a place for an entry
 abbrev pub HasPlace : Core → Type 0
@@ -76,25 +76,25 @@ pub record StaysBeside (c c' : Core) : Type 0 where
   pub places : vec_capacity c'.holders ≡ vec_capacity c.holders
 
 -- the gates without that of a ticket, where it holds one
-abbrev pub revoking : Gates → ℕ → Gates
-revoking s ticket = if is_some (gate_of s.held ticket) then releasing s ticket else s
+abbrev pub without_gate : Gates → ℕ → Gates
+without_gate s ticket = if is_some (gate_of s.held ticket) then releasing s ticket else s
 
 -- the gates without that of a holder, where it is one of this token
-unfoldable pub revoked_one : ℕ → Holder → Gates → Gates
-revoked_one token h s = if nat_eq token h.token then revoking s h.ticket else s
+unfoldable pub without_gate_of : ℕ → Holder → Gates → Gates
+without_gate_of token h s = if nat_eq token h.token then without_gate s h.ticket else s
 
 -- the gates without those of a token
-unfoldable pub revoked : ℕ → List Holder → Gates → Gates
-revoked token [] s = s
-revoked token (h ∷ holders) s = revoked token holders (revoked_one token h s)
+unfoldable pub without_gates_of : ℕ → List Holder → Gates → Gates
+without_gates_of token [] s = s
+without_gates_of token (h ∷ holders) s = without_gates_of token holders (without_gate_of token h s)
 
 -- the holders but those of a token
 abbrev pub others : ℕ → List Holder → List Holder
 others token holders = filter (λ h. not (nat_eq token h.token)) holders
 
 -- the holders before a place, and from there on those that are not of this token
-abbrev pub passing : ℕ → ℕ → List Holder → List Holder
-passing token at holders = take at holders ++ others token (drop at holders)
+abbrev pub after_pass : ℕ → ℕ → List Holder → List Holder
+after_pass token at holders = take at holders ++ others token (drop at holders)
 
 -- the holders without the one at a place, where there is one
 abbrev pub without_at : Option ℕ → List Holder → List Holder
@@ -110,7 +110,7 @@ pub record Ends (c c' : Core) (t : ℕ) (status : Status) : Type 0 where
   pub tokens : c'.tokens ≡ changed (ended_record status) c.tokens t
   pub queue : c'.queue ≡ without_token t c.queue
   pub owed : c'.owed + (count_by (is_of t) c.queue + 1) ≡ c.owed
-  pub gates : c'.gates ≡ revoked t c.holders.items c.gates
+  pub gates : c'.gates ≡ without_gates_of t c.holders.items c.gates
   pub holders : c'.holders.items ≡ others t c.holders.items
   pub rest : StaysBeside c c'
 
@@ -120,8 +120,8 @@ left_in None = 0
 left_in (Some q) = q.left
 
 -- a unit of so many bytes was finished by a done command
-unfoldable pub finished : Core → Sub → Command → ℕ → Core
-finished c unit command bytes = record (entered c (Done (token_of unit) command) 1) {
+unfoldable pub after_finish : Core → Sub → Command → ℕ → Core
+after_finish c unit command bytes = record (with_entry c (Done (token_of unit) command) 1) {
   queue = without_first (is_unit (token_of unit) (block_of unit)) c.queue;
   tokens = changed (lower_record bytes) c.tokens (token_of unit);
 }
@@ -131,12 +131,12 @@ abbrev pub EndsIf : Bool → Core → Core → ℕ → Type 0
 EndsIf true c c' t = Ends c c' t Success
 EndsIf false c c' t = c' ≡ c
 
-abbrev pub Finishes : Core → Core → Sub → Command → ℕ → Type 0
-Finishes c c' unit command bytes = EndsIf (nat_eq (left_in (request_at c.tokens (token_of unit))) bytes) (finished c unit command bytes) c' (token_of unit)
+abbrev pub EntersDone : Core → Core → Sub → Command → ℕ → Type 0
+EntersDone c c' unit command bytes = EndsIf (nat_eq (left_in (request_at c.tokens (token_of unit))) bytes) (after_finish c unit command bytes) c' (token_of unit)
 
 -- a failed command ended its token
-abbrev pub Fails : Core → Core → ℕ → Command → ℕ → Type 0
-Fails c c' t command done = Ends (entered c (Fault t command done) 0) c' t DeviceError
+abbrev pub EntersFault : Core → Core → ℕ → Command → ℕ → Type 0
+EntersFault c c' t command done = Ends (with_entry c (Fault t command done) 0) c' t DeviceError
 
 -- what a step answers where no unit may run
 abbrev pub rest_of : List Sub → Step
@@ -201,15 +201,15 @@ pub record IsGot (old : Device) (result : Result (Unit {0}) BlockFailed) (new : 
   pub done : IfErr result (λ fault. fault.done ≡ 0)
 
 -- a record with these bytes in its buffer from this place on
-unfoldable pub put_into : ℕ → List ℕ → Record → Record
-put_into place piece r = record r { request = record r.request { buffer = patch r.request.buffer place piece } }
+unfoldable pub with_bytes_in : ℕ → List ℕ → Record → Record
+with_bytes_in place piece r = record r { request = record r.request { buffer = patch r.request.buffer place piece } }
 
 -- so many bytes of the medium, from this byte on, were read into the buffer of a token; a failed read leaves it
 pub record GetsInto {M : Type 0} (device : M → Device) (prepared : M → ℕ → Type 0) (drive drive' : DriveState M) (c c' : Core) (token low place count : ℕ) (result : Result (Unit {0}) BlockFailed) : Type 0 where
   pub piece : List ℕ
   pub long : length piece ≡ count
   pub on : OnMedium device prepared drive drive' (λ d d'. IsGot d result d' low piece)
-  pub tokens : OnOk result (c'.tokens ≡ changed (put_into place piece) c.tokens token)
+  pub tokens : OnOk result (c'.tokens ≡ changed (with_bytes_in place piece) c.tokens token)
   pub left : OnErr result (c'.tokens ≡ c.tokens)
   pub group : length c'.group.items ≡ length c.group.items
   pub core : c' ≡ record c { tokens = c'.tokens; group = c'.group }
@@ -223,8 +223,8 @@ pub record MayEnter (c : Core) (unit : Sub) (bytes : ℕ) (result : Result (Unit
 
 -- it was entered
 abbrev pub Settles : Core → Core → Sub → Command → ℕ → Result (Unit {0}) BlockFailed → Type 0
-Settles c c' unit command bytes (Ok x) = Finishes c c' unit command bytes
-Settles c c' unit command bytes (Err fault) = Fails c c' (token_of unit) command fault.done
+Settles c c' unit command bytes (Ok x) = EntersDone c c' unit command bytes
+Settles c c' unit command bytes (Err fault) = EntersFault c c' (token_of unit) command fault.done
 
 -- the bytes of the medium in n blocks that a request of the table is for: from the first one and before the last
 abbrev pub low_of : Request → ℕ → ℕ → ℕ

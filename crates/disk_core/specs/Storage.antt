@@ -9,7 +9,8 @@ use Rattle.drive.specs.Drives.{DriveState}
 use Rattle.disk_core.specs.declared.storing.Part.{Part}
 use Rattle.disk_core.specs.declared.parts.Core.{Core}
 use Rattle.disk_core.specs.State.{setup_of}
-use Rattle.disk_core.specs.Calls.{low_in, high_in, expected_of}
+use Rattle.disk_core.specs.Calls.{expected_of}
+use Rattle.history_laws.specs.Ranges.{low_in, high_in}
 use Rattle.disk_core.specs.Moves.{IsDisk}
 
 -- the part of a ticket's gate: the token that holds it, and the bytes of its group that the token is for

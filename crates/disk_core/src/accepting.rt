@@ -11,7 +11,8 @@ ghost use Rattle.subtask_queue.specs.Subs.{AreBelow};
 ghost use Rattle.disk_core.specs.Facts.{buffer_length};
 ghost use Rattle.disk_core.specs.Commands.{OfMedium};
 ghost use Rattle.disk_core.specs.Calls.{SubmitsAsked};
-ghost use Rattle.disk_core.specs.Admission.{payload_of, left_at_first, parts_count, cost_by, accepting, ended_empty, kept_with, IsRoom, IsUnrefused, AreMadeReady, AreReadyFor, start_at, StaysBut};
+ghost use Rattle.history_laws.specs.Costs.{left_at_first, cost_by};
+ghost use Rattle.disk_core.specs.Admission.{payload_of, parts_count, after_accept, after_empty_end, after_keep, IsRoom, IsUnrefused, AreMadeReady, AreReadyFor, start_at, StaysBut};
 ghost use Rattle.disk_core.specs.Moves.{with_spare, HasPlace, IsDisk, Reaches};
 
 use crate::answers::{Refused, Token, Why};
@@ -210,12 +211,12 @@ fn take_room<M: Medium>(
 }
 
 // Enters an accepted request, whose record and units are kept.
-#[tactic(auto, unfolding(crate::specs::Moves::entered, crate::specs::Admission::accepting))]
+#[tactic(auto, unfolding(crate::specs::Moves::with_entry, crate::specs::Admission::after_accept))]
 fn enter_accept(core: &mut Core, tag: u32, view: &View, asked: Asked, bytes: Bytes, owed: u64)
     requires place { HasPlace core.old }
     requires few { core.old.accepted < 2 ^ 63 }
     requires owed { core.old.owed + owed < 2 ^ 64 }
-    ensures { core.new ≡ accepting core.old (AcceptOf tag view.now asked bytes) owed
+    ensures { core.new ≡ after_accept core.old (AcceptOf tag view.now asked bytes) owed
         core.old.tokens core.old.queue }
 {
     let entry = Entry::Accept {
@@ -230,11 +231,11 @@ fn enter_accept(core: &mut Core, tag: u32, view: &View, asked: Asked, bytes: Byt
 }
 
 // Ends a new request of which nothing is left. It has no units and holds no gate.
-#[tactic(auto, unfolding(crate::specs::Admission::ended_empty))]
+#[tactic(auto, unfolding(crate::specs::Admission::after_empty_end))]
 fn end_empty(core: &mut Core, number: u64, left: u64)
     requires outstanding { mark_at core.old.tokens number ≡ MarkOf.Outstanding }
     requires owed { 1 ≤ core.old.owed }
-    ensures { core.new ≡ ended_empty left number core.old }
+    ensures { core.new ≡ after_empty_end left number core.old }
 {
     if left == 0 {
         core.tokens.end(number, Status::Success);
@@ -261,7 +262,7 @@ fn keep(
     requires owed { core.old.owed + room.owed < 2 ^ 64 }
     ensures number { IfOk result (λ token. token.number ≡ core.old.accepted) }
     ensures event { IfOk result (λ token. token.event ≡ room.event) }
-    ensures ok { OnOk result (core.new ≡ kept_with core.old tag view.now asked room buffer.items) }
+    ensures ok { OnOk result (core.new ≡ after_keep core.old tag view.now asked room buffer.items) }
     ensures err { OnErr result (core.new ≡ core.old) }
     ensures back { IfErr result (λ back. back.items ≡ buffer.items) }
 {

@@ -4,7 +4,7 @@ ghost use Rattle.token_table.specs.declared.record.Mark.{Mark};
 ghost use Rattle.token_table.specs.Records.{record_at, request_at, mark_at};
 ghost use Rattle.block_gate.specs.Gates.{gate_of, releasing};
 ghost use Rattle.subtask_queue.specs.Subs.{token_of, is_of};
-ghost use Rattle.disk_core.specs.Moves.{entered, finished, with_spare, others, revoked, revoked_one, passing, left_in, without_ticket_of, HasPlace, Ends, Finishes, Fails, MayEnter, Settles};
+ghost use Rattle.disk_core.specs.Moves.{with_entry, after_finish, with_spare, others, without_gates_of, without_gate_of, after_pass, left_in, without_ticket_of, HasPlace, Ends, EntersDone, EntersFault, MayEnter, Settles};
 
 use crate::parts::{Core, Holder};
 use block_gate::Gates;
@@ -31,7 +31,7 @@ pub fn make_room(core: &mut Core, more: u64) -> Result<(), AllocError>
 pub fn enter(core: &mut Core, entry: Entry, paid: u64)
     requires place { HasPlace core.old }
     requires owed { paid ≤ core.old.owed }
-    ensures { core.new ≡ entered core.old entry paid }
+    ensures { core.new ≡ with_entry core.old entry paid }
 {
     core.history.push(entry);
     core.owed -= paid;
@@ -39,7 +39,7 @@ pub fn enter(core: &mut Core, entry: Entry, paid: u64)
 
 // Revokes the gate of a holder, if it is one of this token.
 fn revoke_one(gates: &mut Gates, holder: &Holder, token: u64)
-    ensures { gates.new ≡ revoked_one token holder.now gates.old }
+    ensures { gates.new ≡ without_gate_of token holder.now gates.old }
 {
     if token == holder.token {
         gates.revoke(holder.ticket);
@@ -48,7 +48,7 @@ fn revoke_one(gates: &mut Gates, holder: &Holder, token: u64)
 
 // Revokes the gates of a token.
 fn revoke_of(gates: &mut Gates, holders: &[Holder], token: u64)
-    ensures { gates.new ≡ revoked token holders.now gates.old }
+    ensures { gates.new ≡ without_gates_of token holders.now gates.old }
 {
     for holder in holders {
         revoke_one(gates, holder, token);
@@ -59,7 +59,7 @@ fn revoke_of(gates: &mut Gates, holders: &[Holder], token: u64)
 fn pass(holders: &mut Vec<Holder>, token: u64, at: usize) -> usize
     requires { at < length holders.old.items }
     ensures place { (result + length holders.old.items) ≡ (at + 1) + length holders.new.items }
-    ensures passed { passing token result holders.new.items ≡ passing token at holders.old.items }
+    ensures passed { after_pass token result holders.new.items ≡ after_pass token at holders.old.items }
     ensures places { vec_capacity holders.new ≡ vec_capacity holders.old }
 {
     if token == holders[at].token {
@@ -107,13 +107,13 @@ fn left_of(tokens: &Tokens, token: u64) -> u64
 }
 
 // Enters a done command that finished a unit of so many bytes.
-#[tactic(auto, unfolding(crate::specs::Moves::entered, crate::specs::Moves::finished))]
+#[tactic(auto, unfolding(crate::specs::Moves::with_entry, crate::specs::Moves::after_finish))]
 fn finish_unit(core: &mut Core, unit: &Sub, command: Command, bytes: u64)
     requires outstanding { mark_at core.old.tokens (token_of unit.now) ≡ Mark.Outstanding }
     requires left { IfSome (request_at core.old.tokens (token_of unit.now)) (λ q. bytes ≤ q.left) }
     requires place { HasPlace core.old }
     requires owed { 1 ≤ core.old.owed }
-    ensures { core.new ≡ finished core.old unit.now command bytes }
+    ensures { core.new ≡ after_finish core.old unit.now command bytes }
 {
     let token = unit.token();
     enter(core, Entry::Done { token, command }, 1);
@@ -127,7 +127,7 @@ pub fn finish(core: &mut Core, unit: &Sub, command: Command, bytes: u64)
     requires left { IfSome (request_at core.old.tokens (token_of unit.now)) (λ q. bytes ≤ q.left) }
     requires place { HasPlace core.old }
     requires owed { count_by (is_of (token_of unit.now)) core.old.queue + 2 ≤ core.old.owed }
-    ensures { Finishes core.old core.new unit.now command bytes }
+    ensures { EntersDone core.old core.new unit.now command bytes }
 {
     let token = unit.token();
     let left = left_of(&core.tokens, token);
@@ -138,12 +138,12 @@ pub fn finish(core: &mut Core, unit: &Sub, command: Command, bytes: u64)
 }
 
 /// Enters a command that failed after so many blocks, which ends its request.
-#[tactic(auto, unfolding(crate::specs::Moves::entered))]
+#[tactic(auto, unfolding(crate::specs::Moves::with_entry))]
 pub fn fail(core: &mut Core, token: u64, command: Command, done: u32)
     requires outstanding { mark_at core.old.tokens token ≡ Mark.Outstanding }
     requires place { HasPlace core.old }
     requires owed { count_by (is_of token) core.old.queue + 1 ≤ core.old.owed }
-    ensures { Fails core.old core.new token command done }
+    ensures { EntersFault core.old core.new token command done }
 {
     let entry = Entry::Fault {
         token,

@@ -9,7 +9,7 @@ ghost use Rattle.token_table.specs.declared.record.Mark.{Mark};
 ghost use Rattle.token_table.specs.declared.record.Request.{Request as Kept};
 ghost use Rattle.token_table.specs.Records.{mark_at, request_at, changed};
 ghost use Rattle.disk_core.specs.Commands.{OfMedium};
-ghost use Rattle.disk_core.specs.Moves.{IsDisk, IsFirst, Reaches, HasBytesIn, IsTarget, GetsInto, put_into};
+ghost use Rattle.disk_core.specs.Moves.{IsDisk, IsFirst, Reaches, HasBytesIn, IsTarget, GetsInto, with_bytes_in};
 
 use crate::answers::Step;
 use crate::commands::read_from;
@@ -80,7 +80,7 @@ fn copy_out(core: &mut Core, token: u64, skip: usize, target: &Target)
     ensures { core.new
         ≡ record core.old {
           tokens = changed
-              (put_into target.now.place
+              (with_bytes_in target.now.place
               (take target.now.count (drop skip core.old.group.items))) core.old.tokens token;
         } }
 {

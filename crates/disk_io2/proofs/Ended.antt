@@ -1,20 +1,20 @@
 -- How a token that was served ended, and what its call answers.
-use Rattle.std.proofs.Common.{◌≡◌, ◌≢◌, ◌⊎◌, inl, inr, ℕ, ◌+◌, ◌<◌, ◌≤◌, Bool, true, false, nat_eq, ◌&&◌, List, [], ◌∷◌, ◌++◌, None, Some, is_some, Result, Ok, Err, IfOk, IfErr, refl, sym, ◌∙◌, ap, subst, arith}
+use Rattle.std.proofs.Common.{◌≡◌, ◌≢◌, ◌⊎◌, inl, inr, ℕ, ◌+◌, ◌<◌, ◌≤◌, Bool, true, false, List, ◌∷◌, ◌++◌, None, Some, is_some, Result, Ok, Err, IfOk, IfErr, refl, sym, ◌∙◌, ap, subst, arith}
 use Rattle.std.specs.Global.{Vec}
 use Rattle.std.specs.Result.{IsErrAnd}
 use Rattle.efi_status.specs.declared.Status.{Status}
 use Rattle.efi_status.specs.declared.Status.TheVariants.{Success, DeviceError}
 use Rattle.history.specs.declared.entry.View.{View}
 use Rattle.history.specs.declared.entry.Entry.{Entry}
-use Rattle.history.specs.declared.entry.Entry.TheVariants.{Accept, Done}
-use Rattle.history.specs.Setup.{Setup, IsSetup}
+use Rattle.history.specs.declared.entry.Entry.TheVariants.{Accept}
+use Rattle.history.specs.Setup.{IsSetup}
 use Rattle.history.specs.Eras.{inserts}
 use Rattle.history.specs.Tokens.{Request, accepted, request, was_collected}
-use Rattle.history.specs.Marks.{mark_of, ending, is_complete, status_if}
-use Rattle.history.specs.Next.{first_open, Turn, Outcome, Made, Failed, entry_of}
+use Rattle.history.specs.Marks.{mark_of, is_complete, status_if}
+use Rattle.history.specs.Next.{first_open}
 use Rattle.history_laws.proofs.CountLemmas.{accepted-more, inserts-same}
 use Rattle.history_laws.proofs.TokenLemmas.{collected-same}
-use Rattle.history_laws.proofs.EndLemmas.{mark-next, mark-accept, mark-before, unaccepted, untold-collected}
+use Rattle.history_laws.proofs.EndLemmas.{mark-accept, mark-before, unaccepted, untold-collected}
 use Rattle.history_laws.proofs.NextLemmas.{first-open-fails}
 use Rattle.history_laws.proofs.PlainLemmas.{first-open-collect}
 use Rattle.token_table.specs.declared.record.Done.{Done as DoneToken}
@@ -30,41 +30,11 @@ use Rattle.disk_core.specs.State.{State, Kept}
 use Rattle.disk_core.specs.Facts.{AreFacts}
 use Rattle.disk_core.specs.Calls.{asked_of, bytes_of, buffer_of, Accepts, RefusesFor, Collects, SubmitSays, CollectSays, MarkSays}
 use Rattle.disk_core.proofs.GoingOn.{rest_comes_back}
-use Rattle.disk_io2.specs.Blocking.{AreWhileOpen, ends_in_fault, FaultsRose, Serves, Finishes, CarriesOut, FailsFor, BlockingSays}
+use Rattle.history_laws.specs.Serving.{AreWhileOpen, ends_in_fault}
+use Rattle.history_laws.proofs.ServingLemmas.{EndsAs, IsWell, ends-so, while-request}
+use Rattle.history_laws.proofs.AloneLemmas.{own-in-order, none-open}
+use Rattle.disk_io2.specs.Blocking.{FaultsRose, Serves, Finishes, CarriesOut, FailsFor, BlockingSays}
 use Rattle.disk_io2.proofs.Faults.{faults-from, faults-to}
-use Rattle.disk_io2.proofs.Serving.{while-request}
-use Rattle.disk_io2.proofs.Alone.{own-in-order, none-open}
-
--- it succeeded by a last command that was done, or by its accept; or failed by one that failed
-abbrev pub Ends : Status → Bool → Type 0
-Ends status failed = ((status ≡ Success) × (failed ≡ false)) ⊎ ((status ≡ DeviceError) × (failed ≡ true))
-
--- it is outstanding or has succeeded
-abbrev pub IsWell : Setup → List Entry → ℕ → Type 0
-IsWell S H t = (mark_of S H t ≡ None) ⊎ (mark_of S H t ≡ Some Success)
-
-if-status : (b : Bool) (s status : Status) → status_if b s ≡ Some status → status ≡ s
-if-status true s status is = cc
-if-status false s status is = cc
-
-same-status : (s status : Status) → Some s ≡ Some status → status ≡ s
-same-status s status e = cc
-
-no-status : (status : Status) → None ≡ Some status → ⊥
-no-status status e = cc
-
-ends-turn : (S : Setup) (G : List Entry) (t : ℕ) (turn : Turn) (outcome : Outcome) (status : Status) (cs : List Entry) → ending S G (entry_of turn outcome) t ≡ Some status → Ends status (ends_in_fault (entry_of turn outcome ∷ cs))
-unfolding ending
-ends-turn S G t turn Made status cs ends = inl (if-status (nat_eq turn.token t && is_complete S (Done turn.token turn.command ∷ G) t) Success status ends, refl)
-ends-turn S G t turn (Failed done) status cs ends = inr (if-status (nat_eq turn.token t) DeviceError status ends, refl)
-
-ends-so : (S : Setup) (H : List Entry) (t : ℕ) (cs : List Entry) (status : Status) → AreWhileOpen S H t cs → IsWell S H t → mark_of S (cs ++ H) t ≡ Some status → Ends status (ends_in_fault cs)
-unfolding AreWhileOpen
-ends-so S H t [] status all (inl none) marked = absurd (no-status status (sym none ∙ marked))
-ends-so S H t [] status all (inr well) marked = inl (same-status Success status (sym well ∙ marked), refl)
-ends-so S H t (e ∷ cs) status (next, all) well marked =
-    let ends : ending S (cs ++ H) e t ≡ Some status = sym (mark-next S (cs ++ H) e t next.outstanding.unmarked) ∙ marked in
-    rw next.entry (ends-turn S (cs ++ H) t next.turn next.outcome status cs (rw next.entry at ends))
 
 -- whether a token that was not handed back is outstanding
 module _ (s : State) (t : ℕ) (uncollected : was_collected s.entries t ≡ false) (there : t < accepted s.entries) where
@@ -98,7 +68,7 @@ module _ (begun served new : State) (tag t : ℕ) (serves : Serves begun t serve
       marked : mark_of begun.setup (serves.commands ++ begun.entries) t ≡ Some status
       marked = subst (λ H. mark_of begun.setup H t ≡ Some status) serves.entries (subst (λ S. mark_of S served.entries t ≡ Some status) serves.goes_on.setup collects.marked)
 
-      by : Ends status (ends_in_fault serves.commands) → Handed status buffer
+      by : EndsAs status (ends_in_fault serves.commands) → Handed status buffer
       by (inl (is, last)) = inl (is, finishes status Success false buffer q was is last collects)
       by (inr (is, last)) = inr (is, finishes status DeviceError true buffer q was is last collects)
 

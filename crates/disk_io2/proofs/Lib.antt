@@ -1,6 +1,4 @@
 mod Faults
 mod Serving
 mod Ended
-mod Alone
 mod ReadOff
-mod Outside

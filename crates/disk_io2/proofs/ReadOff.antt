@@ -9,7 +9,7 @@ use Rattle.history.specs.Setup.{Setup, size_of, opening_of, opening_blocks, open
 use Rattle.history.specs.Eras.{media_id_of, is_present}
 use Rattle.history_laws.specs.Ranges.{AreToldWhole}
 use Rattle.disk_core.specs.State.{opening_from, setup_of}
-use Rattle.disk_io2.specs.Views.{whole_of}
+use Rattle.disk_io2.specs.Views.{whole_view_in}
 
 -- what holds of each element holds of that of a place
 all-at : {X : Type 0} (P : X → Type 0) (xs : List X) (i : ℕ) (x : X) → slice_get xs i ≡ Some x → All P xs → P x
@@ -67,10 +67,10 @@ module _ {M : Type 0} (device : M → Device) (shaped : (m : M) → IsShaped (de
 
 -- the whole of the medium that is in
 pub whole-is : (S : Setup) (H : List Entry) (blocks size id : ℕ) → true ≡ is_present H → id ≡ media_id_of H → blocks ≡ blocks_of S id → size ≡ size_of S
-    → Some (record { start = 0; length = blocks * size; media_id = id; index = 0 }) ≡ whole_of S H
-unfolding whole_of
+    → Some (record { start = 0; length = blocks * size; media_id = id; index = 0 }) ≡ whole_view_in S H
+unfolding whole_view_in
 whole-is S H blocks size id present named blocks_are size_is = rw (sym present, blocks_are, size_is, named) refl
 
-pub none-whole : (S : Setup) (H : List Entry) → false ≡ is_present H → None ≡ whole_of S H
-unfolding whole_of
+pub none-whole : (S : Setup) (H : List Entry) → false ≡ is_present H → None ≡ whole_view_in S H
+unfolding whole_view_in
 none-whole S H present = rw (sym present) refl

@@ -1,6 +1,6 @@
 -- What a blocking call does: its request is accepted, served to its end by commands alone, and handed back (UEFI 2.10, 13.7 and 13.9; which
 -- commands, and in which order: own profile). Histories and lists of commands stand newest entry first.
-use Rattle.std.specs.Prelude.{◌≡◌, ℕ, ◌≤◌, ◌⊎◌, Bool, true, false, List, [], ◌∷◌, ◌++◌, slice_get, None, Some, Result, Ok, Err}
+use Rattle.std.specs.Prelude.{◌≡◌, ℕ, ◌≤◌, ◌⊎◌, Bool, true, false, List, ◌++◌, slice_get, None, Some, Result, Ok, Err}
 use Rattle.std.specs.Global.{Vec}
 use Rattle.efi_status.specs.declared.Status.{Status}
 use Rattle.efi_status.specs.declared.Status.TheVariants.{Success, DeviceError}
@@ -8,40 +8,19 @@ use Rattle.medium.specs.Device.{Device}
 use Rattle.medium.specs.Counts.{Rose}
 use Rattle.history.specs.declared.entry.View.{View}
 use Rattle.history.specs.declared.entry.Entry.{Entry}
-use Rattle.history.specs.declared.entry.Entry.TheVariants.{Done, Fault}
 use Rattle.history.specs.Setup.{Setup}
-use Rattle.history.specs.Eras.{inserts, is_fault}
+use Rattle.history.specs.Eras.{inserts}
 use Rattle.history.specs.Tokens.{Request}
-use Rattle.history.specs.Commands.{first_block}
-use Rattle.history.specs.Marks.{IsOutstanding}
-use Rattle.history.specs.Next.{first_open, Turn, next_turn, Outcome, entry_of}
-use Rattle.history.specs.Room.{is_command_of}
+use Rattle.history.specs.Next.{first_open}
 use Rattle.disk_core.specs.declared.answers.Ask.{Ask}
 use Rattle.disk_core.specs.declared.answers.Refused.{Refused}
 use Rattle.disk_core.specs.declared.answers.Token.{Token}
 use Rattle.disk_core.specs.declared.answers.Why.{Why}
 use Rattle.disk_core.specs.declared.answers.Why.TheVariants as why
 use Rattle.disk_core.specs.State.{State, Kept}
-use Rattle.disk_core.specs.Calls.{asked_of, bytes_of, buffer_of, low_in, Accepts, Refuses, Forgets, Collects}
+use Rattle.disk_core.specs.Calls.{asked_of, bytes_of, buffer_of, Accepts, Refuses, Forgets, Collects}
+use Rattle.history_laws.specs.Serving.{AreWhileOpen, ends_in_fault, AreOwnInOrder}
 use Rattle.disk_core.specs.GoingOn.{IsBufferRest, GoesOn}
-
--- one more command while the token is outstanding: the one that comes next
-pub record Continues (S : Setup) (H : List Entry) (t : ℕ) (e : Entry) : Type 0 where
-  pub outstanding : IsOutstanding S H t
-  pub turn : Turn
-  pub outcome : Outcome
-  pub next : next_turn S H ≡ Some turn
-  pub entry : e ≡ entry_of turn outcome
-
--- commands on top of a history, for as long as the token is outstanding and no longer
-unfoldable pub AreWhileOpen : Setup → List Entry → ℕ → List Entry → Type 0
-AreWhileOpen S H t [] = Unit {0}
-AreWhileOpen S H t (e ∷ earlier) = Continues S (earlier ++ H) t e × AreWhileOpen S H t earlier
-
--- the last of them failed
-abbrev pub ends_in_fault : List Entry → Bool
-ends_in_fault [] = false
-ends_in_fault (e ∷ earlier) = is_fault e
 
 -- the medium that is in before and after, with what became of its faults
 pub record OnFaults (old new : State) (become : ℕ → ℕ → Type 0) : Type 0 where
@@ -72,21 +51,6 @@ pub record Finishes (old : State) (tag t : ℕ) (status : Status) (failed : Bool
   pub asked : Request
   pub was : Kept
   pub collects : Collects served tag t status buffer new asked was
-
--- the first byte of a request that a command of it is for
-abbrev pub first_byte : Setup → Request → Entry → ℕ
-first_byte S q (Done t c) = low_in S q (first_block c)
-first_byte S q (Fault t c done) = low_in S q (first_block c)
-first_byte S q e = 0
-
-abbrev pub IsBehind : Setup → Request → Entry → List Entry → Type 0
-IsBehind S q e [] = Unit {0}
-IsBehind S q e (before ∷ earlier) = first_byte S q before ≤ first_byte S q e
-
--- commands of this token alone, in order of byte
-unfoldable pub AreOwnInOrder : Setup → ℕ → Request → List Entry → Type 0
-AreOwnInOrder S t q [] = Unit {0}
-AreOwnInOrder S t q (e ∷ earlier) = (is_command_of t e ≡ true) × IsBehind S q e earlier × AreOwnInOrder S t q earlier
 
 -- a token that is served alone: no command is of another one, and none is outstanding afterwards
 pub record IsServedAlone (S : Setup) (t : ℕ) (q : Request) (commands : List Entry) (new : State) : Type 0 where

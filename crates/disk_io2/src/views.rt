@@ -1,7 +1,8 @@
 ghost use Rattle.std.specs.Prelude.{◌≡◌, ℕ};
 ghost use Rattle.history.specs.Contents.{pieces_of};
 ghost use Rattle.history_laws.specs.Ranges.{AreInViews};
-ghost use Rattle.disk_io2.specs.Views.{whole_of, OutsideStays};
+ghost use Rattle.disk_io2.specs.Views.{whole_view_in};
+ghost use Rattle.history_laws.specs.Ranges.{OutsideStays};
 
 use disk_core::Disk;
 use history::View;
@@ -9,7 +10,7 @@ use medium::Medium;
 
 /// The whole of the medium that is in, as a view with the index 0. None exactly where no medium is in.
 pub fn whole<M: Medium>(disk: &Disk<M>) -> Option<View>
-    ensures { result ≡ whole_of disk.now.setup disk.now.entries }
+    ensures { result ≡ whole_view_in disk.now.setup disk.now.entries }
 {
     let drive = disk.drive();
     if !drive.present() {

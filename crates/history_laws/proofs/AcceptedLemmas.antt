@@ -15,8 +15,7 @@ use Rattle.history_laws.proofs.CountLemmas.{accepted-more}
 use Rattle.history_laws.proofs.MediaLemmas.{media-id-same}
 use Rattle.history_laws.proofs.TicketLemmas.{holds-by-before, holds-by-stays}
 use Rattle.history_laws.proofs.TokenLemmas.{accept-concerns, mark-other}
-use Rattle.std.proofs.Common.{List, [], ap, arith, inl, inr, refl, ℕ, ◌*◌, ◌++◌, ◌+◌, ◌<◌, ◌∙◌, ◌∷◌, ◌≡◌, ◌≢◌, ◌≤◌}
-use Rattle.std.specs.Prelude.{if◌then◌else◌}
+use Rattle.std.proofs.Common.{List, ap, arith, inl, inr, refl, ℕ, ◌+◌, ◌<◌, ◌∙◌, ◌∷◌, ◌≡◌, ◌≢◌}
 
 module _ (S : Setup) (H : List Entry) (tag : ℕ) (view : View) (asked : Asked) (bytes : List ℕ) (setup : IsSetup S) (legal : IsLegal S H) (may : MayAccept S H view asked bytes) where
   abbrev e : Entry

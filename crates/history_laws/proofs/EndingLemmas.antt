@@ -7,7 +7,7 @@ use Rattle.history_laws.proofs.EndLemmas.{mark-next, command-open}
 use Rattle.history_laws.proofs.PendingEndLemmas.{pending-ends}
 use Rattle.history_laws.proofs.PendingLemmas.{filter-alike, pending-is}
 use Rattle.history_laws.proofs.QuietLemmas.{IsEnding}
-use Rattle.std.proofs.Common.{List, ap, sym, ◌*◌, ◌+◌, ◌<◌, ◌∙◌, ◌∷◌, ◌≡◌, ◌≤◌, ℕ}
+use Rattle.std.proofs.Common.{List, ap, sym, ◌∙◌, ◌∷◌, ◌≡◌, ℕ}
 use Rattle.std.specs.Prelude.{filter, is_none}
 use Rattle.history.specs.Rules.{MayFollow}
 use Rattle.history.specs.declared.entry.Command.{Command}

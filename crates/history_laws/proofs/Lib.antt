@@ -48,3 +48,9 @@ pub mod TurnOwedLemmas
 pub mod OneMediumLemmas
 pub mod TurnNoneLemmas
 pub mod RequestLemmas
+pub mod OwedSoFarLemmas
+pub mod ServingLemmas
+pub mod AloneLemmas
+pub mod OutsideLemmas
+pub mod StoredLemmas
+pub mod FilterLemmas

@@ -1,5 +1,5 @@
 -- A disk of one medium has one era.
-use Rattle.std.proofs.Common.{List, [], ap, arith, false, inl, inr, length, refl, sym, ℕ, ◌*◌, ◌+◌, ◌<◌, ◌∙◌, ◌∷◌, ◌≡◌, ◌≤◌}
+use Rattle.std.proofs.Common.{List, [], ap, arith, false, inl, inr, length, refl, sym, ℕ, ◌+◌, ◌∙◌, ◌∷◌, ◌≡◌}
 use Rattle.std.proofs.lemmas.Bool.{cases_Bool}
 use Rattle.history.specs.Eras.{era_count, era_faults, inserts, is_fault, is_insert, media_id_of}
 use Rattle.history.specs.Room.{faults}

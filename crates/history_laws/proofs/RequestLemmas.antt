@@ -1,7 +1,6 @@
 -- What a request asks for, and the bytes that it puts or leaves.
-use Rattle.std.proofs.Common.{List, [], ap, arith, false, inl, inr, length, max, min, nat_eq, refl, slice_get, true, ℕ, ◌%◌, ◌&&◌, ◌*◌, ◌++◌, ◌+◌, ◌-◌, ◌<◌, ◌^◌, ◌∙◌, ◌∷◌, ◌≡◌, ◌≤◌}
+use Rattle.std.proofs.Common.{List, ap, arith, false, inl, inr, length, max, min, nat_eq, refl, slice_get, true, ℕ, ◌&&◌, ◌*◌, ◌+◌, ◌-◌, ◌∙◌, ◌≡◌, ◌≤◌}
 use Rattle.std.proofs.lemmas.Bool.{and_parts, cases_lt, eqb-true, le-leb, ltb-false}
-use Rattle.std.specs.Prelude.{if◌then◌else◌}
 use Rattle.byte_lists.proofs.Patches.{patch-before, patch-behind}
 use Rattle.byte_lists.specs.Patching.{patch}
 use Rattle.history.specs.Commands.{lies_in}

@@ -13,7 +13,7 @@ use Rattle.history_laws.proofs.QuietLemmas.{IsStill, no-done, no-fetch, no-store
 use Rattle.history_laws.proofs.TicketLemmas.{holds-by-before, holds-by-stays}
 use Rattle.history_laws.proofs.TokenLemmas.{or_else-none}
 use Rattle.history_laws.specs.Left.{left_of}
-use Rattle.std.proofs.Common.{List, ap, inl, inr, subst, sym, ℕ, ◌*◌, ◌<◌, ◌∙◌, ◌∷◌, ◌≡◌}
+use Rattle.std.proofs.Common.{List, ap, inl, inr, subst, sym, ℕ, ◌<◌, ◌∙◌, ◌∷◌, ◌≡◌}
 use Rattle.std.proofs.lemmas.Bool.{true≢false}
 
 module _ (S : Setup) (H : List Entry) (e : Entry) (still : IsStill S H e) where

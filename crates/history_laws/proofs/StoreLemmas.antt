@@ -10,7 +10,7 @@ use Rattle.history_laws.proofs.HoldingLemmas.{held-open}
 use Rattle.history_laws.proofs.TicketLemmas.{holds-by-before}
 use Rattle.history_laws.proofs.TokenLemmas.{done-concerns, mark-other}
 use Rattle.history_laws.specs.Gates.{is_store_of}
-use Rattle.std.proofs.Common.{List, None, Some, false, inl, inr, subst, sym, ℕ, ◌&&◌, ◌<◌, ◌∙◌, ◌∷◌, ◌≡◌, ◌≢◌}
+use Rattle.std.proofs.Common.{List, None, Some, false, inl, inr, subst, sym, ℕ, ◌&&◌, ◌∙◌, ◌∷◌, ◌≡◌, ◌≢◌}
 use Rattle.std.proofs.lemmas.Bool.{and_parts, cases_eq, eqb-true, false_from_ne_true, ne_eqb}
 use Rattle.std.specs.Prelude.{nat_eq}
 

@@ -1,5 +1,5 @@
 -- The units of a token in their order: none finishes twice, and where its command begins.
-use Rattle.std.proofs.Common.{Bool, List, Some, [], ap, arith, false, if◌then◌else◌, refl, slice_get, subst, suc, sym, true, zero, ℕ, ◌++◌, ◌+◌, ◌<◌, ◌∙◌, ◌∷◌, ◌≡◌, ◌≤◌, ◌⊎◌}
+use Rattle.std.proofs.Common.{Bool, List, Some, [], ap, arith, false, if◌then◌else◌, refl, slice_get, subst, suc, sym, true, zero, ℕ, ◌<◌, ◌∙◌, ◌∷◌, ◌≡◌}
 use Rattle.history.specs.Commands.{first_block, is_sync}
 use Rattle.history.specs.Marks.{was_fetched}
 use Rattle.history.specs.Setup.{Setup}

@@ -1,5 +1,5 @@
 -- Where no token is outstanding no command comes next.
-use Rattle.std.proofs.Common.{List, None, [], ℕ, ◌&&◌, ◌++◌, ◌+◌, ◌-◌, ◌<◌, ◌||◌, ◌∙◌, ◌∷◌, ◌≡◌, ◌≤◌, ◌⊎◌}
+use Rattle.std.proofs.Common.{List, None, ℕ, ◌<◌, ◌≡◌}
 use Rattle.history.specs.Marks.{mark_of}
 use Rattle.history.specs.Next.{first_open, next_turn}
 use Rattle.history.specs.Setup.{Setup}

@@ -1,5 +1,5 @@
 -- A command that comes next lowers the entries owed.
-use Rattle.std.proofs.Common.{List, [], arith, ◌++◌, ◌+◌, ◌<◌, ◌∙◌, ◌∷◌, ◌≡◌, ◌≤◌, ◌⊎◌}
+use Rattle.std.proofs.Common.{List, arith, ◌+◌, ◌∷◌, ◌≤◌}
 use Rattle.history.specs.Next.{Failed, Made, Outcome, Turn, entry_of}
 use Rattle.history.specs.Room.{owed_entries}
 use Rattle.history.specs.Rules.{IsLegal, MayFollow}

@@ -7,3 +7,6 @@ pub mod Eras
 pub mod Turns
 pub mod Pending
 pub mod Left
+pub mod OwedSoFar
+pub mod Costs
+pub mod Serving

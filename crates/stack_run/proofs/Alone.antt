@@ -1,20 +1,12 @@
 -- A disk with one medium stays in its first era.
-use Rattle.std.proofs.Common.{◌≡◌, inl, inr, ℕ, zero, suc, ◌+◌, ◌<◌, false, List, [], ◌∷◌, length, slice_get, Option, None, Some, option_map, All, subst, refl, sym, ◌∙◌, ap, arith}
-use Rattle.std.proofs.lemmas.Bool.{cases_Bool}
+use Rattle.std.proofs.Common.{◌≡◌, ℕ, zero, suc, ◌<◌, false, List, [], ◌∷◌, length, slice_get, Option, None, Some, option_map, All, subst, refl, sym, ◌∙◌, ap, arith}
 use Rattle.std.proofs.lemmas.Option.{slice_get-map, slice_get_within, get_or_from_slice_get}
 use Rattle.medium.specs.Device.{Device}
 use Rattle.drive.specs.Drives.{DriveState, FitTheDrive, devices_of}
-use Rattle.history.specs.declared.entry.Entry.{Entry}
-use Rattle.history.specs.declared.entry.Entry.TheVariants.{Insert}
-use Rattle.history.specs.Setup.{Setup, size_of, opening_blocks, blocks_of}
-use Rattle.history.specs.Eras.{is_insert, inserts, media_id_of, is_fault, era_count, era_faults}
-use Rattle.history.specs.Rules.{MayFollow, IsLegal}
-use Rattle.history.specs.Room.{faults}
+use Rattle.history.specs.Setup.{size_of, opening_blocks, blocks_of}
 use Rattle.disk_core.specs.State.{State, setup_of}
 use Rattle.disk_core.specs.Facts.{MeetsEra, AreFacts}
 use Rattle.stack_run.specs.Serving.{disk_over}
-use Rattle.history_laws.proofs.CountLemmas.{inserts-none, inserts-same, faults-more, faults-same}
-use Rattle.history_laws.proofs.EraLemmas.{era_count-same, era_count-more}
 
 -- what holds of the one element holds of each
 pub all-one : {X : Type 0} (P : X → Type 0) (xs : List X) (x : X) → xs ≡ x ∷ [] → P x → All P xs

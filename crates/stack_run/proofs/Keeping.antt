@@ -24,12 +24,12 @@ use Rattle.disk_core.specs.Calls.{Collects}
 use Rattle.history_laws.specs.Told.{concerns}
 use Rattle.history_laws.proofs.CountLemmas.{accepted-more, accepted-same}
 use Rattle.history_laws.proofs.TokenLemmas.{request-other, mark-other, bytes_read-other, accept-concerns, request-accept, request-kept, request-same, collected-same}
-use Rattle.history_laws.proofs.NextLemmas.{first-open-fails}
 use Rattle.history_laws.proofs.PlainLemmas.{mark-collect, first-open-collect}
 use Rattle.script_text.specs.declared.report.parts.TokenLine.{TokenLine}
 use Rattle.stack_run.specs.Plain.{whole_view, payload_bytes, after_answer, collects, after_own_collects, after_all_collects}
 use Rattle.script_text.specs.Report.{is_success, gives_bytes, AreBytesRead}
-use Rattle.stack_run.specs.Keeping.{Stays, IsEnd, Keeps, given_of, CollectsNext, CollectsFirst, CollectsAll, Answers}
+use Rattle.stack_run.specs.Keeping.{IsEnd, Keeps, given_of, CollectsNext, CollectsFirst, CollectsAll, Answers}
+use Rattle.history_laws.specs.Serving.{Stays}
 use Rattle.stack_run.proofs.Collecting.{collects-last, collects-none, with-collect}
 
 -- an item of a list with one more behind it

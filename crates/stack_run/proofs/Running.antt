@@ -11,7 +11,6 @@ use Rattle.history.specs.declared.order.Order.{Order}
 use Rattle.history.specs.declared.order.Order.TheVariants as order
 use Rattle.history.specs.declared.order.Payload.{Payload}
 use Rattle.history.specs.Setup.{Setup, IsSetup, size_of, blocks_of}
-use Rattle.history.specs.Eras.{inserts, media_id_of}
 use Rattle.history.specs.Tokens.{accepted, request, was_collected}
 use Rattle.history.specs.Marks.{mark_of}
 use Rattle.history.specs.Next.{first_open}

@@ -1,71 +1,27 @@
 -- What a step of the disk is in the schedule, and what it leaves.
-use Rattle.std.proofs.Common.{◌≡◌, ℕ, ◌+◌, ◌≤◌, Bool, true, false, List, ◌∷◌, None, Some, refl, sym, ◌∙◌, ap, subst, arith}
-use Rattle.efi_status.specs.declared.Status.{Status}
+use Rattle.std.proofs.Common.{◌≡◌, ℕ, ◌+◌, ◌≤◌, Bool, true, false, List, Some, refl, sym, ◌∙◌, ap, subst, arith}
 use Rattle.history.specs.declared.entry.Entry.{Entry}
 use Rattle.history.specs.declared.order.Order.{Order}
 use Rattle.history.specs.Setup.{Setup, IsSetup}
-use Rattle.history.specs.Tokens.{Request}
-use Rattle.history.specs.Marks.{mark_of}
-use Rattle.history.specs.Rules.{MayFollow, IsLegal}
-use Rattle.history.specs.Tasks.{Task}
-use Rattle.history.specs.Next.{first_open, Turn, next_turn, Outcome, Made, Failed, entry_of}
+use Rattle.history.specs.Next.{first_open, Turn, Outcome, Made}
 use Rattle.history.specs.Room.{owed_entries}
 use Rattle.block_gate.specs.Works.{Lent}
 use Rattle.disk_core.specs.declared.answers.Step.TheVariants as step
-use Rattle.disk_core.specs.declared.answers.Stored.{Stored}
 use Rattle.disk_core.specs.declared.answers.Stored.TheVariants as stored
 use Rattle.disk_core.specs.State.{State}
 use Rattle.disk_core.specs.Facts.{AreFacts}
 use Rattle.disk_core.specs.Calls.{is_fetched, StepSays, StoreSays}
-use Rattle.disk_core.specs.Turns.{IsIdle, KeepsGates, TakesTurn, StepTurns, merged, StoresAtOnce}
-use Rattle.disk_core.proofs.TurnLemmas.{steps-turn}
-use Rattle.disk_core.proofs.AtOnceLemmas.{stores-merged}
+use Rattle.disk_core.specs.Turns.{IsIdle, TakesTurn, StepTurns, merged, StoresAtOnce}
+use Rattle.disk_core.proofs.TurnLemmas.{steps-turn, taken-lowers}
+use Rattle.disk_core.proofs.AtOnceLemmas.{answered}
 use Rattle.disk_core.proofs.IdleLemmas.{idle-stays}
-use Rattle.history_laws.proofs.SpareLemmas.{entries-done, entries-fault}
-use Rattle.history_laws.proofs.EndLemmas.{mark-stays}
-use Rattle.history_laws.proofs.TokenLemmas.{bytes_read-other}
-use Rattle.history_laws.proofs.PlainLemmas.{IsTurnOf, turn-of, turn-open, turn-concerns, turn-accepted, turn-request, turn-collected}
+use Rattle.history_laws.proofs.PlainLemmas.{turn-open}
 use Rattle.stack_run.specs.Leading.{Leads, IsTurned, Stay}
-use Rattle.stack_run.specs.Keeping.{Stays, Steps, StepsOnce, Waits}
+use Rattle.history_laws.specs.Serving.{Stays}
+use Rattle.history_laws.proofs.ServingLemmas.{stays-same, stays-on, stays-turn}
+use Rattle.stack_run.specs.Keeping.{Steps, StepsOnce, Waits}
 use Rattle.stack_run.proofs.Leading.{leads-same, leads-on, leads-step, step-did, step-fetched, step-drained}
 use Rattle.history_laws.proofs.TurnNoneLemmas.{drained-turn}
-use Rattle.history_laws.proofs.TurnOwedLemmas.{turn-lowers}
-
-pub stays-same : (S : Setup) (H : List Entry) → Stays S H H
-stays-same S H = record {
-  count = refl;
-  named = λ t. refl;
-  collected = λ t. refl;
-  marked = λ t status was. was;
-  given = λ t status was x. refl;
-}
-
-pub stays-on : (S : Setup) (H G H' : List Entry) → Stays S H G → Stays S G H' → Stays S H H'
-stays-on S H G H' first then = record {
-  count = then.count ∙ first.count;
-  named = λ t. then.named t ∙ first.named t;
-  collected = λ t. then.collected t ∙ first.collected t;
-  marked = λ t status was. then.marked t status (first.marked t status was);
-  given = λ t status was x. then.given t status (first.marked t status was) x ∙ first.given t status was x;
-}
-
-stays-turn : (S : Setup) (H : List Entry) (turn : Turn) (outcome : Outcome) → next_turn S H ≡ Some turn → Stays S H (entry_of turn outcome ∷ H)
-stays-turn S H turn outcome next = by (turn-of S H turn next)
-  where
-    by : (t : ℕ) × (r : Request) × (task : Task) × IsTurnOf S H turn t r task → Stays S H (entry_of turn outcome ∷ H)
-    by (u, r, task, of) = record {
-      count = turn-accepted H turn outcome;
-      named = turn-request H turn outcome;
-      collected = turn-collected H turn outcome;
-      marked = λ t status was. mark-stays S H (entry_of turn outcome) t status was;
-      given = λ t status was x. bytes_read-other S H (entry_of turn outcome) t x (turn-concerns H turn outcome t (λ same. other t status was same));
-    }
-      where
-        other : (t : ℕ) (status : Status) → mark_of S H t ≡ Some status → turn.token ≡ t → ⊥
-        other t status was same =
-            let e : u ≡ t = ap (λ (v : Turn). v.token) of.is ∙ same in
-            let f : mark_of S H t ≡ None = rw (← e) of.open_.unmarked in
-            cc
 
 is-turned : (old new : State) (turn : Turn) (outcome : Outcome) (fetched : Bool) → TakesTurn old turn outcome new → is_fetched turn.command outcome ≡ fetched → IsTurned old.setup old.entries new.entries fetched
 is-turned old new turn outcome fetched takes answer = record {
@@ -78,12 +34,6 @@ is-turned old new turn outcome fetched takes answer = record {
 
 stays-taken : (old new : State) (turn : Turn) (outcome : Outcome) → TakesTurn old turn outcome new → Stays old.setup old.entries new.entries
 stays-taken old new turn outcome takes = rw (takes.makes.entries) (stays-turn old.setup old.entries turn outcome takes.next)
-
-taken-lowers : (old new : State) (turn : Turn) (outcome : Outcome) → IsSetup old.setup → TakesTurn old turn outcome new → owed_entries old.setup new.entries + 1 ≤ owed_entries old.setup old.entries
-taken-lowers old new turn outcome is takes =
-    let legal : IsLegal old.setup (entry_of turn outcome ∷ old.entries) =
-    subst (λ S. IsLegal S (entry_of turn outcome ∷ old.entries)) takes.makes.setup (subst (λ H. IsLegal new.setup H) takes.makes.entries takes.makes.legal) in
-    rw (takes.makes.entries) (turn-lowers old.setup old.entries turn outcome is legal)
 
 -- the disk before a step
 module _ (old : State) (is : IsSetup old.setup) (facts : AreFacts old) (idle : IsIdle old.gates) where
@@ -102,13 +52,9 @@ module _ (old : State) (is : IsSetup old.setup) (facts : AreFacts old) (idle : I
         };
       }
 
-  -- a store of a merged work has no other answer
-  pub answered : (mid new : State) (w w' : Lent) (answer : Stored) → StepSays old (step.Lent w) mid → w' ≡ merged w → StoreSays mid w' answer new → StoresAtOnce old mid answer new
-  answered mid new w w' answer says merges stores = stores-merged old mid new w answer is facts idle says (subst (λ v. StoreSays mid v answer new) merges stores)
-
   -- a done fetch, and its store
   pub stored-at-once : (mid new : State) (w w' : Lent) → StepSays old (step.Lent w) mid → w' ≡ merged w → StoreSays mid w' stored.Did new → StepsOnce old true new
-  stored-at-once mid new w w' says merges stores = by (steps-turn old mid (step.Lent w) is facts idle.held idle.free says) (answered mid new w w' stored.Did says merges stores)
+  stored-at-once mid new w w' says merges stores = by (steps-turn old mid (step.Lent w) is facts idle.held idle.free says) (answered old is facts idle mid new w w' stored.Did says merges stores)
     where
       by : StepTurns old (step.Lent w) mid → StoresAtOnce old mid stored.Did new → StepsOnce old true new
       by (turn, takes, fetched) (turn', outcome, stores) =
@@ -128,10 +74,6 @@ module _ (old : State) (is : IsSetup old.setup) (facts : AreFacts old) (idle : I
             };
           }
 
-  -- an idle step does not come
-  pub never-idle : (new : State) → StepSays old step.Idle new → ⊥
-  never-idle new says = steps-turn old new step.Idle is facts idle.held idle.free says
-
 -- no token is outstanding
 pub drained : (old new : State) → StepSays old step.Drained new → StepsOnce old false new
 unfolding StepSays
@@ -144,17 +86,6 @@ drained old new (same, none) = record { keeps = record { setup = ap (λ s. s.set
       going = λ going. cc;
       over = λ over. (none, refl);
     }
-
--- the gates of two calls, one after the other
-pub keeps-same : (s : State) → KeepsGates s s
-keeps-same s = record { setup = refl; gates = refl }
-
-pub keeps-on : (old mid new : State) → KeepsGates old mid → KeepsGates mid new → KeepsGates old new
-keeps-on old mid new first then = record { setup = then.setup ∙ first.setup; gates = then.gates ∙ first.gates }
-
--- they are idle after a call as before it
-pub idle-on : (old new : State) → KeepsGates old new → IsIdle old.gates → IsIdle new.gates
-idle-on old new keeps idle = subst IsIdle (sym keeps.gates) idle
 
 pub waits-none : (S : Setup) (H : List Entry) → Waits S H H
 waits-none S H = record { stays = stays-same S H; leads = λ lines stay. leads-same S H lines }

@@ -12,23 +12,15 @@ use Rattle.history.specs.declared.order.Payload.{Payload}
 use Rattle.history.specs.Setup.{Setup}
 use Rattle.history.specs.Tokens.{Request, accepted, request, was_collected}
 use Rattle.history.specs.Marks.{mark_of}
-use Rattle.history.specs.Contents.{bytes_read}
 use Rattle.history.specs.Room.{owed_entries}
 use Rattle.history.specs.Next.{first_open}
+use Rattle.history_laws.specs.Serving.{Stays}
 use Rattle.disk_core.specs.State.{State}
 use Rattle.disk_core.specs.Turns.{KeepsGates}
 use Rattle.script_text.specs.declared.report.parts.TokenLine.{TokenLine}
 use Rattle.script_text.specs.Report.{IsGiven}
 use Rattle.stack_run.specs.Plain.{after_answer, collects, after_own_collects, after_all_collects}
 use Rattle.stack_run.specs.Leading.{IsStep, Leads, Stay}
-
--- the later history has the same tokens, and the ended ones are as they were
-pub record Stays (S : Setup) (H H' : List Entry) : Type 0 where
-  pub count : accepted H' ≡ accepted H
-  pub named : (t : ℕ) → request H' t ≡ request H t
-  pub collected : (t : ℕ) → was_collected H' t ≡ was_collected H t
-  pub marked : (t : ℕ) (status : Status) → mark_of S H t ≡ Some status → mark_of S H' t ≡ Some status
-  pub given : (t : ℕ) (status : Status) → mark_of S H t ≡ Some status → (x : ℕ) → bytes_read S H' t x ≡ bytes_read S H t x
 
 -- a step of the schedule, and whether a token was outstanding
 pub record Steps (S : Setup) (H H' : List Entry) (some : Bool) : Type 0 where

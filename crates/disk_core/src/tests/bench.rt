@@ -30,6 +30,8 @@ pub enum Call {
     // The same, with its byte 3 set to 7 between them.
     StoreSpoilt(u64),
     StoreHeld(u64),
+    // Gives up the work of this ticket.
+    Discard(u64),
     Held,
     WorksOut,
     FreeSets,
@@ -263,6 +265,16 @@ fn store_spoilt(bench: &mut Bench, ticket: u64) -> Answer {
     }
 }
 
+fn give_up(bench: &mut Bench, ticket: u64) -> Answer {
+    match take_work(bench, ticket) {
+        Some(work) => {
+            work.discard();
+            Answer::Nothing
+        }
+        None => Answer::NoWork,
+    }
+}
+
 fn store_held(disk: &mut Disk<Media>, ticket: u64) -> Answer {
     match disk.store_held(ticket) {
         HeldStored::Did => Answer::Did,
@@ -318,14 +330,14 @@ fn events(bench: &mut Bench) -> Answer {
 }
 
 fn eject(disk: &mut Disk<Media>) -> Answer {
-    match disk.eject(1) {
+    match disk.eject(2) {
         Ok(count) => Answer::Count(count),
         Err(EjectRefused::NoMedia) => Answer::Refused(Status::NoMedia),
     }
 }
 
 fn insert(disk: &mut Disk<Media>) -> Answer {
-    match disk.insert(1) {
+    match disk.insert(2) {
         Ok(media_id) => Answer::Count(u64::from(media_id)),
         Err(fault) => Answer::NotInserted(fault),
     }
@@ -369,6 +381,7 @@ pub fn make(alloc: Global, bench: &mut Bench, call: Call) -> Answer {
         Call::Step => step(bench),
         Call::Store(ticket) => store(bench, ticket),
         Call::StoreSpoilt(ticket) => store_spoilt(bench, ticket),
+        Call::Discard(ticket) => give_up(bench, ticket),
         Call::StoreHeld(ticket) => store_held(&mut bench.disk, ticket),
         Call::Held => held(&bench.disk),
         Call::WorksOut => works_out(&bench.disk),

@@ -4,8 +4,8 @@ use super::bench::Answer::{
     Back, Count, Did, Drained, Foreign, Idle, Lent, Nothing, Shown, Stale, Stands, Strange,
 };
 use super::bench::Call::{
-    Cancel, Collect, Events, FreeSets, Held, Mark, Refit, Step, Store, StoreHeld, StoreSpoilt,
-    WorksOut, Write,
+    Cancel, Collect, Discard, Events, FreeSets, Held, Mark, Refit, Step, Store, StoreHeld,
+    StoreSpoilt, WorksOut, Write,
 };
 use super::bench::{bench_of, disk_in, hand_over, make};
 use super::rows::Seen::{self, Accept, Done};
@@ -93,6 +93,7 @@ const WORKS: [Row; 5] = [
             (Write(1, 512, 1, 1), Count(1)),
             (Step, Lent(0)),
             (Step, Idle),
+            (Discard(0), Nothing),
             (Held, Count(0)),
             (StoreHeld(0), Did),
             (Step, Idle),

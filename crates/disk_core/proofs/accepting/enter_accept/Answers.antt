@@ -1,12 +1,12 @@
 use Rattle.std.proofs.Common.{◌≡◌, ◌+◌, ◌-◌, ◌∷◌, ap, ◌∙◌, arith}
 use Rattle.history.specs.declared.entry.Entry.TheVariants.{Accept}
 use Rattle.disk_core.specs.declared.parts.Core.{Core}
-use Rattle.disk_core.specs.Admission.{accepting}
-use Rattle.disk_core.specs.Moves.{entered}
+use Rattle.disk_core.specs.Admission.{after_accept}
+use Rattle.disk_core.specs.Moves.{with_entry}
 use Rattle.disk_core.proofs.accepting.enter_accept.Goals as goal
 
 pub returns : goal.returns
-unfolding accepting entered
+unfolding after_accept with_entry
 returns c =
     let none : c.args.core.now.owed - 0 ≡ c.args.core.now.owed = omega arith in
     ap (λ (d : Core). record d { owed = d.owed + c.args.owed; accepted = d.accepted + 1 }) c.enter.ensures

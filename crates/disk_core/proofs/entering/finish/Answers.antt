@@ -3,12 +3,12 @@ use Rattle.std.specs.Prelude.{count_by}
 use Rattle.token_table.specs.declared.record.Mark.{Mark}
 use Rattle.token_table.specs.Records.{mark_at, changed, lower_record}
 use Rattle.subtask_queue.specs.Subs.{token_of, block_of, is_of, is_unit, without_first}
-use Rattle.disk_core.specs.Moves.{finished, entered}
+use Rattle.disk_core.specs.Moves.{after_finish, with_entry}
 use Rattle.disk_core.proofs.Lowered.{lowered-open, count-without}
 use Rattle.disk_core.proofs.entering.finish.Goals as goal
 
 pub end_token-requires-clause-outstanding : goal.end_token-requires-clause-outstanding
-unfolding finished entered
+unfolding after_finish with_entry
 end_token-requires-clause-outstanding c =
     let tokens = c.args.core.now.tokens in
     let t = token_of c.args.unit.now in
@@ -16,7 +16,7 @@ end_token-requires-clause-outstanding c =
     (subst (λ u. mark_at (changed (lower_record c.args.bytes) tokens t) u ≡ Mark.Outstanding) (sym c.token-token.ensures) (lowered-open tokens t c.args.bytes c.requires.outstanding))
 
 pub end_token-requires-clause-owed : goal.end_token-requires-clause-owed
-unfolding finished entered
+unfolding after_finish with_entry
 end_token-requires-clause-owed c =
     let t = token_of c.args.unit.now in
     let queue = c.args.core.now.queue in

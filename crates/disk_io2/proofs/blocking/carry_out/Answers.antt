@@ -1,6 +1,6 @@
 use Rattle.disk_core.specs.Calls.{SubmitSays}
 use Rattle.disk_core.proofs.IdleLemmas.{submit-keeps}
-use Rattle.disk_io2.proofs.Serving.{keeps-on, idle-on}
+use Rattle.disk_core.proofs.IdleLemmas.{keeps-on, idle-on}
 use Rattle.disk_io2.proofs.Ended.{accepted-there, accepted-uncollected, accepted-well, answers, hands-on}
 use Rattle.disk_io2.proofs.blocking.carry_out.Goals as goal
 

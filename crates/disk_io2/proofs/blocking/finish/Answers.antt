@@ -1,5 +1,6 @@
 use Rattle.disk_core.proofs.IdleLemmas.{collect-keeps}
-use Rattle.disk_io2.proofs.Serving.{keeps-on, still-there, still-uncollected}
+use Rattle.disk_io2.proofs.Serving.{still-there, still-uncollected}
+use Rattle.disk_core.proofs.IdleLemmas.{keeps-on}
 use Rattle.disk_io2.proofs.Ended.{collectable, handed-back, handed-ok, handed-err}
 use Rattle.disk_io2.proofs.blocking.finish.Goals as goal
 

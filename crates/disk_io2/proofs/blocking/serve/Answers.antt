@@ -1,4 +1,5 @@
-use Rattle.disk_io2.proofs.Serving.{serves-none, serves-on, keeps-same, keeps-on, idle-on, still-there, still-uncollected}
+use Rattle.disk_io2.proofs.Serving.{serves-none, serves-on, still-there, still-uncollected}
+use Rattle.disk_core.proofs.IdleLemmas.{keeps-same, keeps-on, idle-on}
 use Rattle.disk_io2.proofs.blocking.serve.Goals as goal
 
 pub loop-disk-init : goal.loop-disk-init

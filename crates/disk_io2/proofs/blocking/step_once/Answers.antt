@@ -1,5 +1,6 @@
 use Rattle.disk_core.specs.declared.answers.Stored.TheVariants.{Stale, Foreign, Strange}
-use Rattle.disk_io2.proofs.Serving.{did, stored-at-once, answered, never-idle, never-drained}
+use Rattle.disk_core.proofs.AtOnceLemmas.{answered, never-idle}
+use Rattle.disk_io2.proofs.Serving.{did, stored-at-once, never-drained}
 use Rattle.disk_io2.proofs.blocking.step_once.Goals as goal
 
 pub returns-in-Did : goal.returns-in-Did
@@ -11,7 +12,7 @@ pub unreachable-requires : goal.unreachable-requires
 unreachable-requires g c = never-drained c.args.disk.now c.args.number c.history.ensures.setup c.history.ensures.facts c.requires.idle c.requires.outstanding c.step.new.self c.in-Drained.ensures
 
 pub unreachable-requires-in-Idle : goal.unreachable-requires-in-Idle
-unreachable-requires-in-Idle g c = never-idle c.args.disk.now c.args.number c.history.ensures.setup c.history.ensures.facts c.requires.idle c.requires.outstanding c.step.new.self c.in-Idle.ensures
+unreachable-requires-in-Idle g c = never-idle c.args.disk.now c.history.ensures.setup c.history.ensures.facts c.requires.idle c.step.new.self c.in-Idle.ensures
 
 pub returns-in-Did-store : goal.returns-in-Did-store
 returns-in-Did-store g c =
@@ -20,13 +21,13 @@ returns-in-Did-store g c =
 
 pub unreachable-requires-in-Stale : goal.unreachable-requires-in-Stale
 unreachable-requires-in-Stale g c =
-    answered c.args.disk.now c.args.number c.history.ensures.setup c.history.ensures.facts c.requires.idle c.requires.outstanding c.step.new.self c.store.new.self c.in-Lent.work c.merge.new.self Stale c.in-Lent.ensures c.merge.ensures c.in-Stale.ensures
+    answered c.args.disk.now c.history.ensures.setup c.history.ensures.facts c.requires.idle c.step.new.self c.store.new.self c.in-Lent.work c.merge.new.self Stale c.in-Lent.ensures c.merge.ensures c.in-Stale.ensures
 
 pub unreachable-requires-in-Foreign : goal.unreachable-requires-in-Foreign
 unreachable-requires-in-Foreign g c =
-    answered c.args.disk.now c.args.number c.history.ensures.setup c.history.ensures.facts c.requires.idle c.requires.outstanding c.step.new.self c.store.new.self c.in-Lent.work c.merge.new.self (Foreign c.in-Foreign.work) c.in-Lent.ensures c.merge.ensures c.in-Foreign.ensures
+    answered c.args.disk.now c.history.ensures.setup c.history.ensures.facts c.requires.idle c.step.new.self c.store.new.self c.in-Lent.work c.merge.new.self (Foreign c.in-Foreign.work) c.in-Lent.ensures c.merge.ensures c.in-Foreign.ensures
 
 pub unreachable-requires-in-Strange : goal.unreachable-requires-in-Strange
 unreachable-requires-in-Strange g c =
-    answered c.args.disk.now c.args.number c.history.ensures.setup c.history.ensures.facts c.requires.idle c.requires.outstanding c.step.new.self c.store.new.self c.in-Lent.work c.merge.new.self
+    answered c.args.disk.now c.history.ensures.setup c.history.ensures.facts c.requires.idle c.step.new.self c.store.new.self c.in-Lent.work c.merge.new.self
     (Strange c.in-Strange.work c.in-Strange.field-1 c.in-Strange.field-2 c.in-Strange.field-3) c.in-Lent.ensures c.merge.ensures c.in-Strange.ensures

@@ -1,6 +1,6 @@
 use Rattle.history_laws.proofs.RangeLemmas.{pieces-in-views}
 use Rattle.disk_io2.proofs.ReadOff.{told-whole}
-use Rattle.disk_io2.proofs.Outside.{outside-stays}
+use Rattle.history_laws.proofs.OutsideLemmas.{outside-stays}
 use Rattle.disk_io2.proofs.views.views_are_kept.Goals as goal
 
 pub returns-clause-inside : goal.returns-clause-inside

@@ -1,6 +1,6 @@
 use Rattle.std.proofs.Common.{arith}
 use Rattle.stack_run.proofs.Keeping.{first-none, first-next, first-all}
-use Rattle.stack_run.proofs.Stepping.{keeps-same, keeps-on}
+use Rattle.disk_core.proofs.IdleLemmas.{keeps-same, keeps-on}
 use Rattle.stack_run.proofs.kept_tokens.collect_rest.Goals as goal
 
 pub loop-disk-init : goal.loop-disk-init

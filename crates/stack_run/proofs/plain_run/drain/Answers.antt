@@ -1,4 +1,5 @@
-use Rattle.stack_run.proofs.Stepping.{keeps-same, keeps-on, idle-on, waits-none, waits-step}
+use Rattle.stack_run.proofs.Stepping.{waits-none, waits-step}
+use Rattle.disk_core.proofs.IdleLemmas.{keeps-same, keeps-on, idle-on}
 use Rattle.stack_run.proofs.plain_run.drain.Goals as goal
 
 pub loop-init : goal.loop-init

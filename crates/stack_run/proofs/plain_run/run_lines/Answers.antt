@@ -4,7 +4,7 @@ use Rattle.stack_run.proofs.Faultless.{faultless}
 use Rattle.stack_run.proofs.Leading.{leads-same}
 use Rattle.stack_run.proofs.Keeping.{keeps-stays}
 use Rattle.stack_run.proofs.Running.{keeps-none, line-fits, leads-next, leads-last, plain-run, all-collected, all-ended, all-given}
-use Rattle.stack_run.proofs.Stepping.{keeps-same, keeps-on, idle-on}
+use Rattle.disk_core.proofs.IdleLemmas.{keeps-same, keeps-on, idle-on}
 use Rattle.stack_run.proofs.plain_run.run_lines.Goals as goal
 
 pub loop-line-init : goal.loop-line-init

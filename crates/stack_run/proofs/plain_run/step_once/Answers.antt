@@ -1,5 +1,6 @@
 use Rattle.disk_core.specs.declared.answers.Stored.TheVariants.{Stale, Foreign, Strange}
-use Rattle.stack_run.proofs.Stepping.{did, stored-at-once, answered, never-idle, drained}
+use Rattle.stack_run.proofs.Stepping.{did, stored-at-once, drained}
+use Rattle.disk_core.proofs.AtOnceLemmas.{answered, never-idle}
 use Rattle.stack_run.proofs.plain_run.step_once.Goals as goal
 
 pub returns-in-Did : goal.returns-in-Did

@@ -1,6 +1,6 @@
 use Rattle.stack_run.proofs.Keeping.{keeps-stays}
 use Rattle.stack_run.proofs.Running.{takes-request, takes-wait}
-use Rattle.stack_run.proofs.Stepping.{idle-on}
+use Rattle.disk_core.proofs.IdleLemmas.{idle-on}
 use Rattle.stack_run.proofs.plain_run.take_line.Goals as goal
 
 pub collect_rest-requires-clause-keeps : goal.collect_rest-requires-clause-keeps

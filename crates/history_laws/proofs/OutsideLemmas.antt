@@ -10,13 +10,12 @@ use Rattle.history.specs.Commands.{block_count}
 use Rattle.history.specs.Contents.{Piece, piece_of, contents, byte_at}
 use Rattle.history.specs.Room.{is_command_of}
 use Rattle.history.specs.Rules.{MayFollow, IsLegal}
-use Rattle.history_laws.specs.Ranges.{IsInView, IsPieceOf, AreToldWhole}
+use Rattle.history_laws.specs.Ranges.{IsInView, IsPieceOf, AreToldWhole, IsOutside, AreOutside, OutsideStays}
 use Rattle.history_laws.proofs.ContentLemmas.{contents-piece, contents-same, contents-other}
 use Rattle.history_laws.proofs.GateLemmas.{byte-outside, piece-fits}
 use Rattle.history_laws.proofs.HolderLemmas.{changes-moving}
 use Rattle.history_laws.proofs.MediaLemmas.{range-in-view, open-media}
 use Rattle.history_laws.proofs.RangeLemmas.{IsEntryPiece, entry-piece, entry-piece-of}
-use Rattle.disk_io2.specs.Views.{IsOutside, AreOutside, OutsideStays}
 
 module _ (S : Setup) (is : IsSetup S) (whole : AreToldWhole S) where
   -- the command of a piece

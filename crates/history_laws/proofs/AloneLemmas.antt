@@ -1,29 +1,25 @@
 -- A token that is served while no other is outstanding.
-use Rattle.std.proofs.Common.{if◌then◌else◌, ◌≡◌, ◌⊎◌, inl, inr, ℕ, zero, suc, ◌+◌, ◌<◌, ◌≤◌, Bool, true, false, not, List, [], ◌∷◌, ◌++◌, slice_get, None, Some, refl, sym, ◌∙◌, ap, subst, arith}
+use Rattle.std.proofs.Common.{◌≡◌, ◌⊎◌, inl, inr, ℕ, ◌+◌, ◌<◌, ◌≤◌, Bool, true, false, not, List, [], ◌∷◌, ◌++◌, slice_get, None, Some, refl, sym, ◌∙◌, ap, arith}
 use Rattle.std.proofs.lemmas.Bool.{cases_order, eq-eqb, not_from_true, both_ways}
 use Rattle.disk_split.specs.Units.{IsUnit}
 use Rattle.efi_status.specs.declared.Status.{Status}
-use Rattle.history.specs.declared.entry.Kind.{Kind}
-use Rattle.history.specs.declared.entry.Kind.TheVariants.{Read, Write, Flush, Erase}
-use Rattle.history.specs.declared.entry.Command.TheVariants.{Fetch, Store}
 use Rattle.history.specs.declared.entry.Entry.{Entry}
 use Rattle.history.specs.Setup.{Setup, IsSetup}
-use Rattle.history.specs.Tokens.{Request, accepted, request, is_flush, from_of, until_of}
-use Rattle.history.specs.Commands.{first_block, is_sync}
-use Rattle.history.specs.Marks.{mark_of, was_fetched}
-use Rattle.history.specs.Tasks.{Task, Moves, Syncs, tasks_of, is_finished, span_command, task_command}
+use Rattle.history.specs.Tokens.{Request, accepted, request, from_of, until_of}
+use Rattle.history.specs.Commands.{first_block}
+use Rattle.history.specs.Marks.{mark_of}
+use Rattle.history.specs.Tasks.{Task, Moves, Syncs, tasks_of, is_finished, task_command}
 use Rattle.history.specs.Next.{first_open, next_task, Turn, next_turn, Outcome, Made, Failed, entry_of}
 use Rattle.history.specs.Room.{is_command_of}
-use Rattle.history_laws.specs.Pending.{task_low, Ordered}
-use Rattle.history_laws.proofs.TokenLemmas.{has_done-stays}
+use Rattle.history_laws.specs.Pending.{task_low}
 use Rattle.history_laws.proofs.EndLemmas.{mark-before}
 use Rattle.history_laws.proofs.NextLemmas.{find-some, first-open-none}
 use Rattle.history_laws.proofs.OrderLemmas.{tasks-ordered}
 use Rattle.history_laws.proofs.PlainLemmas.{IsTurnOf, turn-of}
 use Rattle.history_laws.proofs.TaskLemmas.{task-unit, task-moving}
-use Rattle.disk_core.specs.Calls.{low_in}
-use Rattle.disk_io2.specs.Blocking.{Continues, AreWhileOpen, first_byte, IsBehind, AreOwnInOrder}
-use Rattle.disk_io2.proofs.Serving.{while-accepted, while-request}
+use Rattle.history_laws.specs.Ranges.{low_in}
+use Rattle.history_laws.specs.Serving.{Continues, AreWhileOpen, first_byte, IsBehind, AreOwnInOrder}
+use Rattle.history_laws.proofs.ServingLemmas.{while-accepted, while-request}
 use Rattle.history_laws.proofs.TaskOrderLemmas.{command-block, finished-stays, ordered-get, same-task}
 
 module _ (S : Setup) (H : List Entry) (t : ℕ) (q : Request) (is : IsSetup S) (named : request H t ≡ Some q) (last : accepted H ≡ t + 1) (ended : (u : ℕ) → u < t → mark_of S H u ≡ None → ⊥) where

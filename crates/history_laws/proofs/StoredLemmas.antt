@@ -1,25 +1,31 @@
--- What a store puts on the medium, done or failed: its group with the token's bytes put in patches it as those bytes alone do.
-use Rattle.std.proofs.Common.{◌≡◌, ℕ, ◌+◌, ◌-◌, ◌*◌, ◌<◌, ◌≤◌, inl, inr, List, ◌∷◌, length, take, slice_get, Option, None, Some, option_map, refl, sym, ◌∙◌, ap, subst, arith}
+-- What a store puts on the medium, done or failed: its group with the token's bytes put in patches it as those bytes alone do. The copy of a
+-- held group stays that group through every entry but its holder's store.
+use Rattle.std.proofs.Common.{◌≡◌, ℕ, ◌+◌, ◌-◌, ◌*◌, ◌<◌, ◌≤◌, inl, inr, List, ◌∷◌, length, take, drop, slice_get, Option, None, Some, option_map, refl, sym, ◌∙◌, ap, arith, false}
 use Rattle.std.specs.Prelude.{min}
 use Rattle.std.proofs.lemmas.Bool.{cases_lt, lt-ltb, le-ltb}
-use Rattle.std.proofs.lemmas.List.{length-take}
+use Rattle.std.proofs.lemmas.List.{length-take, length-drop}
 use Rattle.std.proofs.lemmas.Nat.{mul-le}
 use Rattle.byte_lists.specs.Patching.{patch}
 use Rattle.byte_lists.proofs.Patched.{length-patch}
 use Rattle.byte_lists.proofs.Patches.{patch-in, patch-before, patch-behind, patch-block, patch-nothing, same-bytes, part-byte}
-use Rattle.medium.specs.Device.{AreToldAt, patch_told}
 use Rattle.disk_split.specs.declared.span.Span.{Span}
 use Rattle.history.specs.declared.entry.Command.TheVariants.{Store}
 use Rattle.history.specs.declared.entry.Entry.{Entry}
 use Rattle.history.specs.declared.entry.Entry.TheVariants.{Done, Fault}
-use Rattle.history.specs.Setup.{Setup, size_of}
+use Rattle.history.specs.Setup.{Setup, size_of, IsSetup, per_of}
 use Rattle.history.specs.Eras.{media_id_of}
 use Rattle.history.specs.Tokens.{Request, request}
-use Rattle.history.specs.Contents.{contents, bytes_between, piece_between, piece_of}
+use Rattle.history.specs.Contents.{contents, bytes_between, piece_between, piece_of, byte_at}
 use Rattle.history_laws.specs.Units.{IsUnitCommand}
 use Rattle.history_laws.proofs.ContentLemmas.{contents-piece, contents-same}
 use Rattle.history_laws.proofs.PieceLemmas.{done-contents, fault-piece, piece_at}
-use Rattle.history_laws.proofs.BytesLemmas.{take-between}
+use Rattle.history_laws.proofs.BytesLemmas.{take-between, contents-some}
+use Rattle.history.specs.Marks.{Holds}
+use Rattle.history.specs.Rules.{MayFollow, IsLegal}
+use Rattle.history_laws.specs.Ranges.{AreToldWhole}
+use Rattle.history_laws.specs.Gates.{is_store_of}
+use Rattle.history_laws.proofs.GateLemmas.{held-byte}
+use Rattle.history_laws.proofs.RangeLemmas.{contents-long}
 
 -- the first bytes of a list
 get-take : (n : ℕ) (xs : List ℕ) (j : ℕ) → j < n → slice_get (take n xs) j ≡ slice_get xs j
@@ -77,7 +83,7 @@ first-bytes b at block skip p n fits inside few same =
         ]
 
 module _ (S : Setup) (H : List Entry) (t : ℕ) (q : Request) (u : Span) (named : request H t ≡ Some q) (of : IsUnitCommand S q (Store u.block) u) (copy : List ℕ) (long : length copy ≡ u.count * size_of S)
-    (room : (bytes : List ℕ) → contents S (media_id_of H) H ≡ Some bytes → (u.block + u.count) * size_of S ≤ length bytes) (told : AreToldAt (contents S (media_id_of H) H) (u.block * size_of S) copy)
+    (room : (bytes : List ℕ) → contents S (media_id_of H) H ≡ Some bytes → (u.block + u.count) * size_of S ≤ length bytes) (copied : (bytes : List ℕ) → contents S (media_id_of H) H ≡ Some bytes → copy ≡ take (length copy) (drop (u.block * size_of S) bytes))
     (put : length (bytes_between S q u.low u.high) ≡ u.high - u.low) where
   abbrev at : ℕ
   at = u.block * size_of S
@@ -89,7 +95,7 @@ module _ (S : Setup) (H : List Entry) (t : ℕ) (q : Request) (u : Span) (named 
   group = patch copy skip (bytes_between S q u.low u.high)
 
   copy-byte : (bytes : List ℕ) → contents S (media_id_of H) H ≡ Some bytes → (j : ℕ) → j < length copy → slice_get copy j ≡ slice_get bytes (at + j)
-  copy-byte bytes is j lt = ap (λ xs. slice_get xs j) (subst (λ m. AreToldAt m at copy) is told) ∙ part-byte bytes at (length copy) j lt
+  copy-byte bytes is j lt = ap (λ xs. slice_get xs j) (copied bytes is) ∙ part-byte bytes at (length copy) j lt
 
   fits : (bytes : List ℕ) → contents S (media_id_of H) H ≡ Some bytes → at + length copy ≤ length bytes
   fits bytes is = (let all = room bytes is in let sum : (u.block + u.count) * size_of S ≡ at + u.count * size_of S = omega arith in omega arith)
@@ -101,15 +107,15 @@ module _ (S : Setup) (H : List Entry) (t : ℕ) (q : Request) (u : Span) (named 
   begins = (let low = of.unit.low in omega arith)
 
   -- a done store
-  pub stored-done : patch_told (contents S (media_id_of H) H) at group ≡ contents S (media_id_of H) (Done t (Store u.block) ∷ H)
+  pub stored-done : option_map (λ bytes. patch bytes at group) (contents S (media_id_of H) H) ≡ contents S (media_id_of H) (Done t (Store u.block) ∷ H)
   stored-done = by (contents S (media_id_of H) H) refl ∙ sym (done-contents S (media_id_of H) H t (Store u.block) q u refl named of refl)
     where
-      by : (m : Option (List ℕ)) → contents S (media_id_of H) H ≡ m → patch_told m at group ≡ option_map (λ bytes. patch bytes u.low (bytes_between S q u.low u.high)) m
+      by : (m : Option (List ℕ)) → contents S (media_id_of H) H ≡ m → option_map (λ bytes. patch bytes at group) m ≡ option_map (λ bytes. patch bytes u.low (bytes_between S q u.low u.high)) m
       by None is = refl
       by (Some bytes) is = ap Some (patch-block bytes at copy skip (bytes_between S q u.low u.high) (fits bytes is) within (copy-byte bytes is) ∙ ap (λ n. patch bytes n (bytes_between S q u.low u.high)) begins)
 
   -- a store that failed after its first blocks
-  pub stored-failed : (done : ℕ) → done ≤ u.count → patch_told (contents S (media_id_of H) H) at (take (done * size_of S) group) ≡ contents S (media_id_of H) (Fault t (Store u.block) done ∷ H)
+  pub stored-failed : (done : ℕ) → done ≤ u.count → option_map (λ bytes. patch bytes at (take (done * size_of S) group)) (contents S (media_id_of H) H) ≡ contents S (media_id_of H) (Fault t (Store u.block) done ∷ H)
   stored-failed done few = elim (cases_lt u.low high) [
     | inl some ↦ by (contents S (media_id_of H) H) refl some ∙ sym (contents-piece S (media_id_of H) H e (piece_at S t q u.low high) refl (piece ∙ rw (lt-ltb u.low high some) refl))
     | inr none ↦ over (contents S (media_id_of H) H) refl none ∙ sym (contents-same S (media_id_of H) H e (piece ∙ rw (le-ltb u.low high none) refl))
@@ -136,7 +142,7 @@ module _ (S : Setup) (H : List Entry) (t : ℕ) (q : Request) (u : Span) (named 
       sum : (u.block + done) * size_of S ≡ u.block * size_of S + done * size_of S
       sum = omega arith
 
-      by : (m : Option (List ℕ)) → contents S (media_id_of H) H ≡ m → u.low < high → patch_told m at (take (done * size_of S) group) ≡ option_map (λ bytes. patch bytes u.low (bytes_between S q u.low high)) m
+      by : (m : Option (List ℕ)) → contents S (media_id_of H) H ≡ m → u.low < high → option_map (λ bytes. patch bytes at (take (done * size_of S) group)) m ≡ option_map (λ bytes. patch bytes u.low (bytes_between S q u.low high)) m
       by None is some = refl
       by (Some bytes) is some =
           let all = sum in
@@ -144,7 +150,7 @@ module _ (S : Setup) (H : List Entry) (t : ℕ) (q : Request) (u : Span) (named 
           let ends : u.low + min (done * size_of S - skip) (u.high - u.low) ≡ high = omega arith in
           ap Some (first bytes is ∙ (λ i. patch bytes (begins i) (take-between S q u.low u.high (done * size_of S - skip) i)) ∙ ap (λ n. patch bytes u.low (bytes_between S q u.low n)) ends)
 
-      over : (m : Option (List ℕ)) → contents S (media_id_of H) H ≡ m → high ≤ u.low → patch_told m at (take (done * size_of S) group) ≡ m
+      over : (m : Option (List ℕ)) → contents S (media_id_of H) H ≡ m → high ≤ u.low → option_map (λ bytes. patch bytes at (take (done * size_of S) group)) m ≡ m
       over None is none = refl
       over (Some bytes) is none =
           let all = sum in
@@ -152,3 +158,28 @@ module _ (S : Setup) (H : List Entry) (t : ℕ) (q : Request) (u : Span) (named 
           let some = of.unit.some in
           let zero_left : done * size_of S - skip ≡ 0 = omega arith in
           ap Some (first bytes is ∙ ap (λ n. patch bytes (at + skip) (take n tb)) zero_left ∙ patch-nothing bytes (at + skip))
+
+-- told bytes that are the same in a range
+told-same : (before after : List ℕ) (at : ℕ) (copy : List ℕ) → length after ≡ length before → ((i : ℕ) → i < length copy → slice_get after (at + i) ≡ slice_get before (at + i)) → copy ≡ take (length copy) (drop at before)
+    → copy ≡ take (length copy) (drop at after)
+told-same before after at copy long same is =
+    same-bytes copy (take (length copy) (drop at after)) lengths
+    (λ i lt. ap (λ xs. slice_get xs i) is ∙ (part-byte before at (length copy) i lt ∙ (sym (same i lt) ∙ sym (part-byte after at (length copy) i lt))))
+  where
+    lengths : length copy ≡ length (take (length copy) (drop at after))
+    lengths = (let e = ap length is in simp (length-take, length-drop) (omega (arith, simp (length-take, length-drop) at e)))
+
+-- a copy of the group that a token holds stays that group through every entry but its store
+pub copy-kept : (S : Setup) (k : ℕ) (H : List Entry) (e : Entry) (t b : ℕ) (copy : List ℕ) → IsSetup S → AreToldWhole S → IsLegal S H → MayFollow S H e → IsLegal S (e ∷ H) → Holds S H t b → is_store_of t b e ≡ false
+    → length copy ≤ per_of S * size_of S → ((before : List ℕ) → contents S k H ≡ Some before → copy ≡ take (length copy) (drop (b * size_of S) before))
+    → (after : List ℕ) → contents S k (e ∷ H) ≡ Some after → copy ≡ take (length copy) (drop (b * size_of S) after)
+copy-kept S k H e t b copy is whole legal may legal' holds other long copied after now =
+    let was = contents-some S k H (e ∷ H) after now in
+    let before = was.0 in
+    told-same before after (b * size_of S) copy
+    (contents-long S k (e ∷ H) after is whole legal' now ∙ sym (contents-long S k H before is whole legal was.1))
+    (λ i lt. ap (λ m. byte_at m (b * size_of S + i)) (sym now) ∙ (each i lt ∙ ap (λ m. byte_at m (b * size_of S + i)) was.1))
+    (copied before was.1)
+  where
+    each : (i : ℕ) → i < length copy → byte_at (contents S k (e ∷ H)) (b * size_of S + i) ≡ byte_at (contents S k H) (b * size_of S + i)
+    each i lt = held-byte S k H e t b (b * size_of S + i) is whole legal may holds (omega arith) (let sum : (b + per_of S) * size_of S ≡ b * size_of S + per_of S * size_of S = omega arith in omega arith) other
