@@ -19,6 +19,7 @@ done
 echo 'disk_bench: disk_core drive block_gate history medium efi_status token_table event_cell' >> "$scratch/crates.txt"
 cat > "$program/src/main.rt" <<'PROGRAM'
 #![tactic(auto)]
+ghost use Rattle.std.specs.Prelude.{ℕ, ◌<◌};
 
 use disk_core::{Ask, Disk, Step, Stored};
 use drive::Drive;
@@ -40,11 +41,13 @@ fn half(second: bool) -> View {
     }
 }
 
-// A disk of 1 MiB of zeros with two buffer sets. The error is want of memory.
-fn new_disk(alloc: Global) -> Result<Disk<MemMedium>, AllocError> {
-    let medium = MemMedium::make(alloc, vec![in alloc; 0; 1 << 20]?, 512)?;
+// A disk of so many blocks of zeros with two buffer sets. The error is want of memory.
+fn new_disk(alloc: Global, blocks: u16) -> Result<Disk<MemMedium>, AllocError>
+    requires { 0 < blocks }
+{
+    let bytes = vec![in alloc; 0; usize::from(blocks) * 512]?;
     let mut media = Vec::new(alloc);
-    media.push(medium)?;
+    media.push(MemMedium::make(alloc, bytes, 512)?)?;
     match Disk::make(alloc, Drive::make(media, false, false, 1), 2) {
         Ok(disk) => Ok(disk),
         Err(_) => Err(AllocError),
@@ -101,15 +104,14 @@ fn drain(disk: &mut Disk<MemMedium>, most: u32) {
     }
 }
 
-// How many of the requests end, and are handed back.
+// Hands the requests back, and answers how many did before the first that has not ended.
 fn collect_all(disk: &mut Disk<MemMedium>, count: u32) -> u32 {
-    let mut ended = 0;
     for number in 0..count {
-        if disk.collect(1, u64::from(number)).is_ok() {
-            ended += 1;
+        if disk.collect(1, u64::from(number)).is_err() {
+            return number;
         }
     }
-    ended
+    count
 }
 
 // With a word, the cancel of one view among 10,000 requests; else the life of so many requests as there are words.
@@ -117,7 +119,7 @@ fn main(rt: HostRuntime) -> io::Result<()> {
     let alloc = rt.alloc();
     let words = env::args(&rt)?.count();
     let count = if words > 2 { 100_000 } else { 10_000 };
-    let mut disk = new_disk(alloc)?;
+    let mut disk = new_disk(alloc, 2_048)?;
     let start = Instant::now(&rt)?;
     accept_all(alloc, &mut disk, count)?;
     if words == 2 {
