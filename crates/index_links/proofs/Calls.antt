@@ -371,8 +371,8 @@ next-is links k x l i linked is =
 
 -- ---- a place of the lists in the table
 
-pub head-there : (links : List Link) (k l : ℕ) (s : LinkedLists) → AreLinked links k → lists_of links k ≡ s → l < length s.lists → l < k
-head-there links k l s linked is there = omega (arith, ap (λ t. length t.lists) is, many-lists links k)
+pub head_there : (links : List Link) (k l : ℕ) (s : LinkedLists) → AreLinked links k → lists_of links k ≡ s → l < length s.lists → l < k
+head_there links k l s linked is there = omega (arith, ap (λ t. length t.lists) is, many-lists links k)
 
 pub node-there : (links : List Link) (k x : ℕ) (s : LinkedLists) → AreLinked links k → lists_of links k ≡ s → x < s.nodes → k + x < length links
 node-there links k x s linked is there = omega (arith, ap (λ t. t.nodes) is, many-nodes links k, linked.room)

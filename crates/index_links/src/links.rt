@@ -92,7 +92,7 @@ impl Links {
         node_at(self.rings.after(place), self.heads)
     }
 
-    #[tactic(auto, using(crate::proofs::Calls::apart_of))]
+    #[tactic(auto, using(crate::proofs::Calls::apart_of, crate::proofs::Calls::head_there))]
     /// Appends the nodes of one list to another and leaves the one empty, in a constant number of steps.
     pub fn move_all(&mut self, from: u32, to: u32)
         requires from { from < length self.old.lists }
