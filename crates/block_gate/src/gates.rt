@@ -159,10 +159,12 @@ impl Gates {
         ensures unchanged { result ≡ false → self.new ≡ self.old }
         ensures sound { AreSound self.new }
     {
-        if self.block(ticket).is_none() {
+        let sought = Sought::Ticket(ticket);
+        let Some(node) = find_set(&self.sets, &self.links, HELD, sought) else {
             return false;
-        }
-        self.release(ticket);
+        };
+        let rest = rest_of(&self.sets[node as usize]);
+        relink(&mut self.links, node, rest);
         true
     }
 

@@ -15,6 +15,19 @@ fn is_home(back: Back) -> bool {
     }
 }
 
+// The ticket, block and place of a work that came back with these bytes and this patch.
+fn came_back(back: Back, bytes: &[u8], patch: &[u8]) -> Option<(u64, u64, u32)> {
+    match back {
+        Back::Home => None,
+        Back::Foreign(work) => {
+            let same = work.bytes() == bytes && work.patch() == patch;
+            let place = (work.ticket(), work.block(), work.from());
+            work.discard();
+            if same { Some(place) } else { None }
+        }
+    }
+}
+
 // A work goes to another thread only where its type can.
 fn moved<T: Send>(value: T) -> T {
     value
@@ -45,20 +58,23 @@ fn merged_work_comes_home(rt: HostRuntime) -> Result<(), Fail> {
 }
 
 #[test]
+fn both_sets_are_held(rt: HostRuntime) -> Result<(), Fail> {
+    let mut gates = Gates::make(rt.alloc(), 2, 4)?;
+    gates.hold(7, 0).fill(1);
+    assert_eq!(rt; gates.free(), 1);
+    gates.hold(8, 1).fill(2);
+    assert_eq!(rt; gates.free(), 0);
+    Ok(())
+}
+
+#[test]
 fn work_of_another_ticket_is_foreign(rt: HostRuntime) -> Result<(), Fail> {
     let mut gates = Gates::make(rt.alloc(), 1, 2)?;
     let mut others = Gates::make(rt.alloc(), 1, 2)?;
     others.hold(7, 5).copy_from_slice(&[8, 9]);
     assert_eq!(rt; others.free(), 0);
-    match gates.give_back(others.lend(5, 1, &[6])) {
-        Back::Home => assert!(rt; false),
-        Back::Foreign(work) => {
-            assert_eq!(rt; (work.ticket(), work.block(), work.from()), (5, 7, 1));
-            assert_eq!(rt; work.bytes(), [8, 9].as_slice());
-            assert_eq!(rt; work.patch(), [6].as_slice());
-            work.discard();
-        }
-    }
+    let back = gates.give_back(others.lend(5, 1, &[6]));
+    assert_eq!(rt; came_back(back, &[8, 9], &[6]), Some((5, 7, 1)));
     Ok(())
 }
 
@@ -69,7 +85,8 @@ fn work_of_another_size_is_foreign(rt: HostRuntime) -> Result<(), Fail> {
     gates.lend(0, 0, &[5]).discard();
     let mut others = Gates::make(rt.alloc(), 1, 4)?;
     others.hold(7, 0).copy_from_slice(&[1, 2, 3, 4]);
-    assert_eq!(rt; is_home(gates.give_back(others.lend(0, 3, &[6]))), false);
+    let back = gates.give_back(others.lend(0, 3, &[6]));
+    assert_eq!(rt; came_back(back, &[1, 2, 3, 4], &[6]), Some((0, 7, 3)));
     Ok(())
 }
 
