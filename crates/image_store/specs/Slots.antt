@@ -1,12 +1,14 @@
 -- What an image in memory, and one in a file, is to those who look it up.
-use Rattle.std.specs.Prelude.{◌≡◌, ◌≢◌, ℕ, Bool, true, false, List, [], Option, None, Some}
+use Rattle.std.specs.Prelude.{◌≡◌, ◌≢◌, ℕ, Bool, true, false, List, [], Option, None, Some, Result, Ok, Err}
 use Rattle.std.specs.BTreeMap.{BTreeMap, get_by_text}
 use Rattle.std.specs.declared.alloc.Global.{Global}
 use Rattle.std.specs.declared.string.String.{String}
+use Rattle.medium.specs.declared.block_failed.BlockFailed.{BlockFailed}
 use Rattle.medium.specs.declared.faulty.Planned.{Planned}
 use Rattle.image_store.specs.Place.{Place, Missing, Here, Taken, Untold, Image}
 use Rattle.image_store.specs.declared.file_slot.FileSlot.{FileSlot}
 use Rattle.image_store.specs.declared.mem_images.MemImages.{MemImages}
+use Rattle.image_store.specs.declared.sink.PutFault.{PutFault}
 use Rattle.image_store.specs.declared.slot.Slot.{Slot}
 use Rattle.image_store.specs.declared.slot.Stored.{Stored}
 use Rattle.image_store.specs.declared.slot.Stored.TheVariants.{Gone, Whole, Tail}
@@ -70,3 +72,8 @@ file_or_unused (Some slot) = file_image slot
 -- the image of each file's name
 abbrev pub file_at : BTreeMap (String Global) FileSlot → List ℕ → Image
 file_at slots name = file_or_unused (get_by_text slots name)
+
+-- a file is put back where its medium was settled and written through
+abbrev pub put_answer : Result (Unit {0}) BlockFailed → Result (Unit {0}) PutFault
+put_answer (Ok done) = Ok tt
+put_answer (Err fault) = Err PutFault.Failed

@@ -1,8 +1,10 @@
-ghost use Rattle.std.specs.Prelude.{◌≡◌, false, IfOk, OnErr, IsErrOf};
+ghost use Rattle.std.specs.Prelude.{◌≡◌, ◌/◌, ◌<◌, ◌≤◌, false, Err, IfOk, OnErr, IsErr, IsErrOf};
+ghost use Rattle.std.specs.Result.{IsOkAnd};
 ghost use Rattle.medium.specs.Counts.{adds};
 ghost use Rattle.medium.specs.Device.{IsBlockSize};
 ghost use Rattle.image_store.specs.Edge.{HasCauseOf};
 ghost use Rattle.image_store.specs.Place.{IsFree, IsTaken, IsTaking, MayBeShort};
+ghost use Rattle.image_store.specs.Slots.{put_answer};
 
 use crate::{PutFault, TakeFault};
 use medium::{BlockFailed, FileMedium, Medium, Volatile};
@@ -66,7 +68,31 @@ impl FileSlot {
         ensures cause { HasCauseOf TakeFault.Failed self.old.faults self.new.faults result }
         ensures worn { self.new.worn ≡ self.old.worn }
     {
-        let Ok((file, length)) = open_regular(files, name) else {
+        let answer = open_regular(files, name);
+        self.end_take(alloc, answer, size, cached)
+    }
+
+    // The system opened a file of so many bytes, or it did not.
+    #[tactic(auto, unfolding(crate::specs::Place::GivesBlocks))]
+    fn end_take<D: FileExt + OpenFile + Drop>(
+        &mut self,
+        alloc: Global,
+        answer: io::Result<(D, u64)>,
+        size: u32,
+        cached: bool,
+    ) -> Result<Volatile<FileMedium<D>>, TakeFault>
+        requires size { IsBlockSize size }
+        requires free { IsFree (file_place self.old.taken) }
+        ensures failed { IsErr answer → result ≡ Err TakeFault.Failed }
+        ensures less { IfOk answer (λ opened. opened.1 < size → result ≡ Err TakeFault.Short) }
+        ensures opened { IfOk answer (λ opened. size ≤ opened.1 → IsOkAnd result (λ medium. (⟦<Volatile<FileMedium<D>> as Medium>⟧.device medium).blocks ≡ opened.1 / size)) }
+        ensures taken { IfOk result (λ medium. IsTaking (file_place self.old.taken) (file_place self.new.taken) size cached (⟦<Volatile<FileMedium<D>> as Medium>⟧.device medium)) }
+        ensures stays { OnErr result (self.new.taken ≡ self.old.taken) }
+        ensures short { IsErrOf result TakeFault.Short → MayBeShort (file_place self.old.taken) size }
+        ensures cause { HasCauseOf TakeFault.Failed self.old.faults self.new.faults result }
+        ensures worn { self.new.worn ≡ self.old.worn }
+    {
+        let Ok((file, length)) = answer else {
             self.faults = self.faults.saturating_add(1);
             return Err(TakeFault::Failed);
         };
@@ -90,7 +116,17 @@ impl FileSlot {
     {
         self.worn = self.worn.saturating_add(medium.failed());
         self.taken = false;
-        match write_through(medium) {
+        let answer = write_through(medium);
+        self.end_put(answer)
+    }
+
+    // The medium was settled and written through, or a command of it failed.
+    fn end_put(&mut self, answer: Result<(), BlockFailed>) -> Result<(), PutFault>
+        ensures answer { result ≡ put_answer answer }
+        ensures stay { self.new ≡ record self.old { faults = self.new.faults } }
+        ensures cause { HasCauseOf PutFault.Failed self.old.faults self.new.faults result }
+    {
+        match answer {
             Ok(()) => Ok(()),
             Err(_) => {
                 self.faults = self.faults.saturating_add(1);
