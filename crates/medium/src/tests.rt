@@ -115,6 +115,28 @@ fn commands_inside_fail_in_turn(rt: HostRuntime) -> Result<(), Fail> {
     Ok(())
 }
 
+#[test]
+fn sync_or_settling_fails(rt: HostRuntime) -> Result<(), Fail> {
+    let alloc = rt.alloc();
+    for synced in [true, false] {
+        let inner = MemMedium::make(alloc, vec![in alloc; 7; 4 * 512]?, 512)?;
+        let plan = vec![in alloc; Planned { call: 2, done: 0 }]?;
+        let mut medium = Volatile::make(alloc, Faulty::make(inner, plan), true);
+        assert_eq!(rt; fill(alloc, &mut medium, 1, 1, 9)?, Ok(()));
+        assert_eq!(rt; sync_where(&mut medium, synced).is_err(), synced);
+        assert_eq!(rt; medium.failed(), u64::from(synced));
+        match medium.settle() {
+            Ok(settled) => {
+                let bytes = settled.inner().into_bytes()?;
+                assert_eq!(rt; firsts(&bytes), [7, 7, 7, 7].map(Some));
+                assert!(rt; synced);
+            }
+            Err(_) => assert!(rt; !synced),
+        }
+    }
+    Ok(())
+}
+
 /// What a command answers that failed before its first block.
 const NONE_DONE: Result<(), BlockFailed> = Err(BlockFailed { done: 0 });
 
