@@ -155,7 +155,8 @@ impl Tokens {
             return Err(NotThere::Unknown);
         };
         let key = *key;
-        let status = match self.records[key].ended {
+        let ended = self.records[key].ended;
+        let status = match ended {
             Some(status) => status,
             None => return Err(NotThere::Outstanding),
         };
