@@ -18,6 +18,7 @@ pub mod Chains
 pub mod NamesOf
 pub mod LineFits
 pub mod PlansFit
+pub mod Images
 pub mod Together
 pub mod ReportBack
 pub mod Padded

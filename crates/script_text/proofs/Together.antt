@@ -1,9 +1,7 @@
 -- The disks of a script fit together.
-use Rattle.std.proofs.Common.{◌≡◌, ℕ, ◌+◌, ◌≤◌, Bool, true, false, not, ◌&&◌, ◌||◌, nat_le, nat_lt, bytes_eq, List, [], ◌∷◌, ◌++◌, length, Option, None, Some, Ok, refl, ap, sym, ◌∙◌, append_assoc, arith}
+use Rattle.std.proofs.Common.{◌≡◌, ℕ, ◌+◌, ◌≤◌, Bool, true, false, not, ◌&&◌, ◌||◌, nat_le, nat_lt, bytes_eq, List, [], ◌∷◌, ◌++◌, length, Option, None, Some, Ok, refl, sym, ◌∙◌, arith}
 use Rattle.std.specs.List.{list_any, AllByRecursion, IsDistinct}
 use Rattle.std.proofs.lemmas.Bool.Decides.{nat_tests}
-use Rattle.std.proofs.lemmas.List.{append-nil}
-use Rattle.std.proofs.lemmas.List.Folds.{list_any-append}
 use Rattle.history.specs.declared.order.Order.{Order}
 use Rattle.medium.specs.Device.{is_block_size}
 use Rattle.script_text.specs.declared.language.refusal.Reason.TheVariants.{Name, Medium, Limit}
@@ -12,56 +10,21 @@ use Rattle.script_text.specs.declared.language.line.Flags.{Flags}
 use Rattle.script_text.specs.declared.language.line.Line.{Line}
 use Rattle.script_text.specs.declared.language.line.Line.TheVariants.{Disk, Spare, Client, Asks}
 use Rattle.script_text.specs.declared.language.plans.DiskPlan.{DiskPlan}
-use Rattle.script_text.specs.declared.language.plans.ClientPlan.{ClientPlan}
 use Rattle.script_text.specs.Limits.{most_requested_bytes, most_disks, most_workers}
 use Rattle.script_text.specs.Wording.{line_of_bytes}
 use Rattle.script_text.specs.Last.{on_last, has_some}
-use Rattle.script_text.specs.Planned.{new_disk, new_client, add_spare, add_client, add_last_order, has_client, is_image_of, has_image, is_new_name, is_group_size, asked_bytes, requested, planned_disk, has_medium_room, planned_spare, has_client_room, planned_client, is_well_aimed, has_room, planned_order, planned}
+use Rattle.script_text.specs.Planned.{new_disk, new_client, add_spare, add_client, add_last_order, has_client, has_image, is_new_name, is_group_size, asked_bytes, requested, planned_disk, has_medium_room, planned_spare, has_client_room, planned_client, is_well_aimed, has_room, planned_order, planned}
 use Rattle.script_text.specs.Whole.{planned_if, line_says, script_of}
 use Rattle.script_text.specs.Fitting.{images_of, FitTogether}
 use Rattle.script_text.proofs.Chains.{then_ok, else_ok, next_ok, ok_same, both_true, none_true, was_true}
+use Rattle.script_text.proofs.Images.{images_of_disk, images_of_spare, images_of_client, images_of_order, has_images}
 use Rattle.script_text.proofs.LastLemmas.{length_on_last}
 use Rattle.script_text.proofs.PlannedSums.{requested_order, requested_client, requested_spare, requested_disk, requested_none}
 use Rattle.script_text.proofs.PlansFit.{one_more, script_keeps}
 
--- the images where a medium was added
-images_of_disk : (plans : List DiskPlan) (image : List ℕ) (size workers : ℕ) (flags : Flags) → images_of (plans ++ new_disk image size workers flags ∷ []) ≡ images_of plans ++ image ∷ []
-unfolding images_of
-images_of_disk [] image size workers flags = refl
-images_of_disk (disk ∷ more) image size workers flags =
-    ap (λ l. disk.image ∷ (disk.spares ++ l)) (images_of_disk more image size workers flags)
-    ∙ ap (λ l. disk.image ∷ l) (sym (append_assoc disk.spares (images_of more) (image ∷ [])))
-
-images_of_spare : (plans : List DiskPlan) (image : List ℕ) → has_some plans ≡ true → images_of (on_last (add_spare image) plans) ≡ images_of plans ++ image ∷ []
-unfolding images_of on_last
-images_of_spare [] image some = absurd (cc)
-images_of_spare (disk ∷ []) image some =
-    ap (λ l. disk.image ∷ l) (append-nil (disk.spares ++ image ∷ []) ∙ ap (λ l. l ++ image ∷ []) (sym (append-nil disk.spares)))
-images_of_spare (disk ∷ next ∷ more) image some =
-    ap (λ l. disk.image ∷ (disk.spares ++ l)) (images_of_spare (next ∷ more) image refl)
-    ∙ ap (λ l. disk.image ∷ l) (sym (append_assoc disk.spares (images_of (next ∷ more)) (image ∷ [])))
-
--- the images where a client was added, and where a line was
-images_of_client : (plans : List DiskPlan) (client : ClientPlan) → images_of (on_last (add_client client) plans) ≡ images_of plans
-unfolding images_of on_last
-images_of_client [] client = refl
-images_of_client (disk ∷ []) client = refl
-images_of_client (disk ∷ next ∷ more) client = ap (λ l. disk.image ∷ (disk.spares ++ l)) (images_of_client (next ∷ more) client)
-
-images_of_order : (plans : List DiskPlan) (one : Order) → images_of (on_last (add_last_order one) plans) ≡ images_of plans
-unfolding images_of on_last
-images_of_order [] one = refl
-images_of_order (disk ∷ []) one = refl
-images_of_order (disk ∷ next ∷ more) one = ap (λ l. disk.image ∷ (disk.spares ++ l)) (images_of_order (next ∷ more) one)
-
 -- a new name
 absent : (image : List ℕ) (plans : List DiskPlan) → has_image image plans ≡ false → list_any (λ name. bytes_eq name image) (images_of plans) ≡ false
-unfolding images_of
-absent image [] is = refl
-absent image (disk ∷ more) is =
-    let (here, later) = none_true (is_image_of image disk) (has_image image more) is in
-    let (own, spares) = none_true (bytes_eq disk.image image) (list_any (λ spare. bytes_eq spare image) disk.spares) here in
-    rw (own, list_any-append (λ name. bytes_eq name image) disk.spares (images_of more), spares, absent image more later) refl
+absent image plans is = sym (has_images image plans) ∙ is
 
 apart_pushed : (x : List ℕ) (names : List (List ℕ)) (name : List ℕ) → AllByRecursion (λ y. bytes_eq x y ≡ false) names → bytes_eq x name ≡ false → AllByRecursion (λ y. bytes_eq x y ≡ false) (names ++ name ∷ [])
 apart_pushed x [] name all one = (one, tt)
@@ -93,7 +56,7 @@ disk_together plans next image size workers flags all is =
     (record {
       few = one_more plans (new_disk image size workers flags) most_disks (both_true _ _ fits).1;
       asked = rw (requested_disk (new_disk image size workers flags) plans refl) all.asked;
-      images = rw (images_of_disk plans image size workers flags) (name_pushed plans image all.images named);
+      images = rw (images_of_disk plans (new_disk image size workers flags) refl) (name_pushed plans image all.images named);
     })
 
 spare_together : (plans next : List DiskPlan) (image : List ℕ) → FitTogether plans → planned_spare plans image ≡ Ok next → FitTogether next

@@ -4,6 +4,7 @@ pub mod Text
 pub mod Entries
 pub mod Report
 pub mod Tables
+pub mod Taken
 pub mod Law
 pub mod Held
 pub mod Limits

@@ -1,6 +1,7 @@
-ghost use Rattle.std.specs.Prelude.{◌≡◌, ◌+◌, ◌≤◌, ◌<◌, ◌∷◌, ◌++◌, true, length, [], OnOk, IfOk, nat_lt};
+ghost use Rattle.std.specs.Prelude.{◌≡◌, ℕ, ◌+◌, ◌≤◌, ◌<◌, List, ◌∷◌, ◌++◌, true, length, [], OnOk, IfOk, nat_lt};
 ghost use Rattle.script_text.specs.Limits.{most_requested_bytes, most_disks};
 ghost use Rattle.script_text.specs.Last.{has_some, on_last};
+ghost use Rattle.script_text.specs.Taken.{FindsImages};
 ghost use Rattle.script_text.specs.Planned.{add_spare, add_client, add_last_order, has_client, has_image, has_medium_room, has_client_room, has_room, is_well_aimed, takes_mark, requested, asked_bytes};
 
 use crate::language::limits::{ALL_REQUEST_BYTES, CLIENTS, DISKS, MEDIA, REQUEST_BYTES};
@@ -9,13 +10,15 @@ use crate::language::names::{Items, Name};
 use crate::language::plans::{ClientPlan, DiskPlan, Script};
 use history::Order;
 use std::alloc::{AllocError, Global};
+use std::collections::BTreeSet;
 use std::marker::Model;
 
-/// The disks that were planned so far, with the bytes that their lines ask for in sum.
+/// The disks that were planned so far, with the bytes that their lines ask for in sum and the names of all images.
 #[derive(Drop)]
 pub struct Draft {
     disks: Vec<DiskPlan>,
     bytes: u64,
+    names: BTreeSet<String>,
 }
 
 impl Model for Draft {
@@ -23,23 +26,28 @@ impl Model for Draft {
     ghost use Rattle.script_text.specs.declared.language.plans.DiskPlan.{DiskPlan};
     ghost use Rattle.script_text.specs.Limits.{most_requested_bytes};
     ghost use Rattle.script_text.specs.Planned.{requested};
+    ghost use Rattle.script_text.specs.Fitting.{images_of};
+    ghost use Rattle.script_text.specs.Taken.{FindsImages};
 
     ghost Value = { List DiskPlan };
 
     ghost view = { λ draft. draft.disks.items };
 
-    ghost invariant = { λ draft. (draft.bytes ≡ requested draft.disks.items) × (draft.bytes ≤ most_requested_bytes) };
+    ghost invariant = { λ draft. (draft.bytes ≡ requested draft.disks.items)
+        × (draft.bytes ≤ most_requested_bytes)
+        × FindsImages draft.names (images_of draft.disks.items) };
 }
 
 impl Draft {
     /// No disk yet.
-    #[tactic(auto, using(crate::proofs::PlannedSums::requested_none))]
+    #[tactic(auto, using(crate::proofs::PlannedSums::requested_none, crate::proofs::Images::none_taken))]
     pub fn make(alloc: Global) -> Draft
         ensures { result ≡ [] }
     {
         Draft {
             disks: Vec::new(alloc),
             bytes: 0,
+            names: BTreeSet::new(alloc),
         }
     }
 
@@ -72,7 +80,7 @@ impl Draft {
     pub fn has_image(&self, image: &str) -> bool
         ensures { result ≡ has_image image.now self.now }
     {
-        self.disks.iter().any(|disk| disk.has_image(image))
+        self.names.contains(image)
     }
 
     pub fn has_disk_room(&self) -> bool
@@ -122,52 +130,84 @@ impl Draft {
     }
 
     /// Adds a disk without spares and clients. The error is want of memory.
-    #[tactic(auto, using(crate::proofs::PlannedSums::requested_disk))]
-    pub fn add_disk(self, disk: DiskPlan) -> Result<Draft, AllocError>
-        requires { disk.clients ≡ [] }
+    #[tactic(auto, using(crate::proofs::PlannedSums::requested_disk, crate::proofs::Images::taken_disk))]
+    pub fn add_disk(self, alloc: Global, disk: DiskPlan) -> Result<Draft, AllocError>
+        requires clients { disk.clients ≡ [] }
+        requires spares { disk.spares ≡ [] }
         ensures { IfOk result (λ next. next ≡ self ++ disk ∷ []) }
     {
-        let Draft { mut disks, bytes } = self;
+        let Draft {
+            mut disks,
+            bytes,
+            mut names,
+        } = self;
+        take_name(alloc, &mut names, disk.image.as_str())?;
         disks.push(disk)?;
-        Ok(Draft { disks, bytes })
+        Ok(Draft {
+            disks,
+            bytes,
+            names,
+        })
     }
 
     /// Adds a medium to the last disk. The error is want of memory.
-    #[tactic(auto, using(crate::proofs::PlannedSums::requested_spare))]
-    pub fn add_spare(self, image: Name) -> Result<Draft, AllocError>
+    #[tactic(auto, using(crate::proofs::PlannedSums::requested_spare, crate::proofs::Images::taken_spare))]
+    pub fn add_spare(self, alloc: Global, image: Name) -> Result<Draft, AllocError>
         requires { has_some self ≡ true }
         ensures { IfOk result (λ next. next ≡ on_last (add_spare image) self) }
     {
-        let Draft { mut disks, bytes } = self;
+        let Draft {
+            mut disks,
+            bytes,
+            mut names,
+        } = self;
+        take_name(alloc, &mut names, image.as_str())?;
         spare_to_last(&mut disks, image)?;
-        Ok(Draft { disks, bytes })
+        Ok(Draft {
+            disks,
+            bytes,
+            names,
+        })
     }
 
     /// Adds a client without lines to the last disk. The error is want of memory.
-    #[tactic(auto, using(crate::proofs::PlannedSums::requested_client))]
+    #[tactic(auto, using(crate::proofs::PlannedSums::requested_client, crate::proofs::Images::taken_client))]
     pub fn add_client(self, client: ClientPlan) -> Result<Draft, AllocError>
         requires some { has_some self ≡ true }
         requires none { client.orders ≡ [] }
         ensures { IfOk result (λ next. next ≡ on_last (add_client client) self) }
     {
-        let Draft { mut disks, bytes } = self;
+        let Draft {
+            mut disks,
+            bytes,
+            names,
+        } = self;
         client_to_last(&mut disks, client)?;
-        Ok(Draft { disks, bytes })
+        Ok(Draft {
+            disks,
+            bytes,
+            names,
+        })
     }
 
     /// Adds a line to the last client of the last disk. The error is want of memory.
-    #[tactic(auto, using(crate::proofs::PlannedSums::requested_order))]
+    #[tactic(auto, using(crate::proofs::PlannedSums::requested_order, crate::proofs::Images::taken_order))]
     pub fn add_order(self, order: Order) -> Result<Draft, AllocError>
         requires client { has_client self ≡ true }
         requires room { requested self + asked_bytes order ≤ most_requested_bytes }
         ensures { IfOk result (λ next. next ≡ on_last (add_last_order order) self) }
     {
-        let Draft { mut disks, bytes } = self;
+        let Draft {
+            mut disks,
+            bytes,
+            names,
+        } = self;
         let more = bytes_of(&order);
         order_to_last(&mut disks, order)?;
         Ok(Draft {
             disks,
             bytes: bytes + more,
+            names,
         })
     }
 }
@@ -181,6 +221,16 @@ fn takes_mark(disk: &DiskPlan, medium: u32) -> bool
         None => false,
     };
     is_whole && medium >= 1 && u64::from(medium) <= disk.spares.as_slice().len() as u64 + 1
+}
+
+// Adds the name of an image. The error is want of memory.
+fn take_name(alloc: Global, names: &mut BTreeSet<String>, image: &str) -> Result<(), AllocError>
+    ensures { OnOk result ((images : List (List ℕ)) → FindsImages names.old images
+        → FindsImages names.new (images ++ image.now ∷ [])) }
+{
+    let name = String::from_str(alloc, image)?;
+    names.insert(name)?;
+    Ok(())
 }
 
 #[tactic(auto, using(crate::proofs::LastLemmas::some_length))]

@@ -42,7 +42,7 @@ fn plan_line(alloc: Global, draft: Draft, number: u64, line: Line) -> Result<Dra
             workers,
             flags,
         } => plan_disk(alloc, draft, image, size, workers, flags),
-        Line::Spare { image } => plan_spare(draft, image),
+        Line::Spare { image } => plan_spare(alloc, draft, image),
         Line::Client { part } => plan_client(alloc, draft, number, part),
         Line::Asks { order, mark } => plan_order(draft, order, mark),
     }
@@ -98,11 +98,11 @@ fn plan_disk(
         spares: Items::from_vec(Vec::new(alloc)),
         clients: Items::from_vec(Vec::new(alloc)),
     };
-    Ok(draft.add_disk(disk)?)
+    Ok(draft.add_disk(alloc, disk)?)
 }
 
 #[tactic(auto, unfolding(crate::specs::Planned::planned_spare))]
-fn plan_spare(draft: Draft, image: Name) -> Result<Draft, LineRefused>
+fn plan_spare(alloc: Global, draft: Draft, image: Name) -> Result<Draft, LineRefused>
     ensures { Says (planned_spare draft image) result }
 {
     if !draft.has_disk() || draft.has_client() {
@@ -114,7 +114,7 @@ fn plan_spare(draft: Draft, image: Name) -> Result<Draft, LineRefused>
     if !draft.has_medium_room() {
         return Err(LineRefused::Faulty(Reason::Limit));
     }
-    Ok(draft.add_spare(image)?)
+    Ok(draft.add_spare(alloc, image)?)
 }
 
 #[tactic(auto, unfolding(crate::specs::Planned::planned_client))]

@@ -1,7 +1,6 @@
-ghost use Rattle.std.specs.Prelude.{◌≡◌, true, OnOk, bytes_eq};
-ghost use Rattle.std.specs.List.{list_any};
+ghost use Rattle.std.specs.Prelude.{◌≡◌, true, OnOk};
 ghost use Rattle.script_text.specs.Last.{has_some, on_last};
-ghost use Rattle.script_text.specs.Planned.{add_spare, add_client, add_order, add_last_order, is_image_of};
+ghost use Rattle.script_text.specs.Planned.{add_spare, add_client, add_order, add_last_order};
 
 use crate::language::names::{Items, Name};
 use history::Order;
@@ -40,13 +39,6 @@ pub struct DiskPlan {
 }
 
 impl DiskPlan {
-    /// Whether a medium of the disk has this image.
-    pub(super) fn has_image(&self, image: &str) -> bool
-        ensures { result ≡ is_image_of image.now self.now }
-    {
-        self.image.as_str() == image || is_among(self.spares.as_slice(), image)
-    }
-
     /// Adds a further medium. The error is want of memory.
     pub(super) fn add_spare(&mut self, image: Name) -> Result<(), AllocError>
         ensures { OnOk result (self.new ≡ add_spare image self.old) }
@@ -68,13 +60,6 @@ impl DiskPlan {
     {
         add_to_last(&mut self.clients, order)
     }
-}
-
-// Whether some name is this one.
-fn is_among(names: &[Name], image: &str) -> bool
-    ensures { result ≡ list_any (λ name. bytes_eq name image.now) names.now }
-{
-    names.iter().any(|name| name.as_str() == image)
 }
 
 fn add_to_last(clients: &mut Items<ClientPlan>, order: Order) -> Result<(), AllocError>
