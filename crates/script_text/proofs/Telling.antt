@@ -8,7 +8,7 @@ use Rattle.script_text.specs.declared.language.plans.DiskPlan.{DiskPlan}
 use Rattle.script_text.specs.declared.language.reader.Reading.{Reading}
 use Rattle.script_text.specs.declared.language.reader.Found.{Found}
 use Rattle.script_text.specs.Words.{lines_of}
-use Rattle.script_text.specs.OneLine.{is_one_line}
+use Rattle.script_text.specs.OneLine.{is_one_line, EndsIn}
 use Rattle.script_text.specs.Limits.{most_script_bytes}
 use Rattle.script_text.specs.Whole.{line_says, lines_say, script_of}
 use Rattle.script_text.specs.Fed.{IsReading, IsFaulty}
@@ -38,10 +38,23 @@ reading_refuses r bytes reason few one is says =
 pub record HasEnded (plans0 : List DiskPlan) (n0 : ℕ) (begun0 piece : List ℕ) (plans : List DiskPlan) (n : ℕ) (begun left : List ℕ) : Type 0 where
   pub unended : is_one_line begun ≡ true
   pub few : n + length left ≤ n0 + length piece
+  pub kept : EndsIn (begun0 ++ piece) (begun ++ left)
   pub said : (more : List ℕ) → lines_say n0 plans0 (lines_of (begun0 ++ (piece ++ more))) ≡ lines_say n plans (lines_of (begun ++ (left ++ more)))
 
 pub none_ended : (plans : List DiskPlan) (n : ℕ) (begun piece : List ℕ) → is_one_line begun ≡ true → HasEnded plans n begun piece plans n begun piece
-none_ended plans n begun piece one = record { unended = one; few = omega arith; said = λ more. refl }
+none_ended plans n begun piece one = record { unended = one; few = omega arith; kept = ([], refl); said = λ more. refl }
+
+-- behind a line that ended
+kept_behind : (all begun left head rest : List ℕ) → EndsIn all (begun ++ left) → left ≡ head ++ 10 ∷ rest → EndsIn all rest
+kept_behind all begun left head rest (front, is) whole = (
+  front ++ (begun ++ (head ++ 10 ∷ [])),
+  rw (append_assoc front (begun ++ (head ++ 10 ∷ [])) rest, append_assoc begun (head ++ 10 ∷ []) rest, append_assoc head (10 ∷ []) rest) (is ∙ ap (λ l. front ++ (begun ++ l)) whole),
+)
+
+-- of two pieces
+kept_of_both : (bytes line piece line' : List ℕ) → EndsIn bytes line → EndsIn (line ++ piece) line' → EndsIn (bytes ++ piece) line'
+kept_of_both bytes line piece line' (front, is) (behind, is') =
+    (front ++ behind, ap (λ l. l ++ piece) is ∙ append_assoc front line piece ∙ ap (λ l. front ++ l) is' ∙ sym (append_assoc front behind line'))
 
 pub one_ended : (plans0 : List DiskPlan) (n0 : ℕ) (begun0 piece : List ℕ) (plans : List DiskPlan) (n : ℕ) (begun left : List ℕ) (i : ℕ) (front rest begun' : List ℕ) (next : List DiskPlan) → HasEnded plans0 n0 begun0 piece plans n begun left → Some i ≡ position (λ b. b == 10) left → front ≡ take i left → rest ≡ drop (i + 1) left → begun' ≡ [] → line_says n plans (strip_carriage_return (begun ++ front)) ≡ Ok next → HasEnded plans0 n0 begun0 piece next (n + 1) begun' rest
 one_ended plans0 n0 begun0 piece plans n begun left i front rest begun' next so_far is f r b says =
@@ -51,6 +64,7 @@ one_ended plans0 n0 begun0 piece plans n begun left i front rest begun' next so_
     rw (r, b) (record {
       unended = refl;
       few = omega (arith, so_far.few, count);
+      kept = kept_behind (begun0 ++ piece) begun left (take i left) (drop (i + 1) left) so_far.kept whole;
       said = λ more.
           so_far.said more
           ∙ ap (λ l. lines_say n plans (lines_of (begun ++ (l ++ more)))) whole
@@ -73,6 +87,7 @@ all_ended plans0 n0 begun0 piece plans n begun left begun' so_far is b =
     rw b (record {
       unended = lacks_both (λ b. b == 10) begun left so_far.unended (no_line left is);
       few = omega (arith, so_far.few);
+      kept = so_far.kept;
       said = λ more. so_far.said more ∙ ap (λ l. lines_say n plans (lines_of l)) (sym (append_assoc begun left more));
     })
 
@@ -80,13 +95,8 @@ all_ended plans0 n0 begun0 piece plans n begun left begun' so_far is b =
 pub still_reading : (r r' : Reading) (bytes piece : List ℕ) → IsReading r bytes → IsReadSoFar r.draft r.number r.line.items piece r'.draft r'.number r'.line.items → r'.length ≡ r.length + length piece → IsReading r' (bytes ++ piece)
 still_reading r r' bytes piece is open' count = record {
   count = count ∙ ap (λ n. n + length piece) is.count ∙ sym (length-append bytes piece);
+  kept = kept_of_both bytes r.line.items piece r'.line.items is.kept open'.kept;
   said = λ more. ap (λ l. lines_say 1 [] (lines_of l)) (append_assoc bytes piece more) ∙ is.said (piece ++ more) ∙ open'.said more;
-}
-
-pub now_faulty : (r : Reading) (f : Found) (bytes piece : List ℕ) → IsReading r bytes → IsStopped r.draft r.number r.line.items piece f.line f.reason → f.length ≡ r.length + length piece → IsFaulty f (bytes ++ piece)
-now_faulty r f bytes piece is stopped count = record {
-  count = count ∙ ap (λ n. n + length piece) is.count ∙ sym (length-append bytes piece);
-  said = λ more. ap (λ l. lines_say 1 [] (lines_of l)) (append_assoc bytes piece more) ∙ is.said (piece ++ more) ∙ stopped.said more;
 }
 
 -- the pieces up to the next one, joined

@@ -7,11 +7,13 @@ use Rattle.script_text.specs.declared.language.reader.State.TheVariants as state
 use Rattle.script_text.specs.declared.language.reader.ScriptReader.{ScriptReader}
 use Rattle.script_text.specs.Limits.{most_script_bytes}
 use Rattle.script_text.specs.Words.{lines_of}
+use Rattle.script_text.specs.OneLine.{EndsIn}
 use Rattle.script_text.specs.Whole.{lines_say}
 
 -- the plans so far, with the line that is not ended yet, say whatever follows what all bytes so far say with it
 pub record IsReading (r : Reading) (bytes : List ℕ) : Type 0 where
   pub count : r.length ≡ length bytes
+  pub kept : EndsIn bytes r.line.items
   pub said : (more : List ℕ) → lines_say 1 [] (lines_of (bytes ++ more)) ≡ lines_say r.number r.draft (lines_of (r.line.items ++ more))
 
 -- all bytes so far have this first faulty line, whatever follows

@@ -53,7 +53,9 @@ fn aimed_order(
 }
 
 fn flush_of(medium: u32) -> Order
-    ensures { result ≡ Order.Request (record { kind = Kind.Flush; unit = UnitKind.Bytes; at = 0; length = 0 }) Payload.Nothing medium }
+    ensures { result
+        ≡ Order.Request (record { kind = Kind.Flush; unit = UnitKind.Bytes; at = 0; length = 0 })
+        Payload.Nothing medium }
 {
     let asked = Asked {
         kind: Kind::Flush,

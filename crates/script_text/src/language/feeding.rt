@@ -19,7 +19,8 @@ use std::alloc::{AllocError, Global};
 
 /// The state after one more piece. The error is want of memory.
 pub fn fed(alloc: Global, state: State, piece: &[u8]) -> Result<State, AllocError>
-    ensures stands { IfOk result (λ next. (bytes : List ℕ) → StandsFor state bytes → StandsFor next (bytes ++ piece.now)) }
+    ensures stands { IfOk result (λ next. (bytes : List ℕ) → StandsFor state bytes
+        → StandsFor next (bytes ++ piece.now)) }
     ensures spent { state ≡ Spent → result ≡ Err alloc_error }
 {
     match state {
@@ -70,7 +71,8 @@ fn feed_found(found: Found, piece: &[u8]) -> State
 }
 
 fn feed_reading(alloc: Global, reading: Reading, piece: &[u8]) -> Result<State, AllocError>
-    ensures { IfOk result (λ next. (bytes : List ℕ) → IsReading reading bytes → StandsFor next (bytes ++ piece.now)) }
+    ensures { IfOk result (λ next. (bytes : List ℕ) → IsReading reading bytes
+        → StandsFor next (bytes ++ piece.now)) }
 {
     let Reading {
         draft,
@@ -146,7 +148,8 @@ fn end_line(
     begun: &mut Vec<u8>,
     front: &[u8],
 ) -> Result<Draft, LineRefused>
-    ensures says { Says (line_says number draft (strip_carriage_return (begun.old.items ++ front.now))) result }
+    ensures says { Says
+        (line_says number draft (strip_carriage_return (begun.old.items ++ front.now))) result }
     ensures begun { OnOk result (begun.new.items ≡ []) }
 {
     begun.extend_from_slice(front)?;

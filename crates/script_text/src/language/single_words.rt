@@ -100,7 +100,8 @@ pub fn begins_with(word: &str, words: &[&str]) -> bool
 
 /// The words behind this one, where it stands in front.
 pub fn words_after<'a, 'b>(word: &str, words: &'a [&'b str]) -> &'a [&'b str]
-    ensures { map (λ word. word.now) result.now ≡ words_after word.now (map (λ word. word.now) words.now) }
+    ensures { map (λ word. word.now) result.now
+        ≡ words_after word.now (map (λ word. word.now) words.now) }
 {
     if begins_with(word, words) {
         &words[1..]

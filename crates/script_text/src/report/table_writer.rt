@@ -43,7 +43,8 @@ fn add_children<O: Sink>(
     held: &mut String,
     out: &mut O,
 ) -> Result<(), ReportFault>
-    ensures text { AddsText (O.wrote out.old) (string_bytes held.old) result (O.wrote out.new) (string_bytes held.new) (children_text children.now) }
+    ensures text { AddsText (O.wrote out.old) (string_bytes held.old) result
+        (O.wrote out.new) (string_bytes held.new) (children_text children.now) }
     ensures cause { HasCauseOf ReportFault.Failed (O.faults out.old) (O.faults out.new) result }
 {
     for child in children {

@@ -44,7 +44,7 @@ fn all_asked(kind: Kind, unit: UnitKind) -> Asked {
     }
 }
 
-fn accepts_at_their_ends(alloc: Global) -> Result<Vec<Entry>, AllocError> {
+fn calls_at_their_ends(alloc: Global) -> Result<Vec<Entry>, AllocError> {
     Ok(vec![in alloc;
         Entry::Accept {
             tag: u32::MAX,
@@ -79,28 +79,42 @@ fn accepts_at_their_ends(alloc: Global) -> Result<Vec<Entry>, AllocError> {
             tag: u32::MAX,
             view: LAST
         },
+        Entry::Reset { tag: u32::MAX },
+        Entry::Eject { tag: u32::MAX },
         Entry::Insert {
             tag: u32::MAX,
             media_id: u32::MAX
         },
+        Entry::Protect {
+            tag: u32::MAX,
+            on: false
+        },
     ]?)
 }
 
-const ACCEPTS_AT_THEIR_ENDS: [&str; 7] = [
+const CALLS_AT_THEIR_ENDS: [&str; 10] = [
     "accept 4294967295 18446744073709551615+18446744073709551615@4294967295/4294967295 read bytes 18446744073709551615 18446744073709551615",
     "accept 4294967295 18446744073709551615+18446744073709551615@4294967295/4294967295 write blocks 18446744073709551615 18446744073709551615 ff",
     "accept 4294967295 18446744073709551615+18446744073709551615@4294967295/4294967295 erase blocks 18446744073709551615 18446744073709551615",
     "refuse 4294967295 18446744073709551615+18446744073709551615@4294967295/4294967295 erase blocks 18446744073709551615 18446744073709551615 4294967295 EFI_BAD_BUFFER_SIZE",
     "collect 4294967295 18446744073709551615",
     "cancel 4294967295 18446744073709551615+18446744073709551615@4294967295/4294967295",
+    "reset 4294967295",
+    "eject 4294967295",
     "insert 4294967295 4294967295",
+    "protect 4294967295 off",
 ];
 
-const COMMANDS_AT_THEIR_ENDS: [(Command, &str, &str); 4] = [
+const COMMANDS_AT_THEIR_ENDS: [(Command, &str, &str); 6] = [
     (
         Command::Fetch { block: u64::MAX },
         "fetch 18446744073709551615 18446744073709551615",
         "fault 18446744073709551615 fetch 18446744073709551615 8 4294967295",
+    ),
+    (
+        Command::Store { block: u64::MAX },
+        "store 18446744073709551615 18446744073709551615",
+        "fault 18446744073709551615 store 18446744073709551615 8 4294967295",
     ),
     (
         Command::Put {
@@ -109,6 +123,14 @@ const COMMANDS_AT_THEIR_ENDS: [(Command, &str, &str); 4] = [
         },
         "put 18446744073709551615 18446744073709551615 4294967295",
         "fault 18446744073709551615 put 18446744073709551615 4294967295 4294967295",
+    ),
+    (
+        Command::Get {
+            block: u64::MAX,
+            count: u32::MAX,
+        },
+        "get 18446744073709551615 18446744073709551615 4294967295",
+        "fault 18446744073709551615 get 18446744073709551615 4294967295 4294967295",
     ),
     (
         Command::Wipe {
@@ -134,8 +156,8 @@ fn is_line(alloc: Global, entry: &Entry, expected: &str) -> Result<bool, AllocEr
 #[test]
 fn numbers_at_their_ends(rt: HostRuntime) -> Result<(), Fail> {
     let alloc = rt.alloc();
-    let entries = accepts_at_their_ends(alloc)?;
-    for (entry, expected) in entries.iter().zip(ACCEPTS_AT_THEIR_ENDS) {
+    let entries = calls_at_their_ends(alloc)?;
+    for (entry, expected) in entries.iter().zip(CALLS_AT_THEIR_ENDS) {
         assert!(rt; is_line(alloc, entry, expected)?);
     }
     let token = u64::MAX;

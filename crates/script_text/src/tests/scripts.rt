@@ -112,13 +112,21 @@ fn shown(alloc: Global, script: &[u8]) -> Result<String, AllocError> {
     shown_answer(alloc, read_script(alloc, script))
 }
 
-const FIRST: &[u8] = b"disk a.img 512 1\r\nclient\r\nwrite 510 aabbccdd\r\nwait\r\nread 508 8\r";
+const FIRST: &[u8] = b"disk a.img 512 1\r\nclient\r\nwrite 510 aabbccdd\r\nwait\r\nread 508 8\r\n";
 
 const FIRST_SHOWN: &str =
     "[5 512 1 false false 1; 0 from 2: write bytes 510 4 aabbccdd @1 wait read bytes 508 8 @1]";
 
-const SCRIPTS: [(&[u8], &str); 25] = [
+const SCRIPTS: [(&[u8], &str); 27] = [
+    (
+        b"disk a.img 512 1\nclient\nwrite 510 aabbccdd\nwait\nread 508 8\n",
+        FIRST_SHOWN,
+    ),
     (FIRST, FIRST_SHOWN),
+    (
+        b"disk a.img 512 1\nclient\nwrite 510 aabbccdd\nwait\nread 508 8\r",
+        FIRST_SHOWN,
+    ),
     (b"", ""),
     (b"\n# x\n   \n\r\n#\xff\xff\n\n", ""),
     (
@@ -158,7 +166,7 @@ const SCRIPTS: [(&[u8], &str); 25] = [
         b"disk a 512 1\nclient\nwait\nreset\neject\ninsert\nprotect on\nprotect off",
         "[1 512 1 false false 1; 0 from 2: wait reset eject insert protect true protect false]",
     ),
-    (b"disk a 512 1\nfrob", "line 2 form"),
+    (b"disk a.img 512 1\nfrob", "line 2 form"),
     (b"client", "line 1 order"),
     (b"spare a", "line 1 order"),
     (b"disk a 512 1\nwait", "line 2 order"),
