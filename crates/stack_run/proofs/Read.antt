@@ -1,8 +1,11 @@
 -- What of a source was read so far.
-use Rattle.std.proofs.Common.{◌≡◌, ℕ, ◌<◌, ◌⊎◌, List, [], ◌++◌, take, length, Option, None, Some, Result, Ok, Err, true, false, is_ok, refl, sym, ◌∙◌, ap, append_assoc, inl, inr, arith, length-append}
-use Rattle.std.proofs.lemmas.List.{append-nil}
-use Rattle.std.proofs.lemmas.Bool.{lt-ltb, false≢true}
-use Rattle.image_store.specs.Edge.{TakesFront}
+use Rattle.std.proofs.Common.{◌≡◌, ℕ, ◌<◌, ◌≤◌, ◌⊎◌, List, [], ◌++◌, take, drop, length, Option, None, Some, Result, Ok, Err, true, false, is_ok, refl, sym, ◌∙◌, ap, append_assoc, inl, inr, arith, length-append}
+use Rattle.std.proofs.Math.ListN.{drop_of_length-le}
+use Rattle.std.proofs.Math.Nat.{le_of_lt}
+use Rattle.std.proofs.Math.Seq.{take-append_seam, drop-append_seam}
+use Rattle.std.proofs.lemmas.List.{append-nil, take_all, take-append-le, length-take-le}
+use Rattle.std.proofs.lemmas.Bool.{lt-ltb, false≢true, cases_lt}
+use Rattle.image_store.specs.Edge.{Takes, TakesFront}
 use Rattle.script_text.specs.Limits.{most_script_bytes}
 use Rattle.script_text.specs.declared.language.plans.DiskPlan.{DiskPlan}
 use Rattle.script_text.specs.declared.language.refusal.Reason.{Reason}
@@ -13,7 +16,7 @@ use Rattle.script_text.specs.Whole.{script_of}
 use Rattle.script_text.specs.Fed.{WasFed}
 use Rattle.stack_run.specs.Simple.{is_simple, said_of}
 use Rattle.image_store.specs.Place.{Image}
-use Rattle.stack_run.specs.Reading.{SourceReads, SourceSays, IsReadOut, IsScript, IsRefused}
+use Rattle.stack_run.specs.Reading.{most_read_bytes, SourceReads, SourceSays, IsReadOut, IsScript, IsRefused}
 use Rattle.stack_run.specs.Program.{IsToldRefused, IsToldLacking, LacksImage}
 
 -- the bytes so far, and what is left behind them, are what was left
@@ -34,56 +37,81 @@ so-far-more (Some left) now new bytes out n (rest, is, whole) front =
     let (more, new_is, split, ended) = rw is at front in
     (more, new_is, whole ∙ (ap (λ xs. bytes ++ xs) split ∙ sym (append_assoc bytes (take n out) more)))
 
--- nothing more comes
-pub so-far-ended : (left now new : Option (List ℕ)) (bytes out : List ℕ) → SoFar left now bytes → TakesFront now new 0 out → 0 < length out → SourceReads left new bytes
+-- a piece that was asked for in a front of the buffer is one of the whole buffer
+pub takes-shorter : {E : Type 0} (old new : Option (List ℕ)) (result : Result ℕ E) (out behind : List ℕ) → 0 < length out → Takes old new result out → Takes old new result (out ++ behind)
 unfolding TakesFront
-so-far-ended None now new bytes out is front some = (rw is at front)
-so-far-ended (Some left) now new bytes out (rest, is, whole) front some =
+takes-shorter old new (Err e) out behind some takes = takes
+takes-shorter None new (Ok n) out behind some (few, front) = (omega (arith, few, length-append out behind), front)
+takes-shorter (Some bytes) new (Ok n) out behind some (few, (rest, is, split, ended)) =
+    let front : take n (out ++ behind) ≡ take n out = take-append-le n out behind few in
+    (omega (arith, few, length-append out behind), (rest, is, rw front split, λ none more. ended none some))
+
+-- nothing more comes, and no more was read than may be
+pub so-far-ended : (left now new : Option (List ℕ)) (bytes out : List ℕ) → SoFar left now bytes → TakesFront now new 0 out → 0 < length out → length bytes ≤ most_read_bytes → SourceReads left new bytes
+unfolding TakesFront
+so-far-ended None now new bytes out is front some few = (rw is at front)
+so-far-ended (Some left) now new bytes out (rest, is, whole) front some few =
     let (more, new_is, split, ended) = rw is at front in
     let none : rest ≡ [] = ended refl some in
-    let no_more : more ≡ [] = sym split ∙ none in
-    (more, new_is, whole ∙ ap (λ xs. bytes ++ xs) (none ∙ sym no_more), inl no_more)
+    let all : left ≡ bytes = whole ∙ (ap (λ xs. bytes ++ xs) none ∙ append-nil bytes) in
+    let short : length left ≤ most_read_bytes = rw all few in
+    (sym all ∙ sym (take_all most_read_bytes left short), new_is ∙ ap Some (sym split ∙ none ∙ sym (drop_of_length-le left short)))
 
--- as much as a script may not have
-pub so-far-long : (left now : Option (List ℕ)) (bytes : List ℕ) → SoFar left now bytes → most_script_bytes < length bytes → SourceReads left now bytes
+-- what stands in front of the rest, and the rest, by the length of the front
+read-front : (n : ℕ) (left bytes rest : List ℕ) → left ≡ bytes ++ rest → length bytes ≡ n → (bytes ≡ take n left) × (rest ≡ drop n left)
+read-front n left bytes rest whole is = rw (whole, sym is) (sym (take-append_seam bytes rest), sym (drop-append_seam bytes rest))
+
+-- as much was read as may be
+pub so-far-long : (left now : Option (List ℕ)) (bytes : List ℕ) → SoFar left now bytes → length bytes ≡ most_read_bytes → SourceReads left now bytes
 so-far-long None now bytes is long = is
-so-far-long (Some left) now bytes (rest, is, whole) long = (rest, is, whole, inr long)
+so-far-long (Some left) now bytes (rest, is, whole) long =
+    let (front, behind) = read-front most_read_bytes left bytes rest whole long in
+    (front, is ∙ ap Some behind)
 
 -- as many bytes as a script may not have are refused, whatever they are
 too-long : (bytes : List ℕ) → most_script_bytes < length bytes → said_of bytes ≡ Err (0, Size)
 unfolding said_of script_of
 too-long bytes long = rw (lt-ltb most_script_bytes (length bytes) long) refl
 
-says-same : (left bytes rest : List ℕ) (said : Result (List DiskPlan) (ℕ × Reason)) → left ≡ bytes ++ rest → (rest ≡ []) ⊎ (most_script_bytes < length bytes) → said_of bytes ≡ said → said_of left ≡ said
-says-same left bytes rest said whole (inl none) says = ap said_of (whole ∙ (rw none (append-nil bytes))) ∙ says
-says-same left bytes rest said whole (inr long) says =
-    let longer : most_script_bytes < length left = rw (whole, length-append bytes rest) (omega (arith, long)) in
-    too-long left longer ∙ (sym (too-long bytes long) ∙ says)
+-- more bytes than may be read are as many as a script may not have, and so is their front
+front-too-long : (left : List ℕ) → most_read_bytes < length left → (said_of left ≡ Err (0, Size)) × (said_of (take most_read_bytes left) ≡ Err (0, Size))
+front-too-long left long =
+    let count : length (take most_read_bytes left) ≡ most_read_bytes = length-take-le most_read_bytes left (le_of_lt long) in
+    (too-long left (omega (arith, long)), too-long (take most_read_bytes left) (rw count (omega arith)))
+
+says-by : (left : List ℕ) → (most_read_bytes < length left) ⊎ (length left ≤ most_read_bytes) → said_of left ≡ said_of (take most_read_bytes left)
+says-by left (inl long) =
+    let (all, front) = front-too-long left long in
+    all ∙ sym front
+says-by left (inr short) = ap said_of (sym (take_all most_read_bytes left short))
 
 -- what was read says what all bytes say that were left
 pub says-whole : (left now : Option (List ℕ)) (bytes : List ℕ) (said : Result (List DiskPlan) (ℕ × Reason)) → SourceReads left now bytes → said_of bytes ≡ said → SourceSays left said
-says-whole (Some left) now bytes said (rest, is, whole, ended) says = says-same left bytes rest said whole ended says
+says-whole (Some left) now bytes said (front, is) says = says-by left (cases_lt most_read_bytes (length left)) ∙ (ap said_of (sym front) ∙ says)
 says-whole None now bytes said reads says = (bytes, says)
 
-read-out-by : (now : Option (List ℕ)) (bytes rest : List ℕ) (plans : List DiskPlan) → now ≡ Some rest → (rest ≡ []) ⊎ (most_script_bytes < length bytes) → said_of bytes ≡ Ok plans → now ≡ Some []
-read-out-by now bytes rest plans is (inl none) says = is ∙ ap Some none
-read-out-by now bytes rest plans is (inr long) says =
-    absurd (false≢true (ap is_ok (sym (too-long bytes long) ∙ says)))
+read-out-by : (left : List ℕ) (plans : List DiskPlan) → said_of (take most_read_bytes left) ≡ Ok plans → (most_read_bytes < length left) ⊎ (length left ≤ most_read_bytes) → drop most_read_bytes left ≡ []
+read-out-by left plans says (inl long) =
+    let (all, front) = front-too-long left long in
+    absurd (false≢true (ap is_ok (sym front ∙ says)))
+read-out-by left plans says (inr short) = drop_of_length-le left short
 
 read-out : (left now : Option (List ℕ)) (bytes : List ℕ) (plans : List DiskPlan) → SourceReads left now bytes → said_of bytes ≡ Ok plans → IsReadOut left now
-read-out (Some left) now bytes plans (rest, is, whole, ended) says = read-out-by now bytes rest plans is ended says
+read-out (Some left) now bytes plans (front, is) says =
+    is ∙ ap Some (read-out-by left plans (ap said_of (sym front) ∙ says) (cases_lt most_read_bytes (length left)))
 read-out None now bytes plans reads says = reads
 
 -- a script was read
 pub script-read : (left now : Option (List ℕ)) (bytes : List ℕ) (plans : List DiskPlan) → SourceReads left now bytes → said_of bytes ≡ Ok plans → IsScript left now plans
 script-read left now bytes plans reads says = record { says = says-whole left now bytes (Ok plans) reads says; out = read-out left now bytes plans reads says }
 
--- a reader was fed what was read so far, and no call failed
+-- a reader was fed what was read so far, no more than may be, and no call failed
 pub record SoFed (left now : Option (List ℕ)) (reader : ScriptReader) (count faults faults' : ℕ) : Type 0 where
   pub bytes : List ℕ
   pub so_far : SoFar left now bytes
   pub fed : WasFed reader bytes
   pub counted : count ≡ length bytes
+  pub few : count ≤ most_read_bytes
   pub quiet : faults' ≡ faults
 
 -- what was read is refused

@@ -1,6 +1,5 @@
 -- What of a source is read, and what it says (own profile).
-use Rattle.std.specs.Prelude.{◌≡◌, ℕ, ◌<◌, ◌⊎◌, List, [], ◌∷◌, ◌++◌, length, Option, None, Some, Result, Ok, Err}
-use Rattle.script_text.specs.Limits.{most_script_bytes}
+use Rattle.std.specs.Prelude.{◌≡◌, ℕ, List, [], ◌∷◌, take, drop, Option, None, Some, Result, Ok, Err}
 use Rattle.script_text.specs.declared.language.plans.DiskPlan.{DiskPlan}
 use Rattle.script_text.specs.declared.language.plans.ClientPlan.{ClientPlan}
 use Rattle.script_text.specs.declared.language.refusal.Reason.{Reason}
@@ -8,9 +7,13 @@ use Rattle.script_text.specs.declared.language.reader.ScriptReader.{ScriptReader
 use Rattle.script_text.specs.Fed.{WasFed}
 use Rattle.stack_run.specs.Simple.{said_of}
 
--- all bytes that were left were read, or more of them than a script may have
+-- the most bytes of a source that are read: 4 MiB and one byte, one more than a script may have
+abbrev pub most_read_bytes : ℕ
+most_read_bytes = 4194305
+
+-- these bytes were read: all that were left, but no more than may be read
 abbrev pub SourceReads : Option (List ℕ) → Option (List ℕ) → List ℕ → Type 0
-SourceReads (Some left) now bytes = (rest : List ℕ) × (now ≡ Some rest) × (left ≡ bytes ++ rest) × ((rest ≡ []) ⊎ (most_script_bytes < length bytes))
+SourceReads (Some left) now bytes = (bytes ≡ take most_read_bytes left) × (now ≡ Some (drop most_read_bytes left))
 SourceReads None now bytes = now ≡ None
 
 -- what all bytes say that were left; where these are not told, what some bytes say
@@ -28,7 +31,7 @@ pub record IsScript (left left' : Option (List ℕ)) (plans : List DiskPlan) : T
   pub says : SourceSays left (Ok plans)
   pub out : IsReadOut left left'
 
--- the source was read out, and is refused as a script
+-- the source was read to its end or as far as may be read, and is refused as a script
 pub record IsRefused (left left' : Option (List ℕ)) : Type 0 where
   pub line : ℕ
   pub reason : Reason

@@ -1,12 +1,12 @@
-ghost use Rattle.std.specs.Prelude.{◌≡◌, true, IfOk, IsErrOf};
+ghost use Rattle.std.specs.Prelude.{◌≡◌, ◌<◌, ◌≤◌, true, IfOk, IsErrOf};
 ghost use Rattle.std.specs.List.{list_all};
-ghost use Rattle.image_store.specs.Edge.{HasCauseOf};
+ghost use Rattle.image_store.specs.Edge.{Takes, HasCause, HasCauseOf};
 ghost use Rattle.script_text.specs.Fitting.{AreDisks};
 ghost use Rattle.stack_run.specs.Reading.{FedBy, IsScript, IsRefused};
 ghost use Rattle.stack_run.specs.Simple.{brings_simply, is_simple_request, is_simple_order, is_simple_client, are_simple_clients, is_simple_disk, is_simple, IsSingle};
 
 use history::{Kind, Order, Payload, UnitKind};
-use image_store::Source;
+use image_store::{Failed, Source};
 use script_text::{ClientPlan, DiskPlan, SCRIPT_BYTES, Script, ScriptReader, ScriptRefused};
 use std::alloc::Global;
 
@@ -33,7 +33,23 @@ pub enum NotRead {
 // How many bytes are asked for at once.
 const PIECE: usize = 4096;
 
-// Feeds the source to a reader, to its end or to more bytes than a script may have.
+// How many bytes are read at most: one more than a script may have.
+const READ_BYTES: u64 = SCRIPT_BYTES + 1;
+
+// Puts the next bytes of the source into the front of the piece, at most so many.
+fn next_bytes<R: Source>(source: &mut R, piece: &mut [u8], most: u64) -> Result<usize, Failed>
+    requires { 0 < most }
+    ensures taken { Takes (R.left source.old) (R.left source.new) result piece.new }
+    ensures few { IfOk result (λ more. more ≤ most) }
+    ensures cause { HasCause (R.faults source.old) (R.faults source.new) result }
+{
+    if piece.len() as u64 <= most {
+        return source.next(piece);
+    }
+    source.next(&mut piece[..most as usize])
+}
+
+// Feeds the source to a reader, to its end or to one byte more than a script may have.
 pub fn feed_source<R: Source>(alloc: Global, source: &mut R) -> Result<ScriptReader, ReadFault>
     ensures fed { IfOk result (FedBy (R.left source.old) (R.left source.new)) }
     ensures cause { HasCauseOf ReadFault.Failed (R.faults source.old) (R.faults source.new) result }
@@ -41,8 +57,8 @@ pub fn feed_source<R: Source>(alloc: Global, source: &mut R) -> Result<ScriptRea
     let mut reader = ScriptReader::make(alloc);
     let mut count = 0;
     let mut piece = [0; PIECE];
-    'pieces: while count <= SCRIPT_BYTES {
-        let more = match source.next(&mut piece) {
+    'pieces: while count < READ_BYTES {
+        let more = match next_bytes(source, &mut piece, READ_BYTES - count) {
             Ok(more) => more,
             Err(_) => return Err(ReadFault::Failed),
         };
@@ -60,11 +76,13 @@ pub fn feed_source<R: Source>(alloc: Global, source: &mut R) -> Result<ScriptRea
 
 // Reads a script that this version runs. It is refused only once the source was read out.
 pub fn read_source<R: Source>(alloc: Global, source: &mut R) -> Result<Script, NotRead>
-    ensures script { IfOk result (λ script. IsScript (R.left source.old) (R.left source.new) script.disks) }
+    ensures script { IfOk result (λ script.
+        IsScript (R.left source.old) (R.left source.new) script.disks) }
     ensures fit { IfOk result (λ script. AreDisks script.disks) }
     ensures simple { IfOk result (λ script. is_simple script.disks ≡ true) }
     ensures single { IfOk result (λ script. IsSingle script.disks) }
-    ensures refused { IsErrOf result NotRead.Refused → IsRefused (R.left source.old) (R.left source.new) }
+    ensures refused { IsErrOf result NotRead.Refused
+        → IsRefused (R.left source.old) (R.left source.new) }
     ensures cause { HasCauseOf NotRead.Failed (R.faults source.old) (R.faults source.new) result }
 {
     let reader = match feed_source(alloc, source) {
