@@ -1,7 +1,8 @@
 #!/bin/sh
-# Prints how long a large script takes to be read: 100,000 lines for 64 clients on 16 disks with 256 images, and a script of
-# 4 MiB of line feeds. This version reads them whole and then refuses to run them. Each time is the best of five runs.
-# Ends with 1 where one takes half a second or more.
+# Prints how long a large script takes to be read, and the memory that it takes: 100,000 lines for 64 clients on 16 disks
+# with 256 images, a script of 4 MiB of line feeds, and 16 fills of 16 MiB each. This version reads them whole and then
+# refuses to run them. Each time is the best of five runs, and the memory is the peak of one run more. Ends with 1 where
+# one takes half a second or more, or more than 64 MiB.
 set -eu
 
 top=$(cd "$(dirname "$0")/.." && pwd)
@@ -18,6 +19,8 @@ import sys
 import time
 
 DISKIO = sys.argv[1]
+# The shell runs the program as its one child and then becomes this one, so that nothing else counts.
+PEAK = "import resource; print(resource.getrusage(resource.RUSAGE_CHILDREN).ru_maxrss)"
 
 
 def many_lines():
@@ -33,21 +36,39 @@ def many_lines():
     return "\n".join(lines) + "\n"
 
 
-def seconds(script):
+def fills():
+    return "disk a.img 512 1\nclient\nclient\n" + "fill 0 16777216 5a\n" * 16
+
+
+def seconds():
     times = []
     for _ in range(5):
-        start = time.perf_counter()
-        answer = subprocess.run([DISKIO, "plain"], input=script.encode(), stdout=subprocess.PIPE)
-        times.append(time.perf_counter() - start)
+        with open("script") as script:
+            start = time.perf_counter()
+            answer = subprocess.run([DISKIO, "plain"], stdin=script, stdout=subprocess.PIPE)
+            times.append(time.perf_counter() - start)
         assert answer.stdout == b"script\n", answer.stdout
     return min(times)
 
 
-failed = False
-for name, script in [("100,000 lines", many_lines()), ("4 MiB of line feeds", "\n" * (4 << 20))]:
-    took = seconds(script)
-    failed = failed or took >= 0.5
-    print(f"{name}, {len(script):,} bytes: {took * 1000:.1f} ms")
-sys.exit(1 if failed else 0)
+def peak():
+    shell = f'"$@" < script > report; exec {sys.executable} -c "{PEAK}"'
+    return int(subprocess.check_output(["sh", "-c", shell, "sh", DISKIO, "plain"]))
+
+
+def passes(name, script):
+    with open("script", "w") as file:
+        file.write(script)
+    took, mebibytes = seconds(), peak() / 1024
+    print(f"{name}, {len(script):,} bytes: {took * 1000:.1f} ms, at most {mebibytes:.1f} MiB of memory")
+    return took < 0.5 and mebibytes <= 64
+
+
+passed = [
+    passes("100,000 lines", many_lines()),
+    passes("4 MiB of line feeds", "\n" * (4 << 20)),
+    passes("16 fills of 16 MiB", fills()),
+]
+sys.exit(0 if all(passed) else 1)
 DRIVER
 cd "$scratch" && python3 driver.py "$diskio"
