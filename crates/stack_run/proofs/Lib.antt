@@ -1,5 +1,6 @@
 pub mod Alone
 pub mod Collecting
+pub mod Drafts
 pub mod Ending
 pub mod Enough
 pub mod FreeAgain

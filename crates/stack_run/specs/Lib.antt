@@ -1,3 +1,4 @@
+pub mod Generated
 pub mod Keeping
 pub mod Leading
 pub mod Plain

@@ -1,6 +1,7 @@
 //! What a script does to its disks.
 #![tactic(auto)]
 
+mod generator;
 mod kept_tokens;
 mod one_medium;
 mod plain_run;
@@ -9,6 +10,7 @@ mod reading;
 mod refusal;
 mod serving;
 
+pub use generator::generate;
 pub use plain_run::run_lines;
 pub use program::run_plain;
 

@@ -2,6 +2,7 @@ ghost use Rattle.std.specs.Prelude.{ℕ, List, IfOk};
 ghost use Rattle.image_store.specs.Place.{IsFree};
 ghost use Rattle.image_store.specs.Slots.{images_at};
 
+mod generated;
 mod refusals;
 mod rows;
 
