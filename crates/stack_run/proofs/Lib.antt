@@ -1,5 +1,6 @@
 pub mod Alone
 pub mod Collecting
+pub mod Counting
 pub mod Drafts
 pub mod Ending
 pub mod Enough
@@ -13,4 +14,5 @@ pub mod Read
 pub mod Reported
 pub mod Running
 pub mod Stepping
+pub mod Summing
 mod Ran

@@ -1,3 +1,4 @@
+pub mod Figures
 pub mod Generated
 pub mod Keeping
 pub mod Leading
@@ -6,3 +7,4 @@ pub mod Program
 pub mod Reading
 pub mod Serving
 pub mod Simple
+pub mod Summary

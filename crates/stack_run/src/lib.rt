@@ -9,6 +9,7 @@ mod program;
 mod reading;
 mod refusal;
 mod serving;
+mod summary;
 
 pub use generator::generate;
 pub use plain_run::run_lines;

@@ -1,0 +1,13 @@
+use Rattle.std.proofs.Common.{◌≡◌, false, ap, Some}
+use Rattle.std.specs.Fmt.{digits, styled_digits_output}
+use Rattle.script_text.specs.Text.{line_of}
+use Rattle.script_text.specs.Tables.{digits_of}
+use Rattle.script_text.proofs.Padded.{padded-to}
+use Rattle.stack_run.proofs.summary.crc_line.Goals as goal
+
+pub returns : goal.returns
+unfolding line_of
+returns c =
+    let shown : styled_digits_output c.in_radix.result c.laid_out.result ≡ Some (digits_of 8 c.args.crc) =
+    rw (c.laid_out.ensures, c.in_radix.ensures) (ap Some (padded-to 8 (digits 16 false c.args.crc))) in
+    rw shown at c.format.ensures.ok
