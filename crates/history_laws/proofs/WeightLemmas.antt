@@ -18,17 +18,17 @@ use Rattle.history.specs.declared.entry.Command.TheVariants.{Fetch, Store, Sync}
 use Rattle.history.specs.declared.entry.Entry.{Entry}
 use Rattle.history.specs.declared.entry.Entry.TheVariants.{Accept, Refuse, Done, Fault, Collect}
 use Rattle.history.specs.Setup.{Setup, size_of, per_of, IsSetup}
-use Rattle.history.specs.Tokens.{Request, accepted, request, is_flush, from_of, until_of}
+use Rattle.history.specs.Tokens.{Request, is_accept, accepted, request, is_flush, from_of, until_of}
 use Rattle.history.specs.Commands.{is_fetch, is_sync, is_at, moves, lies_in, done_commands, has_done, is_moved}
 use Rattle.history.specs.Marks.{mark_of, status_if, is_complete, was_fetched}
 use Rattle.history.specs.Tasks.{Task, Moves, Syncs, span_command, task_command}
-use Rattle.history.specs.Next.{next_task, Turn, next_turn, Outcome, Made, Failed, entry_of}
+use Rattle.history.specs.Next.{first_open, next_task, Turn, next_turn, Outcome, Made, Failed, entry_of}
 use Rattle.history_laws.specs.Told.{concerns}
 use Rattle.history_laws.proofs.CountLemmas.{accepted-none, accepted-more, accepted-same}
 use Rattle.history_laws.proofs.TokenLemmas.{request-accept, accept-concerns, request-other, mark-other, done_commands-other, has_done-done, has_done-stays, done_commands-same, request-same}
-use Rattle.history_laws.proofs.EndLemmas.{mark-done, mark-fault}
+use Rattle.history_laws.proofs.EndLemmas.{mark-stays, mark-done, mark-fault}
 use Rattle.history_laws.proofs.TaskLemmas.{complete-flush, unit-of}
-use Rattle.history_laws.proofs.NextLemmas.{next-task-some}
+use Rattle.history_laws.proofs.NextLemmas.{next-task-some, first-open-fails}
 use Rattle.history_laws.proofs.PlainLemmas.{task-unit, task-sync, IsTurnOf, turn-of, turn-concerns, turn-accepted, mark-collect}
 
 -- the sum of n values from number a on
@@ -143,6 +143,48 @@ weight-collect S H tag t = rw (accepted-same H (Collect tag t) refl) (ap (λ f. 
 pub weight-none : (S : Setup) → weight S [] ≡ 0
 unfolding weight sum_from
 weight-none S = rw accepted-none refl
+
+-- an entry that is no accept makes no byte and no token heavier
+byte-later : (S : Setup) (H : List Entry) (e : Entry) (t x : ℕ) → weight_at S (e ∷ H) t x ≤ weight_at S H t x
+byte-later S H e t x =
+    byte-less (is_moved S H t x) (is_moved S (e ∷ H) t x) (was_fetched H t (byte_group S x)) (was_fetched (e ∷ H) t (byte_group S x))
+    (has_done-stays (moves S x) H e t) (has_done-stays (is_at is_fetch (byte_group S x)) H e t)
+
+token-later : (S : Setup) (H : List Entry) (e : Entry) (t : ℕ) → is_accept e ≡ false → token_weight S (e ∷ H) t ≤ token_weight S H t
+unfolding token_weight
+token-later S H e t other = rw (request-same H e t other) (by (request H t) (mark_of S H t) (mark_of S (e ∷ H) t) refl refl)
+  where
+    by : (r : Option Request) (was mark : Option Status) → mark_of S H t ≡ was → mark_of S (e ∷ H) t ≡ mark → request_weight S (e ∷ H) t r mark ≤ request_weight S H t r was
+    by None was mark before after = omega arith
+    by (Some r) was (Some status) before after = omega arith
+    by (Some r) None None before after =
+        omega (arith, sum-below (weight_at S (e ∷ H) t) (weight_at S H t) (from_of S r) r.asked.length (λ x lo hi. byte-later S H e t x))
+    by (Some r) (Some status) None before after = let ended : mark_of S (e ∷ H) t ≡ Some status = mark-stays S H e t status before in cc
+
+pub weight-later : (S : Setup) (H : List Entry) (e : Entry) → is_accept e ≡ false → weight S (e ∷ H) ≤ weight S H
+unfolding weight
+weight-later S H e other =
+    rw (accepted-same H e other) (sum-below (token_weight S (e ∷ H)) (token_weight S H) 0 (accepted H) (λ t lo hi. token-later S H e t other))
+
+-- where no token is open, nothing weighs
+weight-ended : (S : Setup) (H : List Entry) (t : ℕ) → (mark_of S H t ≡ None → ⊥) → token_weight S H t ≤ 0
+unfolding token_weight
+weight-ended S H t ended = by (request H t) (mark_of S H t) refl
+  where
+    by : (r : Option Request) (mark : Option Status) → mark_of S H t ≡ mark → request_weight S H t r mark ≤ 0
+    by None mark is = omega arith
+    by (Some r) (Some status) is = omega arith
+    by (Some r) None is = absurd (ended is)
+
+sum-zero : (f : ℕ → ℕ) (a n : ℕ) → ((x : ℕ) → a ≤ x → x < a + n → f x ≤ 0) → sum_from f a n ≤ 0
+unfolding sum_from
+sum-zero f a zero none = omega arith
+sum-zero f a (suc n) none = omega (arith, none a (omega arith) (omega arith), sum-zero f (a + 1) n (λ x lo hi. none x (omega arith) (omega arith)))
+
+pub weight-drained : (S : Setup) (H : List Entry) → first_open S H ≡ None → weight S H ≡ 0
+unfolding weight
+weight-drained S H none =
+    omega (arith, sum-zero (token_weight S H) 0 (accepted H) (λ t lo hi. weight-ended S H t (λ unmarked. first-open-fails S H t none (record { token = omega arith; unmarked = unmarked }))))
 
 -- the new token weighs at most one, and two for each of its bytes
 weight-new : (S : Setup) (H : List Entry) (tag : ℕ) (view : View) (asked : Asked) (bytes : List ℕ) → token_weight S (Accept tag view asked bytes ∷ H) (accepted H) ≤ 1 + 2 * asked.length
