@@ -1,5 +1,5 @@
 -- What the lines of clients ask, and which entry each of them gives (own profile). A history stands newest entry first.
-use Rattle.std.specs.Prelude.{ℕ, ◌+◌, ◌&&◌, Bool, true, false, not, nat_eq, nat_lt, if◌then◌else◌, List, [], ◌∷◌, map, length, replicate, Option, None, Some, is_some}
+use Rattle.std.specs.Prelude.{ℕ, zero, suc, ◌++◌, ◌+◌, ◌&&◌, Bool, true, false, not, nat_eq, nat_lt, if◌then◌else◌, List, [], ◌∷◌, map, length, replicate, Option, None, Some, is_some}
 use Rattle.efi_status.specs.declared.Status.{Status}
 use Rattle.history.specs.declared.entry.View.{View}
 use Rattle.history.specs.declared.entry.Asked.{Asked}
@@ -92,3 +92,8 @@ first_own_left H tag = first_from (λ t. not (was_collected H t) && has_tag tag 
 -- the least of all tokens that was not collected
 unfoldable pub first_left : List Entry → Option ℕ
 first_left H = first_from (λ t. not (was_collected H t)) 0 (accepted H)
+
+-- the tokens of this tag among the first n, in order of number
+unfoldable pub own_before : List Entry → ℕ → ℕ → List ℕ
+own_before H tag zero = []
+own_before H tag (suc n) = if has_tag tag (request H n) then own_before H tag n ++ n ∷ [] else own_before H tag n

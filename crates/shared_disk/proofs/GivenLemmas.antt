@@ -1,0 +1,38 @@
+-- What a token gave back, and what is over of it, stays so.
+use Rattle.std.proofs.Common.{◌≡◌, ℕ, ◌<◌, Bool, true, false, ◌&&◌, nat_lt, List, ◌∷◌, Option, None, Some, refl, sym, ◌∙◌}
+use Rattle.std.proofs.lemmas.Bool.{lt-ltb}
+use Rattle.efi_status.specs.declared.Status.{Status}
+use Rattle.history.specs.declared.entry.Entry.{Entry}
+use Rattle.history.specs.Setup.{Setup}
+use Rattle.history.specs.Tokens.{Request, accepted}
+use Rattle.history.specs.Commands.{moves}
+use Rattle.history.specs.Marks.{mark_of, is_outstanding}
+use Rattle.history.specs.Rules.{MayFollow}
+use Rattle.history_laws.proofs.EndLemmas.{mark-stays, ended-read}
+use Rattle.history_laws.proofs.TokenLemmas.{request-stays, has_done-stays}
+use Rattle.shared_disk.specs.Desk.{IsGivenBack}
+use Rattle.shared_disk.proofs.OpeningLemmas.{collected-stays}
+
+-- an accepted token that is not outstanding stays so
+pub closed-stays : (S : Setup) (H : List Entry) (e : Entry) (t : ℕ) → t < accepted H → is_outstanding S H t ≡ false → is_outstanding S (e ∷ H) t ≡ false
+closed-stays S H e t lt closed = by (mark_of S H t) refl
+  where
+    and-false : (b : Bool) → (b && false) ≡ false
+    and-false true = refl
+    and-false false = refl
+
+    by : (o : Option Status) → mark_of S H t ≡ o → is_outstanding S (e ∷ H) t ≡ false
+    by None is = let bad : true ≡ false = rw (lt-ltb t (accepted H) lt, is) at closed in cc
+    by (Some status) is = rw (mark-stays S H e t status is) (and-false (nat_lt t (accepted (e ∷ H))))
+
+-- what an ended token gave back stays so
+pub given-stays : (S : Setup) (H : List Entry) (e : Entry) (t : ℕ) (buffer : List ℕ) (q : Request) (status : Status) → MayFollow S H e → IsGivenBack S H t buffer q status → IsGivenBack S (e ∷ H) t buffer q status
+given-stays S H e t buffer q status may given = record {
+  named = request-stays H e t q given.named;
+  marked = mark-stays S H e t status given.marked;
+  collected = collected-stays e H t given.collected;
+  written = given.written;
+  read = λ reads x v from until is. given.read reads x v from until (sym (ended-read S H e t status x may given.marked) ∙ is);
+  long = given.long;
+  whole = λ well reads x from until. has_done-stays (moves S x) H e t (given.whole well reads x from until);
+}

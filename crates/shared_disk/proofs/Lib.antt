@@ -1,0 +1,4 @@
+pub mod KeptLemmas
+pub mod OwnLemmas
+pub mod OpeningLemmas
+pub mod GivenLemmas
