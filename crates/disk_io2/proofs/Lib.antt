@@ -1,4 +1,4 @@
 mod Faults
 mod Serving
 mod Ended
-mod ReadOff
+pub mod ReadOff

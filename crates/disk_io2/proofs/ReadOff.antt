@@ -51,6 +51,15 @@ module _ {M : Type 0} (device : M → Device) (shaped : (m : M) → IsShaped (de
       by (m ∷ ms) zero less is = cc
       by (m ∷ ms) (suc i) less is = by ms i (omega (arith, less)) is
 
+  -- a medium that the drive does not have has none
+  pub no-blocks : (id : ℕ) → None ≡ option_map (λ m. (device m).blocks) (medium_with drive id) → 0 ≡ blocks_of S id
+  no-blocks zero none = refl
+  no-blocks (suc j) none = by (slice_get drive.media j) refl (none ∙ ap (option_map (λ m. (device m).blocks)) (medium-at j))
+    where
+      by : (o : Option M) → slice_get drive.media j ≡ o → None ≡ option_map (λ m. (device m).blocks) o → 0 ≡ blocks_of S (suc j)
+      by None there is = sym (ap opening_blocks (opening-is j None there))
+      by (Some m) there is = cc
+
   -- the opening bytes that are told are those of all blocks
   pub told-whole : AreToldWhole S
   told-whole zero bytes told = cc
