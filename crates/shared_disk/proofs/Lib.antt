@@ -2,3 +2,14 @@ pub mod KeptLemmas
 pub mod OwnLemmas
 pub mod OpeningLemmas
 pub mod GivenLemmas
+pub mod SoundLemmas
+pub mod MakingLemmas
+pub mod CourseLemmas
+pub mod SuccessLemmas
+pub mod TakingLemmas
+pub mod WaitLemmas
+pub mod DoneLemmas
+pub mod EntryLemmas
+pub mod LineLemmas
+pub mod LastLemmas
+pub mod DeskLemmas

@@ -18,17 +18,17 @@ get-front [] x y j is = cc
 get-front (z ∷ xs) x y zero is = is
 get-front (z ∷ xs) x y (suc j) is = get-front xs x y j is
 
-get-push : {X : Type 0} (xs : List X) (x y : X) (t : ℕ) → slice_get (xs ++ x ∷ []) t ≡ Some y → (slice_get xs t ≡ Some y) ⊎ ((t ≡ length xs) × (x ≡ y))
+pub get-push : {X : Type 0} (xs : List X) (x y : X) (t : ℕ) → slice_get (xs ++ x ∷ []) t ≡ Some y → (slice_get xs t ≡ Some y) ⊎ ((t ≡ length xs) × (x ≡ y))
 get-push [] x y zero is = inr (refl, cc)
 get-push [] x y (suc t) is = cc
 get-push (z ∷ xs) x y zero is = inl is
 get-push (z ∷ xs) x y (suc t) is = elim (get-push xs x y t is) [ inl before ↦ inl before | inr last ↦ inr (omega (arith, last.0), last.1) ]
 
-own-more : (H : List Entry) (tag n : ℕ) → has_tag tag (request H n) ≡ true → own_before H tag (suc n) ≡ own_before H tag n ++ n ∷ []
+pub own-more : (H : List Entry) (tag n : ℕ) → has_tag tag (request H n) ≡ true → own_before H tag (suc n) ≡ own_before H tag n ++ n ∷ []
 unfolding own_before
 own-more H tag n own = rw own refl
 
-own-same : (H : List Entry) (tag n : ℕ) → has_tag tag (request H n) ≡ false → own_before H tag (suc n) ≡ own_before H tag n
+pub own-same : (H : List Entry) (tag n : ℕ) → has_tag tag (request H n) ≡ false → own_before H tag (suc n) ≡ own_before H tag n
 unfolding own_before
 own-same H tag n other = rw other refl
 

@@ -25,7 +25,7 @@ use Rattle.disk_core.specs.GoingOn.{GoesOn}
 use Rattle.shared_disk.specs.declared.clients.Client.{Client}
 use Rattle.shared_disk.specs.declared.answers.Line.{Line}
 use Rattle.shared_disk.specs.declared.answers.Line.TheVariants as line
-use Rattle.shared_disk.specs.Lines.{Role, with_entry, first_own_open, first_left}
+use Rattle.shared_disk.specs.Lines.{payload_bytes, Role, with_entry, first_own_open, first_left}
 use Rattle.shared_disk.specs.Script.{Script, next_order, places_at, AreOver, DoesNext, CollectsAtWait, CollectsAtEnd, KeepsScript}
 
 -- the disk; the history at the beginning with the clients, which never change; for each client the places of the lines that it has done;
@@ -66,6 +66,11 @@ pub record IsAskedFor (asked : Asked) (payload : Payload) : Type 0 where
   pub most : asked.length ≤ 2 ^ 24
   pub well_asked : IsWellAsked asked
   pub brings : BringsFor asked.kind payload asked.length
+
+-- the buffer that a read or a write of a line brings: the bytes of the write, or zeros
+pub record IsBufferFor (asked : Asked) (payload : Payload) (buffer : List ℕ) : Type 0 where
+  pub long : length buffer ≡ asked.length
+  pub bytes : asked.kind ≡ Write → buffer ≡ payload_bytes asked.length payload
 
 abbrev pub IsOrder : Order → Type 0
 IsOrder (order.Request asked payload k) = IsAskedFor asked payload

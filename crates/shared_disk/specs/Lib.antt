@@ -1,3 +1,4 @@
 pub mod Desk
+pub mod Inside
 pub mod Lines
 pub mod Script

@@ -2,7 +2,16 @@
 #![tactic(auto)]
 
 mod answers;
+mod asking;
+mod books;
 mod clients;
+mod collecting;
+mod desk;
+mod making;
+mod requesting;
+mod taking;
+mod waiting;
 
 pub use answers::{DeskRefused, Line};
 pub use clients::{Client, Stand};
+pub use desk::Desk;
