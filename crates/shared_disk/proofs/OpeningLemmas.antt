@@ -1,13 +1,14 @@
 -- The tokens of the opening history are over.
-use Rattle.std.proofs.Common.{◌≡◌, ℕ, ◌<◌, ◌≤◌, inl, inr, Bool, true, false, List, [], ◌∷◌, None, Some, refl}
+use Rattle.std.proofs.Common.{◌≡◌, ℕ, ◌<◌, ◌≤◌, inl, inr, Bool, true, false, List, [], ◌∷◌, None, Some, refl, arith}
 use Rattle.std.proofs.lemmas.Bool.{cases_lt}
 use Rattle.history.specs.declared.entry.Entry.{Entry}
 use Rattle.history.specs.Setup.{Setup}
 use Rattle.history.specs.Tokens.{accepted, is_collect_of, was_collected}
 use Rattle.history.specs.Marks.{IsOutstanding}
 use Rattle.history.specs.Rules.{IsLegal}
+use Rattle.history_laws.proofs.CountLemmas.{accepted-none}
 use Rattle.history_laws.proofs.OwingLemmas.{open-kept}
-use Rattle.shared_disk.specs.Script.{Script, Deed, Enters, Does, entries_by, Follows, KeepsScript}
+use Rattle.shared_disk.specs.Script.{Script, Deed, Enters, Does, IsOpening, entries_by, Follows, KeepsScript}
 
 -- what was collected stays so
 pub collected-stays : (e : Entry) (H : List Entry) (t : ℕ) → was_collected H t ≡ true → was_collected (e ∷ H) t ≡ true
@@ -34,3 +35,7 @@ later-open S d places H t legal keeps there = elim (cases_lt t (accepted d.openi
       cc)
   | inr more ↦ more
 ]
+
+-- clients may begin where nothing has happened
+pub opening-none : (H : List Entry) → H ≡ [] → IsOpening H
+opening-none H none = rw none (record { tags = λ k d lt. absurd (omega (arith, lt)); collected = λ t lt. absurd (omega (arith, lt, accepted-none)) })

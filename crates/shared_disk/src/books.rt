@@ -141,7 +141,8 @@ impl Books {
     /// Notes that a client has done a line before which so many entries stood.
     pub fn add_place(&mut self, place: usize, before: u64)
         requires there { place < length self.old.courses.items }
-        requires room { (c : Course) → slice_get self.old.courses.items place ≡ Some c → vec_len c.places < vec_capacity c.places }
+        requires room { (c : Course) → slice_get self.old.courses.items place ≡ Some c
+            → vec_len c.places < vec_capacity c.places }
         ensures { ChangesCourse self.old place (HasPlace before) self.new }
     {
         self.courses[place].add_place(before);

@@ -34,7 +34,8 @@ fn first_open<M: Medium>(disk: &Disk<M>, from: usize, count: usize) -> usize
     requires from { from ≤ count }
     ensures within { from ≤ result }
     ensures most { result ≤ count }
-    ensures before { (t : ℕ) → from ≤ t → t < result → is_outstanding disk.now.setup disk.now.entries t ≡ false }
+    ensures before { (t : ℕ) → from ≤ t → t < result
+        → is_outstanding disk.now.setup disk.now.entries t ≡ false }
     ensures here { result < count → is_outstanding disk.now.setup disk.now.entries result ≡ true }
 {
     // Its facts say that a token that was handed back has ended.
@@ -52,7 +53,8 @@ fn first_awaited(slots: &[Slot], from: usize) -> usize
     requires { from ≤ length slots.now }
     ensures within { from ≤ result }
     ensures most { result ≤ length slots.now }
-    ensures before { (t : ℕ) (s : Slot) → from ≤ t → t < result → slice_get slots.now t ≡ Some s → is_awaited s.buffer ≡ false }
+    ensures before { (t : ℕ) (s : Slot) → from ≤ t → t < result → slice_get slots.now t ≡ Some s
+        → is_awaited s.buffer ≡ false }
     ensures here { (s : Slot) → slice_get slots.now result ≡ Some s → is_awaited s.buffer ≡ true }
 {
     for number in from..slots.len() {

@@ -15,3 +15,6 @@ mod waiting;
 pub use answers::{DeskRefused, Line};
 pub use clients::{Client, Stand};
 pub use desk::Desk;
+
+#[cfg(test)]
+mod tests;

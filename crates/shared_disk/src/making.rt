@@ -30,7 +30,8 @@ fn count_tokens(entries: &[Entry]) -> u64
 
 // The tokens of the opening history: another caller has their buffers.
 fn past_slots(alloc: Global, count: usize) -> Result<Vec<Slot>, AllocError>
-    ensures { IfOk result (λ slots. slots.items ≡ replicate count (record { tag = 0; buffer = Buffer.Gone })) }
+    ensures { IfOk result
+        (λ slots. slots.items ≡ replicate count (record { tag = 0; buffer = Buffer.Gone })) }
 {
     let mut slots = Vec::with_capacity(alloc, count)?;
     while slots.len() < count {

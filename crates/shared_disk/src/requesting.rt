@@ -24,7 +24,8 @@ pub fn submit_request<M: Medium>(
     requires there { client ≤ length books.old.clients.items }
     requires most { (asked_of ask).length ≤ 2 ^ 24 }
     requires sound { AreBooksOf disk.old books.old }
-    ensures does { IfOk result (DoesOn disk.old books.old disk.new books.new (Some (answer_of client view.now (asked_of ask) (bytes_of ask) media_id
+    ensures does { IfOk result (DoesOn disk.old books.old disk.new books.new
+        (Some (answer_of client view.now (asked_of ask) (bytes_of ask) media_id
         (refusal_of disk.old.setup disk.old.entries view.now (asked_of ask) media_id)))) }
     ensures disk { OnErr result (disk.new ≡ disk.old) }
     ensures same { OnErr result (AreSame books.old books.new) }

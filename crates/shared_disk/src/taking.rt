@@ -83,7 +83,8 @@ pub fn take_line<M: Medium>(
     requires some { 1 ≤ client }
     requires there { client ≤ length books.old.clients.items }
     requires sound { AreBooksOf disk.old books.old }
-    ensures says { LineSays (state_of disk.old books.old) (client - 1) result (state_of disk.new books.new) }
+    ensures says { LineSays (state_of disk.old books.old) (client - 1) result
+        (state_of disk.new books.new) }
     ensures sound { AreBooksOf disk.new books.new }
 {
     let place = client as usize - 1;

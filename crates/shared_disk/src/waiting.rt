@@ -17,7 +17,8 @@ use token_table::Mark;
 // The place of the first of these tokens, from this place on, that is outstanding, and their number where none is.
 fn first_outstanding<M: Medium>(disk: &Disk<M>, tokens: &[u64], from: usize) -> usize
     requires from { from ≤ length tokens.now }
-    requires accepted { (j t : ℕ) → slice_get tokens.now j ≡ Some t → t < accepted disk.now.entries }
+    requires accepted { (j t : ℕ) → slice_get tokens.now j ≡ Some t
+        → t < accepted disk.now.entries }
     ensures within { from ≤ result }
     ensures most { result ≤ length tokens.now }
     ensures before { (j t : ℕ) → from ≤ j → j < result → slice_get tokens.now j ≡ Some t
@@ -43,8 +44,8 @@ fn first_uncollected(slots: &[Slot], tokens: &[u64], from: usize) -> usize
     ensures most { result ≤ length tokens.now }
     ensures before { (j t : ℕ) (s : Slot) → from ≤ j → j < result → slice_get tokens.now j ≡ Some t
         → slice_get slots.now t ≡ Some s → is_awaited s.buffer ≡ false }
-    ensures here { (t : ℕ) (s : Slot) → slice_get tokens.now result ≡ Some t → slice_get slots.now t ≡ Some s
-        → is_awaited s.buffer ≡ true }
+    ensures here { (t : ℕ) (s : Slot) → slice_get tokens.now result ≡ Some t
+        → slice_get slots.now t ≡ Some s → is_awaited s.buffer ≡ true }
 {
     for place in from..tokens.len() {
         if let Buffer::Awaited = slots[tokens[place] as usize].buffer {
@@ -86,7 +87,8 @@ pub fn take_wait<M: Medium>(disk: &mut Disk<M>, books: &mut Books, client: u32) 
     requires sound { AreBooksOf disk.old books.old }
     requires there { client ≤ length books.old.clients.items }
     requires next { order_in books.old (client - 1) ≡ Some Order.Wait }
-    ensures says { LineSays (state_of disk.old books.old) (client - 1) result (state_of disk.new books.new) }
+    ensures says { LineSays (state_of disk.old books.old) (client - 1) result
+        (state_of disk.new books.new) }
     ensures sound { AreBooksOf disk.new books.new }
 {
     let place = client as usize - 1;

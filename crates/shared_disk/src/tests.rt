@@ -1,0 +1,4 @@
+//! Scripts of clients, with what happens and what a token gives.
+
+mod bench;
+mod rows;
