@@ -1,0 +1,9 @@
+mod AllDone
+mod Clients
+mod Collecting
+mod Costs
+mod Enough
+mod Leading
+mod Rows
+mod Stills
+mod Tidy
