@@ -2,5 +2,10 @@
 #![tactic(auto)]
 
 mod laws;
+mod plain_run;
 
 pub use laws::rounds_are_enough;
+pub use plain_run::plain;
+
+#[cfg(test)]
+mod tests;
