@@ -1,6 +1,6 @@
 -- After the rounds of the plain schedule every line is done, and each token has ended and was collected, whatever the outcomes are.
-use Rattle.std.proofs.Common.{◌≡◌, ◌≢◌, ℕ, zero, suc, ◌+◌, ◌<◌, ◌≤◌, ◌⊎◌, inl, inr, Bool, true, false, not, nat_eq, ◌&&◌, if◌then◌else◌, is_none, is_some, List, [], ◌∷◌, length, slice_get, Option, None, Some, refl, sym, ◌∙◌, ap, subst, arith}
-use Rattle.std.proofs.lemmas.Bool.{cases_eq, and_parts, and_from, ne_eqb}
+use Rattle.std.proofs.Common.{◌≡◌, ℕ, zero, suc, ◌+◌, ◌<◌, ◌≤◌, inl, inr, Bool, true, false, not, nat_eq, ◌&&◌, if◌then◌else◌, is_some, List, [], ◌∷◌, length, slice_get, Option, None, Some, refl, sym, ◌∙◌, ap, arith}
+use Rattle.std.proofs.lemmas.Bool.{cases_eq, ne_eqb}
 use Rattle.std.specs.List.{list_all}
 use Rattle.efi_status.specs.declared.Status.{Status}
 use Rattle.history.specs.declared.entry.Entry.{Entry}
@@ -14,14 +14,14 @@ use Rattle.history.specs.Rules.{IsLegal, refusal_of}
 use Rattle.history.specs.Next.{first_open, Turn, next_turn, Outcome, entry_of}
 use Rattle.history_laws.specs.Told.{is_done}
 use Rattle.history_laws.proofs.CountLemmas.{accepted-same}
-use Rattle.history_laws.proofs.PlainLemmas.{first-open-collect, turn-request, turn-collected, turn-accepted}
+use Rattle.history_laws.proofs.PlainLemmas.{first-open-collect, turn-request, turn-collected}
 use Rattle.history_laws.proofs.TokenLemmas.{request-same, request-some, collected-collect}
 use Rattle.disk_core.specs.Calls.{is_fetched}
 use Rattle.shared_disk.specs.declared.clients.Stand.{Stand}
 use Rattle.shared_disk.proofs.OpeningLemmas.{collected-stays}
 use Rattle.shared_disk.specs.Lines.{Role, view_of, payload_bytes, answer_of, is_view_open, is_insertable, entry_if, line_entry, with_entry, first_own_open}
 use Rattle.shared_disk.specs.Script.{IsOpening}
-use Rattle.device_workers.specs.Plain.{Progress, progress, collect_one, with_collect, collects, own_collected, last_collected, is_wait, after_wait, after_line, after_lines, taken_of, taken_by, taken_by_first, next_outcome, after_turn, after_turn_if, after_command, after_follow, after_step_if, after_step, a_round, is_done as is_role_done, is_over, after_rounds, rounds, plain_history}
+use Rattle.device_workers.specs.Plain.{Progress, progress, collect_one, with_collect, collects, last_collected, is_wait, after_wait, after_lines, taken_of, taken_by, taken_by_first, next_outcome, after_turn, after_turn_if, after_command, after_follow, after_step_if, after_step, a_round, is_done as is_role_done, is_over, after_rounds, rounds, plain_history}
 use Rattle.device_workers.specs.Laws.{IsAllDone}
 use Rattle.device_workers.proofs.Clients.{IsClients, uncollected-before, clients-none, clients-same, clients-line, opening-open}
 use Rattle.device_workers.proofs.Collecting.{own-keep, last-keep, collects-keep}

@@ -1,5 +1,5 @@
 -- What the kept script tells of a history: it begins with the opening, and each uncollected token is a client's.
-use Rattle.std.proofs.Common.{◌≡◌, ◌≢◌, ℕ, ◌+◌, ◌<◌, ◌≤◌, ◌⊎◌, inl, inr, Bool, true, false, List, [], ◌∷◌, ◌++◌, Option, None, Some, is_some, refl, sym, ◌∙◌, ap, subst, arith}
+use Rattle.std.proofs.Common.{◌≡◌, ◌≢◌, ℕ, ◌+◌, inl, inr, Bool, true, false, List, [], ◌∷◌, ◌++◌, Option, None, Some, is_some, refl, sym, ◌∙◌, ap, subst, arith}
 use Rattle.std.proofs.lemmas.Bool.{cases_eq}
 use Rattle.efi_status.specs.declared.Status.{Status}
 use Rattle.history.specs.declared.entry.View.{View}
@@ -11,7 +11,6 @@ use Rattle.history.specs.declared.order.Order.TheVariants as order
 use Rattle.history.specs.Eras.{is_present, media_id_of}
 use Rattle.history.specs.Setup.{Setup}
 use Rattle.history.specs.Tokens.{Request, is_accept, accepted, request, is_collect_of, was_collected}
-use Rattle.history.specs.Marks.{mark_of}
 use Rattle.history.specs.Rules.{IsLegal, refusal_of}
 use Rattle.history.specs.Next.{first_open}
 use Rattle.history_laws.proofs.NextLemmas.{first-open-none}

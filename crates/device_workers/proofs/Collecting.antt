@@ -1,11 +1,10 @@
 -- Collecting tokens in order of number: what it adds, and what it leaves.
-use Rattle.std.proofs.Common.{◌≡◌, ℕ, zero, suc, ◌+◌, Bool, true, false, not, nat_eq, if◌then◌else◌, List, ◌∷◌, Option, None, Some, refl, ◌∙◌, ap, arith}
+use Rattle.std.proofs.Common.{◌≡◌, ℕ, zero, suc, ◌+◌, Bool, true, false, not, nat_eq, if◌then◌else◌, List, ◌∷◌, Option, None, Some, refl, ◌∙◌}
 use Rattle.history.specs.declared.entry.Entry.{Entry}
 use Rattle.history.specs.declared.entry.Entry.TheVariants.{Collect}
 use Rattle.history.specs.Setup.{Setup}
 use Rattle.history.specs.Tokens.{Request, accepted, request, was_collected}
-use Rattle.history.specs.Next.{first_open, Outcome}
-use Rattle.history_laws.proofs.PlainLemmas.{first-open-collect}
+use Rattle.history.specs.Next.{Outcome}
 use Rattle.history_laws.proofs.WeightLemmas.{weight, weight-collect}
 use Rattle.device_workers.specs.Plain.{outcomes_onto, collect_one, with_collect, collects, own_collected, last_collected}
 
@@ -34,10 +33,7 @@ pub last-keep : (P : List Entry → Type 0) → ((G : List Entry) (tag t : ℕ) 
 unfolding last_collected
 last-keep P more H holds = collects-keep P more (λ tag. not (nat_eq tag 0)) H 0 (accepted H) holds
 
--- they leave which token is the first outstanding one
-pub own-open : (S : Setup) (H : List Entry) (tag : ℕ) → first_open S (own_collected H tag) ≡ first_open S H
-own-open S H tag = own-keep (λ G. first_open S G ≡ first_open S H) (λ G tag' t same. first-open-collect S G tag' t ∙ same) H tag refl
-
+-- they make nothing lighter
 pub own-weight : (S : Setup) (H : List Entry) (tag : ℕ) → weight S (own_collected H tag) ≡ weight S H
 own-weight S H tag = own-keep (λ G. weight S G ≡ weight S H) (λ G tag' t same. weight-collect S G tag' t ∙ same) H tag refl
 

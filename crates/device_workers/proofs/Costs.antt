@@ -1,8 +1,6 @@
 -- What a stand of the plain schedule can still need, and that each part of a round lowers it or changes nothing.
 use Rattle.std.proofs.Common.{◌≡◌, ℕ, zero, suc, ◌+◌, ◌*◌, ◌≤◌, ◌⊎◌, inl, inr, Bool, true, false, if◌then◌else◌, List, [], ◌∷◌, slice_get, slice_set, length, Option, None, Some, is_some, refl, sym, ◌∙◌, ap, arith}
 use Rattle.efi_status.specs.declared.Status.{Status}
-use Rattle.history.specs.declared.entry.Asked.{Asked}
-use Rattle.history.specs.declared.entry.View.{View}
 use Rattle.history.specs.declared.entry.Entry.{Entry}
 use Rattle.history.specs.declared.entry.Entry.TheVariants as entry
 use Rattle.history.specs.declared.order.Order.{Order}
@@ -16,7 +14,7 @@ use Rattle.history_laws.proofs.WeightLemmas.{weight, weight-accept, weight-later
 use Rattle.disk_core.specs.Calls.{is_fetched}
 use Rattle.shared_disk.specs.declared.clients.Stand.{Stand}
 use Rattle.shared_disk.specs.Lines.{Role, view_of, payload_bytes, answer_of, is_view_open, is_insertable, entry_if, line_entry, with_entry, first_own_open}
-use Rattle.device_workers.specs.Plain.{Progress, Taken, taken, own_collected, is_wait, after_wait, after_line, after_lines, put_left, taken_of, taken_by, taken_by_first, next_outcome, after_turn, after_turn_if, after_command, after_follow, after_step_if, after_step, a_round, line_rounds, lines_rounds, rounds}
+use Rattle.device_workers.specs.Plain.{Progress, Taken, taken, own_collected, is_wait, after_wait, after_line, after_lines, put_left, taken_of, taken_by, taken_by_first, next_outcome, after_turn, after_turn_if, after_command, after_follow, after_step, a_round, line_rounds, lines_rounds, rounds}
 use Rattle.device_workers.proofs.Collecting.{own-weight}
 
 -- what a stand can still need

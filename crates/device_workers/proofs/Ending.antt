@@ -1,20 +1,19 @@
 -- The last collects, and the history that the rounds and they have made.
-use Rattle.std.proofs.Common.{◌≡◌, ◌≢◌, ℕ, zero, suc, ◌+◌, ◌-◌, ◌<◌, ◌≤◌, ◌⊎◌, inl, inr, Bool, true, false, nat_eq, ◌&&◌, is_none, List, [], ◌∷◌, ◌++◌, length, take, Option, None, Some, IsSome, refl, sym, ◌∙◌, ap, subst, arith}
+use Rattle.std.proofs.Common.{◌≡◌, ℕ, ◌+◌, ◌-◌, ◌≤◌, inl, inr, true, is_none, List, [], ◌∷◌, ◌++◌, length, take, Option, None, Some, IsSome, refl, sym, ◌∙◌, ap, subst, arith}
 use Rattle.std.proofs.lemmas.Bool.{eqb-true, and_from}
 use Rattle.std.proofs.lemmas.List.{length-append}
 use Rattle.std.specs.List.{list_all}
 use Rattle.history.specs.declared.entry.Entry.{Entry}
 use Rattle.history.specs.declared.entry.Entry.TheVariants as entry
 use Rattle.history.specs.Setup.{Setup, IsSetup}
-use Rattle.history.specs.Tokens.{Request, accepted, request, was_collected}
-use Rattle.history.specs.Marks.{mark_of}
+use Rattle.history.specs.Tokens.{Request, request}
 use Rattle.history.specs.Rules.{IsLegal}
 use Rattle.history.specs.Room.{owed_entries}
 use Rattle.history.specs.Next.{first_open, Outcome, Made, Failed}
 use Rattle.history_laws.proofs.PlainLemmas.{first-open-collect}
 use Rattle.shared_disk.specs.Lines.{Role, has_tag, first_left}
-use Rattle.shared_disk.specs.Script.{Script, AreOver, CollectsAtEnd, places_at, KeepsScript, RunsWholeScript}
-use Rattle.shared_disk.specs.Desk.{DeskState, done_of, next_of, HasNoLine, HasNoLast, Keeps, Takes, LastSays}
+use Rattle.shared_disk.specs.Script.{AreOver, places_at, KeepsScript, RunsWholeScript}
+use Rattle.shared_disk.specs.Desk.{DeskState, done_of, next_of, HasNoLine, HasNoLast, Keeps, LastSays}
 use Rattle.device_workers.specs.Plain.{Progress, progress, outcomes_onto, outcomes_after, last_collected, is_done, is_over, after_rounds, rounds, plain_history}
 use Rattle.device_workers.specs.Leading.{LeadsFor, Leads}
 use Rattle.device_workers.specs.Serving.{lefts_of, IsAtOpening, Stays, RunsRounds, StopsAfter, CollectsRest, IsPlain, IsFaultlessPlain, IsPlainFront}

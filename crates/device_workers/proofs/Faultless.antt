@@ -4,7 +4,7 @@ use Rattle.history.specs.declared.entry.Entry.{Entry}
 use Rattle.history.specs.declared.entry.Entry.TheVariants.{Accept, Refuse, Done, Fault, Collect, Cancel, Reset, Eject, Insert, Protect}
 use Rattle.history.specs.Eras.{is_fault}
 use Rattle.history.specs.Setup.{Setup}
-use Rattle.history.specs.Next.{first_open, Turn, next_turn, Outcome, Made, Failed, entry_of}
+use Rattle.history.specs.Next.{Turn, next_turn, Outcome, Made, Failed, entry_of}
 use Rattle.history.specs.Room.{faults}
 use Rattle.history_laws.proofs.CountLemmas.{faults-more, faults-same}
 use Rattle.disk_core.specs.Calls.{is_fetched}

@@ -1,11 +1,11 @@
 -- Collects of the least uncollected token, one after the other, are the collects in order of number.
-use Rattle.std.proofs.Common.{◌≡◌, ◌≢◌, ℕ, zero, suc, ◌+◌, ◌-◌, ◌<◌, ◌≤◌, inl, inr, Bool, true, false, not, ◌&&◌, nat_eq, List, [], ◌∷◌, Option, None, Some, refl, sym, ◌∙◌, ap, arith}
+use Rattle.std.proofs.Common.{◌≡◌, ◌≢◌, ℕ, zero, suc, ◌+◌, ◌-◌, ◌<◌, ◌≤◌, inl, inr, Bool, true, false, not, ◌&&◌, nat_eq, List, ◌∷◌, Option, None, Some, refl, sym, ◌∙◌, ap, arith}
 use Rattle.std.proofs.lemmas.Bool.{cases_eq, and_parts, eqb-true, eq-eqb, ne_eqb, not-true}
 use Rattle.history.specs.declared.entry.Entry.{Entry}
 use Rattle.history.specs.declared.entry.Entry.TheVariants.{Collect}
 use Rattle.history.specs.Setup.{Setup}
 use Rattle.history.specs.Tokens.{Request, accepted, request, was_collected}
-use Rattle.history.specs.Marks.{first_from, mark_of, is_outstanding}
+use Rattle.history.specs.Marks.{first_from, is_outstanding}
 use Rattle.history_laws.proofs.CountLemmas.{accepted-same}
 use Rattle.history_laws.proofs.PlainLemmas.{mark-collect}
 use Rattle.history_laws.proofs.ScanLemmas.{first_from-some, first_from-fails}
@@ -37,10 +37,6 @@ passed test H u is = by (request H u) (was_collected H u) refl refl
     by None was named before = refl
     by (Some r) true named before = refl
     by (Some r) false named before = rw (is r named before) refl
-
-false-is : (b : Bool) → (b ≡ true → ⊥) → b ≡ false
-false-is true not_it = absurd (not_it refl)
-false-is false not_it = refl
 
 -- the least token that is not passed over
 gather : (test : ℕ → Bool) (H : List Entry) (t : ℕ) (q : Request) → request H t ≡ Some q → was_collected H t ≡ false → test q.tag ≡ true → ((u : ℕ) → u < t → IsPassed test H u)

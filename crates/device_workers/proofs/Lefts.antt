@@ -1,10 +1,10 @@
 -- What each client has left.
-use Rattle.std.proofs.Common.{◌≡◌, ◌≢◌, ℕ, zero, suc, ◌+◌, ◌<◌, ◌≤◌, Bool, true, false, List, [], ◌∷◌, length, drop, slice_get, slice_set, Option, None, Some, option_map, refl, sym, ◌∙◌, ap, arith}
+use Rattle.std.proofs.Common.{◌≡◌, ◌≢◌, ℕ, zero, suc, ◌+◌, ◌≤◌, Bool, true, false, List, [], ◌∷◌, length, drop, slice_get, slice_set, None, Some, refl, ◌∙◌, ap, arith}
 use Rattle.std.proofs.lemmas.Bool.{and_from, and_parts}
 use Rattle.std.specs.List.{list_all}
 use Rattle.history.specs.declared.order.Order.{Order}
 use Rattle.shared_disk.specs.Lines.{Role}
-use Rattle.shared_disk.specs.Script.{order_at, next_order}
+use Rattle.shared_disk.specs.Script.{next_order}
 use Rattle.device_workers.specs.Plain.{has_none, is_done}
 use Rattle.device_workers.specs.Serving.{lefts_from}
 

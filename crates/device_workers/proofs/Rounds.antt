@@ -1,14 +1,10 @@
 -- Clients take their lines one after the other, rounds follow on rounds, and what is left is collected.
-use Rattle.std.proofs.Common.{◌≡◌, ◌≢◌, ℕ, ◌+◌, ◌-◌, ◌<◌, ◌≤◌, ◌⊎◌, inl, inr, Bool, true, false, List, [], ◌∷◌, length, Option, None, Some, IsSome, Result, Ok, Err, OnErr, refl, sym, ◌∙◌, ap, subst, arith}
-use Rattle.std.specs.List.{list_all}
-use Rattle.history.specs.declared.entry.Entry.{Entry}
+use Rattle.std.proofs.Common.{◌≡◌, ℕ, ◌+◌, ◌-◌, ◌<◌, ◌≤◌, Bool, true, false, [], length, Option, None, Some, IsSome, Result, Ok, Err, OnErr, refl, sym, subst, arith}
 use Rattle.history.specs.declared.order.Order.{Order}
-use Rattle.history.specs.Setup.{Setup, IsSetup}
-use Rattle.history.specs.Next.{first_open}
+use Rattle.history.specs.Setup.{IsSetup}
 use Rattle.disk_core.specs.Turns.{IsIdle}
-use Rattle.shared_disk.specs.Lines.{Role}
 use Rattle.shared_disk.specs.Desk.{DeskState, done_of, next_of, HasNoLine, HasLine, Keeps}
-use Rattle.device_workers.specs.Plain.{Progress, progress, is_done}
+use Rattle.device_workers.specs.Plain.{progress}
 use Rattle.device_workers.specs.Leading.{TakesFirst, TakesBy, Leads}
 use Rattle.device_workers.specs.Serving.{lefts_of, Stays, TakesLine, TakesLines, Untaken, StopsIn, Steps, StepsOnce, RunsRound, RunsRounds, StopsAfter}
 use Rattle.device_workers.proofs.Costs.{cost}

@@ -1,13 +1,9 @@
 -- Worked runs: the definition computes the entries that its words say.
-use Rattle.std.proofs.Common.{◌≡◌, ℕ, Bool, true, false, List, [], ◌∷◌, Option, None, Some, refl}
-use Rattle.efi_status.specs.declared.Status.{Status}
+use Rattle.std.proofs.Common.{◌≡◌, ℕ, true, false, List, [], ◌∷◌, None, refl}
 use Rattle.efi_status.specs.declared.Status.TheVariants.{MediaChanged}
-use Rattle.history.specs.declared.entry.View.{View}
-use Rattle.history.specs.declared.entry.Asked.{Asked}
 use Rattle.history.specs.declared.entry.Kind.TheVariants.{Read, Write}
 use Rattle.history.specs.declared.entry.UnitKind.TheVariants.{Bytes}
 use Rattle.history.specs.declared.entry.Command.TheVariants.{Fetch, Store, Get}
-use Rattle.history.specs.declared.entry.Entry.{Entry}
 use Rattle.history.specs.declared.entry.Entry.TheVariants as entry
 use Rattle.history.specs.declared.order.Order.{Order}
 use Rattle.history.specs.declared.order.Order.TheVariants as order
@@ -17,7 +13,7 @@ use Rattle.history.specs.Tokens.{accepted, request, was_collected}
 use Rattle.history.specs.Eras.{is_protected, ejects, inserts}
 use Rattle.history.specs.Commands.{done_commands, has_done}
 use Rattle.history.specs.Marks.{first_from, all_from, is_complete, ending, mark_of}
-use Rattle.history.specs.Next.{first_open, next_task, next_turn, Outcome, Failed}
+use Rattle.history.specs.Next.{first_open, next_task, next_turn, Failed}
 use Rattle.history.specs.Rules.{refusal_of}
 use Rattle.shared_disk.specs.declared.clients.Stand.TheVariants.{Whole}
 use Rattle.shared_disk.specs.Lines.{Role, line_entry, first_own_open}

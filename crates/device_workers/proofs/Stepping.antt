@@ -1,8 +1,8 @@
 -- What a step of the desk is in the schedule.
-use Rattle.std.proofs.Common.{◌≡◌, ℕ, ◌+◌, ◌≤◌, Bool, true, false, List, [], ◌∷◌, None, Some, refl, sym, ◌∙◌, ap, subst, arith}
+use Rattle.std.proofs.Common.{◌≡◌, ◌+◌, ◌≤◌, Bool, true, false, List, [], Some, refl, ◌∙◌, ap, subst}
 use Rattle.history.specs.declared.entry.Entry.{Entry}
 use Rattle.history.specs.Setup.{Setup, IsSetup}
-use Rattle.history.specs.Next.{first_open, Turn, next_turn, Outcome, Made}
+use Rattle.history.specs.Next.{Turn, next_turn, Outcome, Made}
 use Rattle.history_laws.proofs.TurnNoneLemmas.{drained-turn}
 use Rattle.block_gate.specs.Works.{Lent}
 use Rattle.disk_core.specs.declared.answers.Step.TheVariants as step
@@ -17,9 +17,9 @@ use Rattle.disk_core.proofs.AtOnceLemmas.{stores-merged}
 use Rattle.disk_core.proofs.IdleLemmas.{idle-stays}
 use Rattle.shared_disk.specs.Lines.{Role}
 use Rattle.shared_disk.specs.Desk.{DeskState, OnDisk}
-use Rattle.device_workers.specs.Plain.{Progress, progress, after_step}
+use Rattle.device_workers.specs.Plain.{progress, after_step}
 use Rattle.device_workers.specs.Leading.{StepsOn, IsTurned}
-use Rattle.device_workers.specs.Serving.{Stays, Steps, StepsOnce}
+use Rattle.device_workers.specs.Serving.{Steps, StepsOnce}
 use Rattle.device_workers.proofs.Costs.{cost, turned-lightens}
 use Rattle.device_workers.proofs.Leading.{step-did, step-fetched, step-drained}
 

@@ -1,16 +1,16 @@
 -- Where no token is outstanding and a line is left, a client's line makes the stand lighter.
-use Rattle.std.proofs.Common.{◌≡◌, ℕ, zero, suc, ◌+◌, ◌<◌, ◌≤◌, ◌⊎◌, inl, inr, Bool, true, false, not, ◌&&◌, if◌then◌else◌, List, [], ◌∷◌, length, slice_get, Option, None, Some, is_none, refl, sym, ◌∙◌, ap, arith}
-use Rattle.std.proofs.lemmas.Bool.{cases_eq, and_parts, and_from}
+use Rattle.std.proofs.Common.{◌≡◌, ℕ, zero, suc, ◌+◌, ◌<◌, ◌≤◌, ◌⊎◌, inl, inr, true, false, ◌&&◌, List, [], ◌∷◌, length, slice_get, Option, None, Some, refl, sym, ◌∙◌, ap, arith}
+use Rattle.std.proofs.lemmas.Bool.{cases_eq, and_from}
 use Rattle.std.specs.List.{list_all}
 use Rattle.history.specs.declared.entry.Entry.{Entry}
 use Rattle.history.specs.declared.order.Order.{Order}
 use Rattle.history.specs.Setup.{Setup}
 use Rattle.history.specs.Tokens.{accepted, request}
-use Rattle.history.specs.Marks.{first_from, is_outstanding}
+use Rattle.history.specs.Marks.{is_outstanding}
 use Rattle.history.specs.Next.{first_open}
 use Rattle.history_laws.proofs.ScanLemmas.{first_from-none, first_from-fails}
 use Rattle.shared_disk.specs.Lines.{Role, has_tag, first_own_open}
-use Rattle.device_workers.specs.Plain.{Progress, progress, after_line, put_left, after_lines, taken_of, taken_by, taken_by_first, has_none, is_done}
+use Rattle.device_workers.specs.Plain.{Progress, progress, after_line, taken_of, taken_by, taken_by_first, has_none, is_done}
 use Rattle.device_workers.specs.Leading.{TakesFirst}
 use Rattle.device_workers.proofs.Costs.{cost, Lightens, line-falls, put-falls, taken_by-lightens, first-lightens}
 

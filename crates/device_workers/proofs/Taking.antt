@@ -1,5 +1,5 @@
 -- A client takes its next line: what the desk's answers are in the schedule.
-use Rattle.std.proofs.Common.{◌≡◌, ◌≢◌, ℕ, zero, suc, ◌+◌, ◌-◌, ◌<◌, ◌≤◌, ◌⊎◌, inl, inr, Bool, true, false, List, [], ◌∷◌, ◌++◌, length, drop, slice_get, slice_set, Option, None, Some, IsSome, is_some, refl, sym, ◌∙◌, ap, subst, arith, get_or-set_same, get_or-set_other}
+use Rattle.std.proofs.Common.{◌≡◌, ◌≢◌, ℕ, zero, suc, ◌+◌, ◌<◌, ◌≤◌, ◌⊎◌, inl, inr, Bool, true, false, List, [], ◌∷◌, ◌++◌, length, drop, slice_get, slice_set, Option, None, Some, IsSome, is_some, refl, sym, ◌∙◌, ap, subst, arith, get_or-set_same, get_or-set_other}
 use Rattle.std.proofs.lemmas.List.{length-append}
 use Rattle.std.proofs.lemmas.Option.{slice_get_within}
 use Rattle.efi_status.specs.declared.Status.{Status}
@@ -9,25 +9,25 @@ use Rattle.history.specs.declared.order.Order.{Order}
 use Rattle.history.specs.declared.order.Order.TheVariants as order
 use Rattle.history.specs.Eras.{is_present, media_id_of}
 use Rattle.history.specs.Setup.{Setup}
-use Rattle.history.specs.Rules.{IsLegal, MayFollow, refusal_of}
+use Rattle.history.specs.Rules.{IsLegal, refusal_of}
 use Rattle.history.specs.Room.{owed_entries}
 use Rattle.history.specs.Next.{first_open, Outcome}
 use Rattle.history_laws.proofs.SpareLemmas.{entries-collect}
 use Rattle.disk_core.specs.State.{State}
 use Rattle.disk_core.specs.declared.answers.Token.{Token}
-use Rattle.disk_core.specs.Turns.{IsIdle, KeepsGates}
+use Rattle.disk_core.specs.Turns.{IsIdle}
 use Rattle.disk_core.proofs.IdleLemmas.{idle-stays}
 use Rattle.shared_disk.specs.declared.clients.Stand.{Stand}
 use Rattle.shared_disk.specs.declared.answers.Line.TheVariants as answer
-use Rattle.shared_disk.specs.Lines.{Role, view_of, payload_bytes, answer_of, is_view_open, is_insertable, entry_if, line_entry, with_entry, first_own_open, first_own_left}
-use Rattle.shared_disk.specs.Script.{order_at, next_order, places_at, MayDoLine, AreOwnOver, DoesNext, CollectsAtWait}
+use Rattle.shared_disk.specs.Lines.{Role, view_of, payload_bytes, answer_of, is_view_open, is_insertable, entry_if, line_entry, with_entry, first_own_open}
+use Rattle.shared_disk.specs.Script.{order_at, next_order, places_at, AreOwnOver, DoesNext}
 use Rattle.shared_disk.specs.Desk.{DeskState, done_of, next_of, Keeps, DoesLine, Takes, LineSays, wants_memory}
 use Rattle.device_workers.specs.Plain.{outcomes_onto, own_collected, is_wait}
 use Rattle.device_workers.specs.Leading.{TakesBy}
 use Rattle.device_workers.specs.Serving.{lefts_from, lefts_of, Stays, WantsMemory, TakesLine, Untaken}
 use Rattle.device_workers.proofs.Gathering.{own-next, own-over, own-open-collect}
 use Rattle.device_workers.proofs.Leading.{takes-none, takes-stay, takes-wait, takes-line}
-use Rattle.device_workers.proofs.Lefts.{left_after, lefts-get, lefts-next, lefts-same, drop-at, drop-none}
+use Rattle.device_workers.proofs.Lefts.{left_after, lefts-get, lefts-next, drop-at, drop-none}
 
 wait-or-not : (line : Order) → (line ≡ order.Wait) ⊎ (is_wait line ≡ false)
 wait-or-not (order.Request asked payload k) = inr refl

@@ -1,6 +1,6 @@
 -- Tidy histories, in which the commands of each token are of its units: there an open token has a command that comes next. The plain
 -- schedule keeps a history tidy, whatever the outcomes are; it need not be legal, since an outcome may be none that a command can have.
-use Rattle.std.proofs.Common.{◌≡◌, ◌≢◌, ℕ, zero, suc, ◌+◌, ◌-◌, ◌<◌, ◌≤◌, ◌⊎◌, inl, inr, Bool, true, false, not, ◌&&◌, if◌then◌else◌, find, List, [], ◌∷◌, slice_get, Option, None, Some, refl, sym, ◌∙◌, ap, subst, arith}
+use Rattle.std.proofs.Common.{◌≡◌, ℕ, ◌-◌, ◌<◌, ◌≤◌, inl, inr, Bool, true, false, not, ◌&&◌, if◌then◌else◌, find, List, [], ◌∷◌, None, Some, refl, sym, ◌∙◌, subst, arith}
 use Rattle.std.specs.List.{list_all, list_any}
 use Rattle.std.proofs.lemmas.Bool.{cases_Bool, cases_eq, eq-eqb}
 use Rattle.std.proofs.lemmas.List.Folds.{list_all-map}
@@ -16,10 +16,10 @@ use Rattle.history.specs.declared.entry.Command.{Command}
 use Rattle.history.specs.declared.entry.Command.TheVariants.{Fetch, Store}
 use Rattle.history.specs.declared.entry.Entry.{Entry}
 use Rattle.history.specs.declared.entry.Entry.TheVariants.{Accept, Done, Fault}
-use Rattle.history.specs.Setup.{Setup, IsSetup, per_of}
+use Rattle.history.specs.Setup.{Setup, IsSetup}
 use Rattle.history.specs.Tokens.{Request, is_accept, accepted, request, is_flush, from_of, until_of}
 use Rattle.history.specs.Commands.{is_sync, moves, done_commands, has_done, is_moved}
-use Rattle.history.specs.Marks.{all_from, is_complete, ending, mark_of, status_if, was_fetched, IsOutstanding}
+use Rattle.history.specs.Marks.{all_from, is_complete, ending, mark_of, status_if, was_fetched}
 use Rattle.history.specs.Rules.{IsLegal}
 use Rattle.history.specs.Tasks.{Task, Moves, Syncs, tasks_of, is_finished, span_command, task_command}
 use Rattle.history.specs.Next.{first_open, next_task, Turn, next_turn, Outcome, Made, Failed, entry_of}

@@ -11,7 +11,7 @@ use Rattle.history.specs.Tokens.{Request, accepted, request, was_collected}
 use Rattle.history.specs.Next.{first_open, Turn, next_turn, Outcome, Made, Failed, entry_of}
 use Rattle.disk_core.specs.Calls.{is_fetched}
 use Rattle.shared_disk.specs.declared.clients.Stand.{Stand}
-use Rattle.shared_disk.specs.Lines.{Role, line_entry, with_entry, has_tag, first_own_open}
+use Rattle.shared_disk.specs.Lines.{Role, line_entry, with_entry, first_own_open}
 
 -- how each command of a history ended, the oldest first, with these behind them
 unfoldable pub outcomes_onto : List Entry → List Outcome → List Outcome

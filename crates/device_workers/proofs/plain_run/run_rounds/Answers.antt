@@ -1,6 +1,5 @@
-use Rattle.std.proofs.Common.{refl, arith}
-use Rattle.device_workers.proofs.Rounds.{run-none, run-more, run-over, stops-after, on-err, idle-on, round-going, round-leaving, going-on, some-left}
-use Rattle.device_workers.proofs.Taking.{stays-on}
+use Rattle.std.proofs.Common.{arith}
+use Rattle.device_workers.proofs.Rounds.{run-none, run-more, run-over, stops-after, on-err, round-going, round-leaving, going-on, some-left}
 use Rattle.device_workers.proofs.plain_run.run_rounds.Goals as goal
 use Rattle.device_workers.proofs.plain_run.run_rounds.Goals.{else-not-branch-via-then-not-branch+else-over, else-not-branch-via-else-not-branch}
 

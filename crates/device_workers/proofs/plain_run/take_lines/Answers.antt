@@ -1,4 +1,4 @@
-use Rattle.std.proofs.Common.{◌≡◌, length, ap, arith}
+use Rattle.std.proofs.Common.{◌≡◌, length, arith}
 use Rattle.device_workers.proofs.Taking.{stays-on}
 use Rattle.device_workers.proofs.Rounds.{taken-none, taken-more, stops-in, idle-on, on-err}
 use Rattle.device_workers.proofs.plain_run.take_lines.Goals as goal
