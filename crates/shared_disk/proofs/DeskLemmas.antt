@@ -1,5 +1,5 @@
 -- The desk keeps its script.
-use Rattle.std.proofs.Common.{◌≡◌, ◌≢◌, ◌∙◌, ℕ, zero, suc, ◌+◌, ◌≤◌, ◌⊎◌, inl, inr, Bool, true, false, List, [], ◌∷◌, length, map, slice_get, Option, None, Some, Ok, Err, IsSome, Result, refl, sym, ap, subst}
+use Rattle.std.proofs.Common.{◌≡◌, ◌≢◌, ◌∙◌, ℕ, zero, suc, ◌+◌, ◌≤◌, ◌⊎◌, inl, inr, Bool, true, false, List, [], ◌∷◌, length, map, slice_get, Option, None, Some, Ok, Err, IsSome, IfSome, is_some, Result, refl, sym, ap, subst}
 use Rattle.std.proofs.lemmas.Bool.{cases_eq}
 use Rattle.std.proofs.lemmas.List.{length-map}
 use Rattle.efi_status.specs.declared.Status.{Status}
@@ -13,6 +13,7 @@ use Rattle.history.specs.declared.entry.Asked.{Asked}
 use Rattle.history.specs.Eras.{media_id_of}
 use Rattle.history.specs.Setup.{Setup}
 use Rattle.disk_core.specs.declared.answers.Token.{Token}
+use Rattle.history.specs.Marks.{mark_of}
 use Rattle.history.specs.Tokens.{Request, accepted, is_accept, is_collect_of, was_collected}
 use Rattle.history.specs.Marks.{IsOutstanding}
 use Rattle.history.specs.Next.{Outcome, Made, Failed, entry_of}
@@ -39,7 +40,7 @@ use Rattle.shared_disk.specs.declared.clients.Stand.{Stand}
 use Rattle.shared_disk.specs.Lines.{Role, role_of, line_entry, answer_of, entry_if, with_entry, view_of}
 use Rattle.shared_disk.specs.Script.{Script, IsOpening, MayEnter, KeepsScript, places_at}
 use Rattle.shared_disk.specs.Desk.{DeskState, AreGivenBack, IsGivenBack, desk_over, given_at, Keeps, DoesLine, Takes, OnDisk, LineSays, LastSays}
-use Rattle.shared_disk.specs.Inside.{first_entries, buffer_in, state_of, IsBufferOf, IsSlot, IsSound, AreBooksOf}
+use Rattle.shared_disk.specs.Inside.{first_entries, buffer_in, end_in, slot_end, end_at, given_in, state_of, IsBufferOf, IsSlot, IsSound, AreBooksOf}
 use Rattle.shared_disk.proofs.KeptLemmas.{keeps-enters, keeps-does, keeps-nothing}
 use Rattle.shared_disk.proofs.OpeningLemmas.{later-open}
 use Rattle.shared_disk.proofs.SoundLemmas.{first-entries-more, sound-entry}
@@ -212,15 +213,51 @@ given-back disk b sound t bytes is = by (slice_get b.slots.items t) refl
   where
     kept : (s : Slot) → IsSlot disk.setup disk.entries t s → (x : Buffer) → s.buffer ≡ x → buffer_in x ≡ Some bytes → (q : Request) × (status : Status) × IsGivenBack disk.setup disk.entries t bytes q status
     kept s slot Awaited same none = cc
-    kept s slot (Kept items) same some =
-        let one : items ≡ bytes = cc in
-        let given : IsBufferOf disk.setup disk.entries t (Kept items) = rw same at slot.buffer in
-        subst (λ x. (q : Request) × (status : Status) × IsGivenBack disk.setup disk.entries t x q status) one given
+    kept s slot (Kept done) same some =
+        let one : done.buffer ≡ bytes = cc in
+        let given : IsBufferOf disk.setup disk.entries t (Kept done) = rw same at slot.buffer in
+        subst (λ x. (q : Request) × (status : Status) × IsGivenBack disk.setup disk.entries t x q status) one (given.0, done.status, given.1)
     kept s slot Gone same none = cc
 
     by : (o : Option Slot) → slice_get b.slots.items t ≡ o → (q : Request) × (status : Status) × IsGivenBack disk.setup disk.entries t bytes q status
     by None none = let bad : None ≡ Some bytes = sym (given-past b.slots.items t none) ∙ is in cc
     by (Some s) at = kept s (sound.slots t s at) s.buffer refl (sym (given-at b.slots.items t s at) ∙ is)
+
+-- a token whose buffer is kept ended so
+pub ended-so : (disk : State) (b : Books) → AreBooksOf disk b → (t : ℕ) (status : Status) → end_at b t ≡ Some status → mark_of disk.setup disk.entries t ≡ Some status
+ended-so disk b sound t status is = by (slice_get b.slots.items t) refl is
+  where
+    kept : (s : Slot) → IsSlot disk.setup disk.entries t s → (x : Buffer) → s.buffer ≡ x → end_in x ≡ Some status → mark_of disk.setup disk.entries t ≡ Some status
+    kept s slot Awaited same none = cc
+    kept s slot (Kept done) same some =
+        let one : done.status ≡ status = cc in
+        let given : IsBufferOf disk.setup disk.entries t (Kept done) = rw same at slot.buffer in
+        given.1.marked ∙ ap Some one
+    kept s slot Gone same none = cc
+
+    by : (o : Option Slot) → slice_get b.slots.items t ≡ o → slot_end o ≡ Some status → mark_of disk.setup disk.entries t ≡ Some status
+    by None none some = cc
+    by (Some s) at some = kept s (sound.slots t s at) s.buffer refl some
+
+pub ended-tells : (disk : State) (b : Books) → AreBooksOf disk b → (t : ℕ) (o : Option Status) → o ≡ end_at b t
+    → IfSome o (λ status. mark_of (state_of disk b).disk.setup (state_of disk b).disk.entries t ≡ Some status)
+unfolding state_of
+ended-tells disk b sound t None is = tt
+ended-tells disk b sound t (Some status) is = ended-so disk b sound t status (sym is)
+
+-- and it has a status exactly where its buffer is kept
+pub ended-where : (disk : State) (b : Books) (t : ℕ) → is_some (end_at b t) ≡ is_some (given_at (state_of disk b).given t)
+unfolding state_of
+ended-where disk b t = by (slice_get b.slots.items t) refl
+  where
+    alike : (x : Buffer) → is_some (end_in x) ≡ is_some (buffer_in x)
+    alike Awaited = refl
+    alike (Kept done) = refl
+    alike Gone = refl
+
+    by : (o : Option Slot) → slice_get b.slots.items t ≡ o → is_some (slot_end o) ≡ is_some (given_at (given_in b) t)
+    by None none = rw (given-past b.slots.items t none) refl
+    by (Some s) at = rw (given-at b.slots.items t s at) (alike s.buffer)
 
 empty-places : (roles : List Role) (i : ℕ) → places_at (map (λ role. []) roles) i ≡ []
 empty-places [] i = refl

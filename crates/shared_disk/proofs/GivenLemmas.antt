@@ -65,5 +65,5 @@ mark-closed s t Mark.Unknown legal not (inr was) = ended-test s.setup s.entries 
 
 pub awaited-not : (b : Buffer) → (b ≡ Awaited → ⊥) → is_awaited b ≡ false
 awaited-not Awaited not = absurd (not refl)
-awaited-not (Kept bytes) not = refl
+awaited-not (Kept done) not = refl
 awaited-not Gone not = refl

@@ -22,6 +22,7 @@ use Rattle.shared_disk.specs.declared.books.Buffer.TheVariants.{Awaited, Kept, G
 use Rattle.shared_disk.specs.declared.books.Course.{Course}
 use Rattle.shared_disk.specs.declared.books.Slot.{Slot}
 use Rattle.shared_disk.specs.Lines.{has_tag, own_before}
+use Rattle.token_table.specs.declared.record.Done.{Done}
 use Rattle.shared_disk.specs.Desk.{IsGivenBack}
 use Rattle.shared_disk.specs.Inside.{first_entries, IsCourse, IsBufferOf, IsSlot, IsSound, HasToken, ChangesCourse, AddsToken, KeepsBuffer}
 use Rattle.shared_disk.proofs.OwnLemmas.{get-push, own-more, own-same, IsOwnAt, own-at, own-before-same}
@@ -48,7 +49,7 @@ course-entry S H e tag lines c other course = record {
 -- a buffer after an entry that does not hand its token back
 pub buffer-entry : (S : Setup) (H : List Entry) (e : Entry) (t : ℕ) (buffer : Buffer) → MayFollow S H e → is_collect_of t e ≡ false → IsBufferOf S H t buffer → IsBufferOf S (e ∷ H) t buffer
 buffer-entry S H e t Awaited may other is = collected-same H e t other ∙ is
-buffer-entry S H e t (Kept bytes) may other is = (is.0, is.1, given-stays S H e t bytes is.0 is.1 may is.2)
+buffer-entry S H e t (Kept done) may other is = (is.0, given-stays S H e t done.buffer is.0 done.status may is.1)
 buffer-entry S H e t Gone may other is = collected-same H e t other ∙ is
 
 -- the books after an entry that is no accept and no collect
@@ -179,9 +180,9 @@ sound-token S H place tag view asked bytes b b' legal may tagged sound adds = re
         })
 
 -- the books after a token was handed back, whose buffer they keep
-pub sound-keep : (S : Setup) (H : List Entry) (tag t : ℕ) (bytes : List ℕ) (q : Request) (status : Status) (b b' : Books) → MayFollow S H (Collect tag t) → IsSound S H b → KeepsBuffer b t bytes b' → IsGivenBack S (Collect tag t ∷ H) t bytes q status
+pub sound-keep : (S : Setup) (H : List Entry) (tag t : ℕ) (done : Done) (q : Request) (b b' : Books) → MayFollow S H (Collect tag t) → IsSound S H b → KeepsBuffer b t done b' → IsGivenBack S (Collect tag t ∷ H) t done.buffer q done.status
     → IsSound S (Collect tag t ∷ H) b'
-sound-keep S H tag t bytes q status b b' may sound keeps given = record {
+sound-keep S H tag t done q b b' may sound keeps given = record {
   opened = omega (arith, keeps.opened, sound.opened);
   opening = rw (keeps.opened, first-entries-more b.opened H (Collect tag t) sound.opened) (sound.opening);
   few = rw keeps.clients (sound.few);
@@ -198,9 +199,9 @@ sound-keep S H tag t bytes q status b b' may sound keeps given = record {
   where
     slot : (u : ℕ) (s : Slot) → slice_get b'.slots.items u ≡ Some s → (u ≡ t) ⊎ (u ≢ t) → IsSlot S (Collect tag t ∷ H) u s
     slot u s at (inl same) =
-        let is : record keeps.was { buffer = Kept bytes } ≡ s = some-same (record keeps.was { buffer = Kept bytes }) s (sym keeps.here ∙ rw same at at) in
+        let is : record keeps.was { buffer = Kept done } ≡ s = some-same (record keeps.was { buffer = Kept done }) s (sym keeps.here ∙ rw same at at) in
         let was : IsSlot S H t keeps.was = sound.slots t keeps.was keeps.there in
-        rw (← is, same) (record { tagged = rw (request-same H (Collect tag t) t refl) (was.tagged); buffer = (q, status, given) })
+        rw (← is, same) (record { tagged = rw (request-same H (Collect tag t) t refl) (was.tagged); buffer = (q, given) })
     slot u s at (inr other) =
         let was : IsSlot S H u s = sound.slots u s (sym (keeps.others u other) ∙ at) in
         record { tagged = rw (request-same H (Collect tag t) u refl) (was.tagged); buffer = buffer-entry S H (Collect tag t) u s.buffer may (ne_eqb t u (λ e. other (sym e))) was.buffer }

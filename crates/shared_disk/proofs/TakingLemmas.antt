@@ -74,13 +74,13 @@ module _ (old new : State) (tag t : ℕ) (status : Status) (buffer : List ℕ) (
         has_done-stays (moves old.setup x) old.entries (Collect tag t) t (success-moved old.setup old.entries t q x (legal-before old.setup old.entries (Collect tag t) legal) (collects.marked ∙ ap Some well) collects.named (unflushed q.asked.kind reads) from until);
   }
 
-  pub takes-sound : (b b' : Books) → AreBooksOf old b → KeepsBuffer b t buffer b' → AreBooksOf new b'
-  takes-sound b b' sound keeps = subst (λ (s : State). IsSound s.setup s.entries b') (sym collects.new_is) (sound-keep old.setup old.entries tag t buffer q status b b' may sound keeps given)
+  pub takes-sound : (b b' : Books) → AreBooksOf old b → KeepsBuffer b t (record { status = status; buffer = buffer }) b' → AreBooksOf new b'
+  takes-sound b b' sound keeps = subst (λ (s : State). IsSound s.setup s.entries b') (sym collects.new_is) (sound-keep old.setup old.entries tag t (record { status = status; buffer = buffer }) q b b' may sound keeps given)
 
   entries-is : new.entries ≡ Collect tag t ∷ old.entries
   entries-is = ap (λ (s : State). s.entries) collects.new_is
 
-  pub takes-token : (b b' : Books) → AreBooksOf old b → KeepsBuffer b t buffer b' → Takes (state_of old b) tag t (state_of new b')
+  pub takes-token : (b b' : Books) → AreBooksOf old b → KeepsBuffer b t (record { status = status; buffer = buffer }) b' → Takes (state_of old b) tag t (state_of new b')
   unfolding state_of
   takes-token b b' sound keeps = record {
     status = status;
@@ -90,7 +90,7 @@ module _ (old new : State) (tag t : ℕ) (status : Status) (buffer : List ℕ) (
     collects = collects;
     script = rw (entries-is, keeps.opened, keeps.clients, first-entries-more b.opened old.entries (Collect tag t) sound.opened) refl;
     places = rw keeps.courses refl;
-    kept = given-at b'.slots.items t (record keeps.was { buffer = slot.Kept buffer }) keeps.here;
+    kept = given-at b'.slots.items t (record keeps.was { buffer = slot.Kept (record { status = status; buffer = buffer }) }) keeps.here;
     others = λ u other. given-same b'.slots.items b.slots.items u (keeps.others u other);
   }
 

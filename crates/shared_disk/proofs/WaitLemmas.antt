@@ -26,12 +26,12 @@ there-is (x ∷ xs) (suc i) lt = there-is xs i (omega (arith, lt))
 -- a slot tells whether its token was collected
 pub awaited-no : (S : Setup) (H : List Entry) (t : ℕ) (buffer : Buffer) → IsBufferOf S H t buffer → is_awaited buffer ≡ true → was_collected H t ≡ false
 awaited-no S H t Awaited is awaited = is
-awaited-no S H t (Kept bytes) is awaited = cc
+awaited-no S H t (Kept done) is awaited = cc
 awaited-no S H t Gone is awaited = cc
 
 pub awaited-yes : (S : Setup) (H : List Entry) (t : ℕ) (buffer : Buffer) → IsBufferOf S H t buffer → is_awaited buffer ≡ false → was_collected H t ≡ true
 awaited-yes S H t Awaited is other = cc
-awaited-yes S H t (Kept bytes) is other = is.2.collected
+awaited-yes S H t (Kept done) is other = is.1.collected
 awaited-yes S H t Gone is other = is
 
 -- a course after its room was made, and after one place more

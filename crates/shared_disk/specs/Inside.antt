@@ -6,6 +6,7 @@ use Rattle.history.specs.declared.order.Order.{Order}
 use Rattle.history.specs.Setup.{Setup}
 use Rattle.history.specs.Tokens.{Request, accepted, request, was_collected}
 use Rattle.history.specs.Marks.{is_outstanding}
+use Rattle.token_table.specs.declared.record.Done.{Done}
 use Rattle.disk_core.specs.declared.answers.Token.{Token}
 use Rattle.disk_core.specs.State.{State}
 use Rattle.disk_core.specs.Calls.{Revokes}
@@ -26,12 +27,18 @@ first_entries n H = drop (length H - n) H
 
 abbrev pub buffer_in : Buffer → Option (List ℕ)
 buffer_in Awaited = None
-buffer_in (Kept bytes) = Some bytes
+buffer_in (Kept done) = Some done.buffer
 buffer_in Gone = None
+
+-- how its token ended, where the buffer is here
+abbrev pub end_in : Buffer → Option Status
+end_in Awaited = None
+end_in (Kept done) = Some done.status
+end_in Gone = None
 
 abbrev pub is_awaited : Buffer → Bool
 is_awaited Awaited = true
-is_awaited (Kept bytes) = false
+is_awaited (Kept done) = false
 is_awaited Gone = false
 
 abbrev pub roles_in : Books → List Role
@@ -42,6 +49,14 @@ places_in b = map (λ course. course.places.items) b.courses.items
 
 abbrev pub given_in : Books → List (Option (List ℕ))
 given_in b = map (λ slot. buffer_in slot.buffer) b.slots.items
+
+abbrev pub slot_end : Option Slot → Option Status
+slot_end None = None
+slot_end (Some slot) = end_in slot.buffer
+
+-- how a token ended whose buffer is here
+abbrev pub end_at : Books → ℕ → Option Status
+end_at b t = slot_end (slice_get b.slots.items t)
 
 -- how many lines client i has done, and its next one
 abbrev pub done_in : Books → ℕ → ℕ
@@ -72,7 +87,7 @@ pub record IsCourse (S : Setup) (H : List Entry) (tag lines : ℕ) (c : Course) 
 -- a buffer is awaited exactly where the token was not collected, and what is kept is what the token gave back
 abbrev pub IsBufferOf : Setup → List Entry → ℕ → Buffer → Type 0
 IsBufferOf S H t Awaited = was_collected H t ≡ false
-IsBufferOf S H t (Kept bytes) = (q : Request) × (status : Status) × IsGivenBack S H t bytes q status
+IsBufferOf S H t (Kept done) = (q : Request) × IsGivenBack S H t done.buffer q done.status
 IsBufferOf S H t Gone = was_collected H t ≡ true
 
 pub record IsSlot (S : Setup) (H : List Entry) (t : ℕ) (s : Slot) : Type 0 where
@@ -190,7 +205,7 @@ pub record AddsToken (b : Books) (place tag number : ℕ) (b' : Books) : Type 0 
   pub others : (i : ℕ) → i ≢ place → slice_get b'.courses.items i ≡ slice_get b.courses.items i
 
 -- the buffer of a token is here
-pub record KeepsBuffer (b : Books) (number : ℕ) (bytes : List ℕ) (b' : Books) : Type 0 where
+pub record KeepsBuffer (b : Books) (number : ℕ) (done : Done) (b' : Books) : Type 0 where
   pub opened : b'.opened ≡ b.opened
   pub clients : b'.clients ≡ b.clients
   pub courses : b'.courses ≡ b.courses
@@ -199,7 +214,7 @@ pub record KeepsBuffer (b : Books) (number : ℕ) (bytes : List ℕ) (b' : Books
   pub count : length b'.slots.items ≡ length b.slots.items
   pub was : Slot
   pub there : slice_get b.slots.items number ≡ Some was
-  pub here : slice_get b'.slots.items number ≡ Some (record was { buffer = Kept bytes })
+  pub here : slice_get b'.slots.items number ≡ Some (record was { buffer = Kept done })
   pub others : (t : ℕ) → t ≢ number → slice_get b'.slots.items t ≡ slice_get b.slots.items t
 
 -- a line may want memory

@@ -1,21 +1,22 @@
 ghost use Rattle.std.specs.Prelude.{◌≡◌, ℕ, ◌<◌, true, false, IsSome, Some, option_copied, slice_get, OnOk, length, vec_len, vec_capacity};
 ghost use Rattle.shared_disk.specs.declared.books.Course.{Course};
 ghost use Rattle.shared_disk.specs.Script.{AreOver};
-ghost use Rattle.shared_disk.specs.Inside.{order_in, done_in, roles_in, given_in, ChangesCourse, IsRoomy, HasRoom, HasToken, HasPlace, AddsToken, KeepsBuffer};
+ghost use Rattle.shared_disk.specs.Inside.{end_at, order_in, done_in, roles_in, given_in, ChangesCourse, IsRoomy, HasRoom, HasToken, HasPlace, AddsToken, KeepsBuffer};
 ghost use Rattle.shared_disk.specs.Desk.{given_at};
 
 use crate::clients::Client;
-use byte_lists::Bytes;
+use efi_status::Status;
 use history::Order;
 use std::alloc::AllocError;
+use token_table::Done;
 
 /// Where the buffer of a token is.
 #[derive(Drop)]
 pub enum Buffer {
     /// With the disk: the token was not collected.
     Awaited,
-    /// Here.
-    Kept(Bytes),
+    /// Here, with the status of the token.
+    Kept(Done),
     /// With another caller, who collected the token.
     Gone,
 }
@@ -121,9 +122,22 @@ impl Books {
     {
         match self.slots.get(token as usize)? {
             Slot {
-                buffer: Buffer::Kept(bytes),
+                buffer: Buffer::Kept(done),
                 ..
-            } => Some(bytes.as_slice()),
+            } => Some(done.buffer.as_slice()),
+            _ => None,
+        }
+    }
+
+    /// How a token ended that was collected here.
+    pub fn ended(&self, token: u64) -> Option<Status>
+        ensures { result ≡ end_at self.now token }
+    {
+        match self.slots.get(token as usize)? {
+            Slot {
+                buffer: Buffer::Kept(done),
+                ..
+            } => Some(done.status),
             _ => None,
         }
     }
@@ -161,11 +175,11 @@ impl Books {
         self.courses[place].add_token(number);
     }
 
-    /// Keeps the buffer of a token.
-    pub fn keep(&mut self, number: usize, bytes: Bytes)
+    /// Keeps the buffer of a token, and its status.
+    pub fn keep(&mut self, number: usize, done: Done)
         requires { number < length self.old.slots.items }
-        ensures { KeepsBuffer self.old number bytes self.new }
+        ensures { KeepsBuffer self.old number done self.new }
     {
-        self.slots[number].buffer = Buffer::Kept(bytes);
+        self.slots[number].buffer = Buffer::Kept(done);
     }
 }

@@ -8,7 +8,7 @@ ghost use Rattle.shared_disk.specs.Inside.{AreBooksOf, is_awaited, state_of};
 use crate::books::{Books, Buffer, Slot};
 use disk_core::Disk;
 use medium::Medium;
-use token_table::{Done, Mark};
+use token_table::Mark;
 
 // Collects a token that has ended, and keeps its buffer.
 pub fn collect_token<M: Medium>(disk: &mut Disk<M>, books: &mut Books, tag: u32, number: u64)
@@ -20,10 +20,7 @@ pub fn collect_token<M: Medium>(disk: &mut Disk<M>, books: &mut Books, tag: u32,
     ensures sound { AreBooksOf disk.new books.new }
 {
     match disk.collect(tag, number) {
-        Ok(done) => {
-            let Done { buffer, .. } = done;
-            books.keep(number as usize, buffer);
-        }
+        Ok(done) => books.keep(number as usize, done),
         Err(_) => unreachable!(),
     }
 }

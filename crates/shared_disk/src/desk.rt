@@ -1,7 +1,8 @@
-ghost use Rattle.std.specs.Prelude.{◌≡◌, ℕ, ◌+◌, ◌-◌, ◌<◌, ◌≤◌, true, false, length, IfOk, IfErr, option_copied};
+ghost use Rattle.std.specs.Prelude.{◌≡◌, ℕ, ◌+◌, ◌-◌, ◌<◌, ◌≤◌, true, false, length, IfOk, IfErr, option_copied, is_some, Some, IfSome};
 ghost use Rattle.block_gate.specs.Gates.{least_ticket};
 ghost use Rattle.disk_core.specs.Calls.{StepSays, StoreSays, HeldStoreSays, RefitSays};
 ghost use Rattle.disk_core.specs.Facts.{AreFacts};
+ghost use Rattle.history.specs.Marks.{mark_of};
 ghost use Rattle.history.specs.Setup.{IsSetup};
 ghost use Rattle.shared_disk.specs.Lines.{roles_of};
 ghost use Rattle.shared_disk.specs.Script.{IsOpening};
@@ -15,6 +16,7 @@ use crate::making::new_books;
 use crate::taking::take_line;
 use block_gate::Work;
 use disk_core::{Disk, HeldStored, Step, Stored};
+use efi_status::Status;
 use medium::Medium;
 use std::alloc::{AllocError, Global};
 use std::marker::Model;
@@ -144,6 +146,15 @@ impl<M: Medium> Desk<M> {
         ensures back { AreGivenBack self.now }
     {
         self.books.given(token)
+    }
+
+    /// How a token ended that the desk has collected. None exactly where it has not.
+    pub fn ended(&self, token: u64) -> Option<Status>
+        ensures status { IfSome result
+            (λ status. mark_of self.now.disk.setup self.now.disk.entries token ≡ Some status) }
+        ensures there { is_some result ≡ is_some (given_at self.now.given token) }
+    {
+        self.books.ended(token)
     }
 
     /// The disk.
