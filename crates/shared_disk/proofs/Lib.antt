@@ -13,3 +13,4 @@ pub mod EntryLemmas
 pub mod LineLemmas
 pub mod LastLemmas
 pub mod DeskLemmas
+pub mod LogKeeps

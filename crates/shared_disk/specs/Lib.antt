@@ -1,4 +1,6 @@
 pub mod Desk
 pub mod Inside
 pub mod Lines
+pub mod Log
+pub mod Pens
 pub mod Script

@@ -1,4 +1,5 @@
-//! The desk: clients take the lines of a script on one disk, and their buffers are kept.
+//! The desk: clients take the lines of a script on one disk, and their buffers are kept. And the pen and notes of the log that
+//! threads share, who use one disk.
 #![tactic(auto)]
 
 mod answers;
@@ -7,8 +8,11 @@ mod books;
 mod clients;
 mod collecting;
 mod desk;
+mod log_rule;
 mod making;
+mod pens;
 mod requesting;
+mod sends;
 mod taking;
 mod waiting;
 

@@ -1,0 +1,23 @@
+-- The log of a shared disk (own profile): what happened, in items. It stands newest item first. An entry of the history is one item; a line done
+-- is another, right after the entry that it gave, if it gave one.
+use Rattle.std.specs.Prelude.{◌≡◌, ℕ, suc, nat_eq, if◌then◌else◌, List, [], ◌∷◌, ◌++◌}
+use Rattle.history.specs.declared.entry.Entry.{Entry}
+use Rattle.shared_disk.specs.declared.log_rule.Item.{Item}
+use Rattle.shared_disk.specs.declared.log_rule.Item.TheVariants.{Happened, LineOf}
+
+-- the entries in it
+unfoldable pub entries_of : List Item → List Entry
+entries_of [] = []
+entries_of (Happened e ∷ log) = e ∷ entries_of log
+entries_of (LineOf k ∷ log) = entries_of log
+
+-- how many lines the client with tag k has done
+unfoldable pub lines_of : ℕ → List Item → ℕ
+lines_of k [] = 0
+lines_of k (Happened e ∷ log) = lines_of k log
+lines_of k (LineOf j ∷ log) = if nat_eq j k then suc (lines_of k log) else lines_of k log
+
+-- the older log is a beginning of the other
+pub record IsOld (old log : List Item) : Type 0 where
+  pub more : List Item
+  pub is : log ≡ more ++ old
