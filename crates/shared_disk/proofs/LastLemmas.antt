@@ -39,6 +39,7 @@ sound-marks S H b n m sound n_few m_few closed collected = record {
   opening = sound.opening;
   few = sound.few;
   orders = sound.orders;
+  lines = sound.lines;
   paired = sound.paired;
   courses = sound.courses;
   counted = sound.counted;

@@ -93,6 +93,7 @@ sound-new S H clients courses slots n is are opening new gone = record {
   opening = rw (first-all H n is) opening;
   few = are.few;
   orders = are.orders;
+  lines = are.lines;
   paired = new.count;
   courses = λ i client c at there.
       let course : IsNewCourse client c = new.each i client c at there in

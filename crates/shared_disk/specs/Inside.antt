@@ -1,5 +1,5 @@
 -- What a desk keeps beside its disk, and what holds of it whenever no call of the desk runs (own profile).
-use Rattle.std.specs.Prelude.{◌≡◌, ℕ, ◌+◌, ◌-◌, ◌<◌, ◌≤◌, ◌≢◌, ◌∷◌, ◌++◌, [], true, false, Bool, List, length, map, drop, slice_get, Option, None, Some, is_some, IfSome, All, vec_capacity, vec_len}
+use Rattle.std.specs.Prelude.{◌≡◌, ℕ, ◌+◌, ◌-◌, ◌^◌, ◌<◌, ◌≤◌, ◌≢◌, ◌∷◌, ◌++◌, [], true, false, Bool, List, length, map, sum_by, drop, slice_get, Option, None, Some, is_some, IfSome, All, vec_capacity, vec_len}
 use Rattle.efi_status.specs.declared.Status.{Status}
 use Rattle.history.specs.declared.entry.Entry.{Entry}
 use Rattle.history.specs.declared.order.Order.{Order}
@@ -100,6 +100,7 @@ pub record IsSound (S : Setup) (H : List Entry) (b : Books) : Type 0 where
   pub opening : IsOpening (first_entries b.opened H)
   pub few : length b.clients.items ≤ 64
   pub orders : All (λ client. All IsOrder client.orders.items) b.clients.items
+  pub lines : sum_by (λ client. length client.orders.items) b.clients.items ≤ 2 ^ 32
   pub paired : length b.courses.items ≡ length b.clients.items
   pub courses : (i : ℕ) (client : Client) (c : Course) → slice_get b.clients.items i ≡ Some client → slice_get b.courses.items i ≡ Some c → IsCourse S H (i + 1) (length client.orders.items) c
   pub counted : length b.slots.items ≡ accepted H

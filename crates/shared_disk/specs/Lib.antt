@@ -3,4 +3,5 @@ pub mod Inside
 pub mod Lines
 pub mod Log
 pub mod Pens
+pub mod Plate
 pub mod Script

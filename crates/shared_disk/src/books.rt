@@ -1,4 +1,4 @@
-ghost use Rattle.std.specs.Prelude.{◌≡◌, ℕ, ◌<◌, true, false, IsSome, Some, option_copied, slice_get, OnOk, length, vec_len, vec_capacity};
+ghost use Rattle.std.specs.Prelude.{◌≡◌, ℕ, ◌<◌, ◌^◌, sum_by, true, false, IsSome, Some, option_copied, slice_get, OnOk, length, vec_len, vec_capacity};
 ghost use Rattle.shared_disk.specs.declared.books.Course.{Course};
 ghost use Rattle.shared_disk.specs.Script.{AreOver};
 ghost use Rattle.shared_disk.specs.Inside.{end_at, order_in, done_in, roles_in, given_in, ChangesCourse, IsRoomy, HasRoom, HasToken, HasPlace, AddsToken, KeepsBuffer};
@@ -100,6 +100,18 @@ impl Books {
         self.clients[place]
             .orders
             .get(self.courses[place].places.len())
+    }
+
+    /// How many lines all clients have done.
+    pub fn done_lines(&self) -> u64
+        requires { sum_by (λ course. vec_len course.places) self.now.courses.items < 2 ^ 64 }
+        ensures { result ≡ sum_by (λ course. vec_len course.places) self.now.courses.items }
+    {
+        let mut done = 0;
+        for place in 0..self.courses.len() {
+            done += self.courses[place].places.len() as u64;
+        }
+        done
     }
 
     /// Whether no client has a line left.

@@ -1,4 +1,4 @@
-ghost use Rattle.std.specs.Prelude.{◌≡◌, ℕ, ◌+◌, ◌-◌, ◌<◌, ◌≤◌, true, false, length, IfOk, IfErr, option_copied, is_some, Some, IfSome};
+ghost use Rattle.std.specs.Prelude.{◌≡◌, ℕ, ◌+◌, ◌-◌, ◌<◌, ◌≤◌, ◌^◌, true, false, length, sum_by, IfOk, IfErr, option_copied, is_some, Some, IfSome};
 ghost use Rattle.block_gate.specs.Gates.{least_ticket};
 ghost use Rattle.disk_core.specs.Calls.{StepSays, StoreSays, HeldStoreSays, RefitSays};
 ghost use Rattle.disk_core.specs.Facts.{AreFacts};
@@ -130,6 +130,14 @@ impl<M: Medium> Desk<M> {
         ensures { result ≡ length self.now.script.roles }
     {
         self.books.clients.len() as u32
+    }
+
+    /// How many lines all clients have done.
+    pub fn done_lines(&self) -> u64
+        ensures lines { result ≡ sum_by length self.now.places }
+        ensures few { result ≤ 2 ^ 32 }
+    {
+        self.books.done_lines()
     }
 
     /// Whether no client has a line left.

@@ -1,5 +1,5 @@
-//! The desk: clients take the lines of a script on one disk, and their buffers are kept. And the pen and notes of the log that
-//! threads share, who use one disk.
+//! The desk: clients take the lines of a script on one disk, and their buffers are kept. And the plate, the pen and the notes of
+//! the log that the threads share who use one disk.
 #![tactic(auto)]
 
 mod answers;
@@ -11,6 +11,7 @@ mod desk;
 mod log_rule;
 mod making;
 mod pens;
+mod plate;
 mod requesting;
 mod sends;
 mod taking;
@@ -19,6 +20,7 @@ mod waiting;
 pub use answers::{DeskRefused, Line};
 pub use clients::{Client, Stand};
 pub use desk::Desk;
+pub use plate::Plate;
 
 #[cfg(test)]
 mod tests;

@@ -49,14 +49,19 @@ impl Model for Note {
     ghost invariant = { λ n. n.seat.me.1 ≡ [] };
 }
 
-/// The pen of a new log, which begins with so many items. The error is want of memory.
-pub(crate) fn make_pen<N: ItemsName>(alloc: Global, items: u64) -> Result<Pen, AllocError>
+/// The pen of a new log, which begins with so many items. What they tell of is for the proof alone. The error is want
+/// of memory.
+pub(crate) fn make_pen<N: ItemsName, T>(
+    alloc: Global,
+    items: u64,
+    told: &T,
+) -> Result<Pen, AllocError>
     requires { items ≡ length N.items }
     ensures { IfOk result (λ pen. pen.log ≡ N.items) }
 {
     let (table, seat) = LogTable::of_words(alloc, &[0], &())?;
     let mut pen = Pen { table, seat };
-    pen.add::<N, u64>(items, &items);
+    pen.add::<N, T>(items, told);
     Ok(pen)
 }
 
