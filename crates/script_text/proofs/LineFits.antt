@@ -70,7 +70,7 @@ given_fits units k (at ∷ hex ∷ []) one is =
     let (a, placed, rest) = next_ok (ok_or (number_of at) Number) (λ a. ok_or (hex_of hex) Hex >>= (λ bytes. Ok (request_order Write units a (length bytes) (Given bytes) k))) one is in
     let (bytes, read, last) = next_ok (ok_or (hex_of hex) Hex) (λ bytes. Ok (request_order Write units a (length bytes) (Given bytes) k)) one rest in
     rw (← ok_same (request_order Write units a (length bytes) (Given bytes) k) one last)
-    (refl, λ most. record { at = said_below at a placed; most = most; brings = refl })
+    (refl, λ most. record { at = said_below at a placed; most = most; brings = refl; well_asked = tt })
 given_fits units k [] one is = absurd (cc)
 given_fits units k (a ∷ []) one is = absurd (cc)
 given_fits units k (a ∷ b ∷ c ∷ more) one is = absurd (cc)
@@ -82,39 +82,40 @@ fill_fits k (at ∷ count ∷ byte ∷ []) one is =
     let (n, counted, more) = next_ok (ok_or (number_of count) Number) (λ n. ok_or (byte_of byte) Hex >>= (λ b. Ok (request_order Write Bytes a n (Fill b) k))) one rest in
     let (b, read, last) = next_ok (ok_or (byte_of byte) Hex) (λ b. Ok (request_order Write Bytes a n (Fill b) k)) one more in
     rw (← ok_same (request_order Write Bytes a n (Fill b) k) one last)
-    (refl, λ most. record { at = said_below at a placed; most = most; brings = tt })
+    (refl, λ most. record { at = said_below at a placed; most = most; brings = tt; well_asked = tt })
 fill_fits k [] one is = absurd (cc)
 fill_fits k (a ∷ []) one is = absurd (cc)
 fill_fits k (a ∷ b ∷ []) one is = absurd (cc)
 fill_fits k (a ∷ b ∷ c ∷ d ∷ more) one is = absurd (cc)
 
-sized_fits : (kind : Kind) (units : UnitKind) (k : ℕ) → ((n : ℕ) → Brings kind units Nothing n) → (words : List (List ℕ)) (one : Order) → sized_order kind units k words ≡ Ok one → IsAimed k one
+sized_fits : (kind : Kind) (units : UnitKind) (k : ℕ) → ((n : ℕ) → Brings kind units Nothing n) → ((at n : ℕ) → IsAsked kind units at n)
+    → (words : List (List ℕ)) (one : Order) → sized_order kind units k words ≡ Ok one → IsAimed k one
 unfolding sized_order
-sized_fits kind units k brings (at ∷ count ∷ []) one is =
+sized_fits kind units k brings asks (at ∷ count ∷ []) one is =
     let (a, placed, rest) = next_ok (ok_or (number_of at) Number) (λ a. ok_or (number_of count) Number >>= (λ n. Ok (request_order kind units a n Nothing k))) one is in
     let (n, counted, last) = next_ok (ok_or (number_of count) Number) (λ n. Ok (request_order kind units a n Nothing k)) one rest in
     rw (← ok_same (request_order kind units a n Nothing k) one last)
-    (refl, λ most. record { at = said_below at a placed; most = most; brings = brings n })
-sized_fits kind units k brings [] one is = absurd (cc)
-sized_fits kind units k brings (a ∷ []) one is = absurd (cc)
-sized_fits kind units k brings (a ∷ b ∷ c ∷ more) one is = absurd (cc)
+    (refl, λ most. record { at = said_below at a placed; most = most; brings = brings n; well_asked = asks a n })
+sized_fits kind units k brings asks [] one is = absurd (cc)
+sized_fits kind units k brings asks (a ∷ []) one is = absurd (cc)
+sized_fits kind units k brings asks (a ∷ b ∷ c ∷ more) one is = absurd (cc)
 
 alone_fits : (k : ℕ) (one : Order) (words : List (List ℕ)) (found : Order) → IsAimed k one → alone one words ≡ Ok found → IsAimed k found
 alone_fits k one [] found fits is = rw (← ok_same one found is) fits
 alone_fits k one (word ∷ more) found fits is = absurd (cc)
 
 flush_fits : (k : ℕ) → IsAimed k (request_order Flush Bytes 0 0 Nothing k)
-flush_fits k = (refl, λ most. record { at = omega arith; most = most; brings = refl })
+flush_fits k = (refl, λ most. record { at = omega arith; most = most; brings = refl; well_asked = (refl, refl, refl) })
 
 aimed_fits : (first : List ℕ) (k : ℕ) (words : List (List ℕ)) (one : Order) → aimed_order first k words ≡ Ok one → IsAimed k one
 unfolding aimed_order
 aimed_fits first k words one is =
     either_ok (bytes_eq first (codes "write")) _ _ one _ (λ r. given_fits Bytes k words one r)
     (λ r. either_ok (bytes_eq first (codes "fill")) _ _ one _ (λ r. fill_fits k words one r)
-    (λ r. either_ok (bytes_eq first (codes "read")) _ _ one _ (λ r. sized_fits Read Bytes k (λ n. tt) words one r)
+    (λ r. either_ok (bytes_eq first (codes "read")) _ _ one _ (λ r. sized_fits Read Bytes k (λ n. tt) (λ a n. tt) words one r)
     (λ r. either_ok (bytes_eq first (codes "wblocks")) _ _ one _ (λ r. given_fits Blocks k words one r)
-    (λ r. either_ok (bytes_eq first (codes "rblocks")) _ _ one _ (λ r. sized_fits Read Blocks k (λ n. tt) words one r)
-    (λ r. either_ok (bytes_eq first (codes "erase")) _ _ one _ (λ r. sized_fits Erase Blocks k (λ n. tt) words one r)
+    (λ r. either_ok (bytes_eq first (codes "rblocks")) _ _ one _ (λ r. sized_fits Read Blocks k (λ n. tt) (λ a n. tt) words one r)
+    (λ r. either_ok (bytes_eq first (codes "erase")) _ _ one _ (λ r. sized_fits Erase Blocks k (λ n. tt) (λ a n. refl) words one r)
     (λ r. either_ok (bytes_eq first (codes "flush")) _ _ one _ (λ r. alone_fits k (request_order Flush Bytes 0 0 Nothing k) words one (flush_fits k) r)
     (λ r. alone_fits k (order.Cancel k) words one refl r) r) r) r) r) r) r) is
 

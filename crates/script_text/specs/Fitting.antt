@@ -44,6 +44,7 @@ pub record IsRequest (asked : Asked) (payload : Payload) : Type 0 where
   pub at : asked.at < 2 ^ 64
   pub most : asked.length ≤ most_request_bytes
   pub brings : Brings asked.kind asked.unit payload asked.length
+  pub well_asked : IsWellAsked asked
 
 -- one of so many media
 abbrev pub IsMedium : ℕ → ℕ → Type 0
