@@ -11,6 +11,7 @@ use Rattle.history.specs.declared.entry.UnitKind.TheVariants.{Bytes, Blocks}
 use Rattle.history.specs.declared.order.Order.{Order}
 use Rattle.history.specs.declared.order.Order.TheVariants as order
 use Rattle.history.specs.declared.order.Payload.TheVariants.{Given, Fill, Nothing}
+use Rattle.history.specs.Rules.{IsAsked}
 use Rattle.script_text.specs.declared.language.refusal.Reason.{Reason}
 use Rattle.script_text.specs.declared.language.refusal.Reason.TheVariants.{Form, Number, Hex}
 use Rattle.script_text.specs.declared.language.line.Line.{Line}

@@ -10,6 +10,7 @@ use Rattle.history.specs.declared.order.Order.{Order}
 use Rattle.history.specs.declared.order.Order.TheVariants.{Request, Wait, Cancel, Reset, Eject, Insert, Protect}
 use Rattle.history.specs.declared.order.Payload.{Payload}
 use Rattle.history.specs.declared.order.Payload.TheVariants.{Given, Fill, Nothing}
+use Rattle.history.specs.Rules.{IsWellAsked}
 use Rattle.medium.specs.Device.{is_block_size}
 use Rattle.script_text.specs.declared.language.plans.DiskPlan.{DiskPlan}
 use Rattle.script_text.specs.declared.language.plans.ClientPlan.{ClientPlan}
