@@ -1,4 +1,4 @@
-ghost use Rattle.std.specs.Prelude.{◌≡◌, ◌↔◌, [], Some, Err, IsTrue, OnErr};
+ghost use Rattle.std.specs.Prelude.{◌≡◌, ◌↔◌, [], Some, Err, IsTrue, OnErr, IsErrOf};
 ghost use Rattle.image_store.specs.Edge.{PutsText, HasCauseOf};
 
 use crate::failing::Failing;
@@ -49,6 +49,7 @@ impl Sink for MemSink {
     fn put(&mut self, bytes: &[u8]) -> Result<(), PutFault>
         ensures text { PutsText (⟦<MemSink as Sink>⟧.wrote self.old) (⟦<MemSink as Sink>⟧.wrote self.new) result bytes.now }
         ensures cause { HasCauseOf PutFault.Failed (⟦<MemSink as Sink>⟧.faults self.old) (⟦<MemSink as Sink>⟧.faults self.new) result }
+        ensures memory { IsErrOf result PutFault.Memory → ⟦<MemSink as Sink>⟧.wrote self.new ≡ ⟦<MemSink as Sink>⟧.wrote self.old }
         ensures failing { IsTrue (is_next_failing (sink_calls self.old)) ↔ (result ≡ Err PutFault.Failed) }
         ensures unwritten { OnErr result (⟦<MemSink as Sink>⟧.wrote self.new ≡ ⟦<MemSink as Sink>⟧.wrote self.old) }
         ensures called { IsCalled (sink_calls self.old) (sink_calls self.new) }

@@ -1,4 +1,4 @@
-ghost use Rattle.std.specs.Prelude.{◌≡◌, None, OnOk};
+ghost use Rattle.std.specs.Prelude.{◌≡◌, None, OnOk, IsErrOf};
 ghost use Rattle.std.specs.Io.KnownBytes.{Appends as WritesOn};
 ghost use Rattle.image_store.specs.Edge.{PutsText, HasCauseOf};
 
@@ -33,6 +33,7 @@ impl<W: Write> Sink for OutSink<W> {
     fn put(&mut self, bytes: &[u8]) -> Result<(), PutFault>
         ensures text { PutsText (⟦<OutSink<W> as Sink>⟧.wrote self.old) (⟦<OutSink<W> as Sink>⟧.wrote self.new) result bytes.now }
         ensures cause { HasCauseOf PutFault.Failed (⟦<OutSink<W> as Sink>⟧.faults self.old) (⟦<OutSink<W> as Sink>⟧.faults self.new) result }
+        ensures memory { IsErrOf result PutFault.Memory → ⟦<OutSink<W> as Sink>⟧.wrote self.new ≡ ⟦<OutSink<W> as Sink>⟧.wrote self.old }
         ensures bytes { OnOk result (WritesOn (W.contents (writer_of self.old)) (W.contents (writer_of self.new)) bytes.now) }
     {
         match self.to.write_all(bytes) {

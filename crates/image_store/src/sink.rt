@@ -1,4 +1,4 @@
-ghost use Rattle.std.specs.Prelude.{◌≡◌, ℕ, List, Option};
+ghost use Rattle.std.specs.Prelude.{◌≡◌, ℕ, List, Option, IsErrOf};
 ghost use Rattle.image_store.specs.Edge.{PutsText, HasCauseOf};
 
 use std::alloc::AllocError;
@@ -30,8 +30,10 @@ pub trait Sink {
     /// How often it failed.
     ghost faults: { Self → ℕ };
 
-    /// Adds the bytes. It fails only where its faults rose; after a fault a front of the bytes was added.
+    /// Adds the bytes. It fails only where its faults rose; after a fault a front of the bytes was added, and for want of
+    /// memory none.
     fn put(&mut self, bytes: &[u8]) -> Result<(), PutFault>
         ensures text { PutsText (wrote self.old) (wrote self.new) result bytes.now }
-        ensures cause { HasCauseOf PutFault.Failed (faults self.old) (faults self.new) result };
+        ensures cause { HasCauseOf PutFault.Failed (faults self.old) (faults self.new) result }
+        ensures memory { IsErrOf result PutFault.Memory → wrote self.new ≡ wrote self.old };
 }
