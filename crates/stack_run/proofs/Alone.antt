@@ -4,9 +4,8 @@ use Rattle.std.proofs.lemmas.Option.{slice_get-map, slice_get_within, get_or_fro
 use Rattle.medium.specs.Device.{Device}
 use Rattle.drive.specs.Drives.{DriveState, FitTheDrive, devices_of}
 use Rattle.history.specs.Setup.{size_of, opening_blocks, blocks_of}
-use Rattle.disk_core.specs.State.{State, setup_of}
+use Rattle.disk_core.specs.State.{State}
 use Rattle.disk_core.specs.Facts.{MeetsEra, AreFacts}
-use Rattle.stack_run.specs.Serving.{disk_over}
 
 -- what holds of the one element holds of each
 pub all-one : {X : Type 0} (P : X → Type 0) (xs : List X) (x : X) → xs ≡ x ∷ [] → P x → All P xs
@@ -30,13 +29,6 @@ some-first f [] some none = absurd (omega arith)
 some-first f (x ∷ xs) some none = cc
 
 module _ {M : Type 0} (device : M → Device) (drive : DriveState M) (fit : FitTheDrive device drive) where
-  -- the setup of an unprotected disk over one medium that keeps no cache
-  pub one-setup : (m : M) → drive.media ≡ m ∷ [] → drive.per ≡ 1 → drive.cached ≡ false → drive.protected ≡ false → setup_of device drive drive.protected ≡ disk_over (device m)
-  unfolding setup_of
-  one-setup m media per cached unprotected =
-      let size : (device m).size ≡ drive.size = all-first (λ n. (device n).size ≡ drive.size) drive.media m (ap (λ l. slice_get l 0) media) fit.size in
-      rw (media, per, cached, unprotected, size) refl
-
   -- the medium that is in, where nothing has happened
   pub first-medium : (s : State) (media_id : ℕ) → AreFacts s → s.entries ≡ [] → devices_of device drive ≡ s.devices → (o : Option M) → slice_get drive.media 0 ≡ o
       → (blocks : ℕ) → Some blocks ≡ option_map (λ m. (device m).blocks) o → (blocks ≡ blocks_of s.setup 1) × (drive.size ≡ size_of s.setup)

@@ -1,5 +1,5 @@
 -- What of a source was read so far.
-use Rattle.std.proofs.Common.{◌≡◌, ℕ, ◌<◌, ◌≤◌, ◌⊎◌, List, [], ◌++◌, take, drop, length, Option, None, Some, Result, Ok, Err, true, false, is_ok, refl, sym, ◌∙◌, ap, append_assoc, inl, inr, arith, length-append}
+use Rattle.std.proofs.Common.{◌≡◌, ℕ, ◌<◌, ◌≤◌, ◌⊎◌, List, [], ◌∷◌, ◌++◌, take, drop, length, Option, None, Some, Result, Ok, Err, true, false, is_ok, refl, sym, ◌∙◌, ap, append_assoc, inl, inr, arith, length-append}
 use Rattle.std.proofs.Math.ListN.{drop_of_length-le}
 use Rattle.std.proofs.Math.Nat.{le_of_lt}
 use Rattle.std.proofs.Math.Seq.{take-append_seam, drop-append_seam}
@@ -14,10 +14,12 @@ use Rattle.script_text.specs.declared.language.refusal.Reason.TheVariants as why
 use Rattle.script_text.specs.declared.language.reader.ScriptReader.{ScriptReader}
 use Rattle.script_text.specs.Whole.{script_of}
 use Rattle.script_text.specs.Fed.{WasFed}
-use Rattle.stack_run.specs.Simple.{is_simple, said_of}
+use Rattle.stack_run.specs.Simple.{are_simple_clients, is_simple, AreSimpleDisks, said_of}
+use Rattle.stack_run.proofs.OneDisk.{both}
+use Rattle.stack_run.specs.Serving.{LacksImage}
 use Rattle.image_store.specs.Place.{Image}
 use Rattle.stack_run.specs.Reading.{most_read_bytes, SourceReads, SourceSays, IsReadOut, IsScript, IsRefused}
-use Rattle.stack_run.specs.Program.{IsToldRefused, IsToldLacking, LacksImage}
+use Rattle.stack_run.specs.Program.{IsToldRefused, IsToldLacking}
 
 -- the bytes so far, and what is left behind them, are what was left
 abbrev pub SoFar : Option (List ℕ) → Option (List ℕ) → List ℕ → Type 0
@@ -115,8 +117,8 @@ pub record SoFed (left now : Option (List ℕ)) (reader : ScriptReader) (count f
   pub quiet : faults' ≡ faults
 
 -- what was read is refused
-pub script-refused : (left now : Option (List ℕ)) (bytes : List ℕ) (fault : ℕ × Reason) → SourceReads left now bytes → said_of bytes ≡ Err fault → IsRefused left now
-script-refused left now bytes (line, reason) reads says = record { line = line; reason = reason; says = says-whole left now bytes (Err (line, reason)) reads says; bytes = bytes; reads = reads }
+pub script-refused : (left now : Option (List ℕ)) (bytes : List ℕ) (line : ℕ) (reason : Reason) → SourceReads left now bytes → said_of bytes ≡ Err (line, reason) → IsRefused left now line reason
+script-refused left now bytes line reason reads says = record { says = says-whole left now bytes (Err (line, reason)) reads says; bytes = bytes; reads = reads }
 
 -- a script that this version runs, and one that it does not run
 pub runs : (bytes : List ℕ) (plans : List DiskPlan) → script_of bytes ≡ Ok plans → is_simple plans ≡ true → said_of bytes ≡ Ok plans
@@ -149,3 +151,9 @@ not-lacking None fault at says lacks = lacks
 pub three-or-six : {n : ℕ} → (n ≡ 3) ⊎ (n ≡ 6) → (n ≡ 3) ⊎ ((n ≡ 4) ⊎ (n ≡ 6))
 three-or-six (inl is) = inl is
 three-or-six (inr is) = inr (inr is)
+
+-- each disk of a script that this version runs
+pub simple-disks : (disks : List DiskPlan) → is_simple disks ≡ true → AreSimpleDisks disks
+unfolding AreSimpleDisks
+simple-disks [] is = tt
+simple-disks (disk ∷ disks) is = let (here, later) = both (are_simple_clients disk.clients) (is_simple disks) is in (here, simple-disks disks later)

@@ -1,10 +1,15 @@
 pub mod Figures
+pub mod Chains
 pub mod Generated
 pub mod Keeping
 pub mod Leading
+pub mod Media
 pub mod Plain
 pub mod Program
 pub mod Reading
+pub mod Reporting
+pub mod Runs
 pub mod Serving
 pub mod Simple
 pub mod Summary
+pub mod Stages

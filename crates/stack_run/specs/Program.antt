@@ -1,16 +1,20 @@
 -- The program's words, its statuses, and what stands behind each of them (own profile).
-use Rattle.std.specs.Prelude.{◌≡◌, ℕ, ◌⊎◌, Bool, false, List, [], ◌∷◌, ◌++◌, codes, Option, None, Some, Result, Ok, Err, IsErr, bytes_eq}
+use Rattle.std.specs.Prelude.{◌≡◌, ℕ, ◌⊎◌, Bool, false, List, [], ◌∷◌, ◌++◌, codes, decimal, Option, None, Some, Result, Ok, Err, IsErr, bytes_eq}
 use Rattle.medium.specs.Counts.{Rose}
 use Rattle.image_store.specs.Edge.{Appends, AppendsFront}
-use Rattle.image_store.specs.Place.{Image, ChangesOnly}
+use Rattle.image_store.specs.Place.{Image}
 use Rattle.script_text.specs.declared.language.plans.DiskPlan.{DiskPlan}
-use Rattle.script_text.specs.declared.language.plans.ClientPlan.{ClientPlan}
 use Rattle.script_text.specs.declared.language.refusal.Reason.{Reason}
+use Rattle.script_text.specs.declared.language.refusal.Reason.TheVariants as why
 use Rattle.stack_run.specs.Simple.{said_of}
 use Rattle.stack_run.specs.declared.refusal.Refusal.{Refusal}
 use Rattle.stack_run.specs.declared.refusal.Refusal.TheVariants.{Words, Script, Image as ImageOf, Source, Memory}
-use Rattle.stack_run.specs.Reading.{IsScript, OfOne}
-use Rattle.stack_run.specs.Serving.{Served, ImageFails, MayLeave, LacksBlock}
+use Rattle.stack_run.specs.declared.refusal.Unserved.{Unserved}
+use Rattle.stack_run.specs.declared.refusal.Unserved.TheVariants as fault
+use Rattle.stack_run.specs.declared.wanted.Wanted.{Wanted}
+use Rattle.stack_run.specs.Stages.{ImageStops}
+use Rattle.stack_run.specs.Reading.{IsScript, IsRefused}
+use Rattle.stack_run.specs.Serving.{Served, NotTaken, NotPutBack, MemoryLeaves, LacksImage, HasImages}
 
 -- the words are the one word `plain`
 abbrev pub is_plain : List (List ℕ) → Bool
@@ -20,55 +24,96 @@ is_plain (word ∷ other ∷ more) = false
 
 abbrev pub status_of : Refusal → ℕ
 status_of Words = 1
-status_of Script = 2
+status_of (Script line reason) = 2
 status_of ImageOf = 3
 status_of Source = 4
 status_of Memory = 6
 
--- the line of a refusal, which ends with a line feed (10)
-abbrev pub refusal_text : Refusal → List ℕ → List ℕ
-refusal_text Words name = codes "words" ++ 10 ∷ []
-refusal_text Script name = codes "script" ++ 10 ∷ []
-refusal_text ImageOf name = codes "image " ++ name ++ 10 ∷ []
-refusal_text Source name = codes "source" ++ 10 ∷ []
-refusal_text Memory name = codes "memory" ++ 10 ∷ []
+-- the word of a reason
+abbrev pub reason_text : Reason → List ℕ
+reason_text why.Form = codes "form"
+reason_text why.Number = codes "number"
+reason_text why.Hex = codes "hex"
+reason_text why.Order = codes "order"
+reason_text why.Name = codes "name"
+reason_text why.Medium = codes "medium"
+reason_text why.Limit = codes "limit"
+reason_text why.Size = codes "size"
+reason_text why.Part = codes "part"
 
--- a line was written, or where the sink failed a front of it
+-- the line of a refusal, which ends with a line feed (10), with a space (32) between its words
+abbrev pub refusal_text : Refusal → List ℕ → List ℕ
+refusal_text Words name = codes "words\n"
+refusal_text (Script line reason) name = codes "script " ++ (decimal line ++ (32 ∷ reason_text reason ++ 10 ∷ []))
+refusal_text ImageOf name = codes "image " ++ (name ++ 10 ∷ [])
+refusal_text Source name = codes "source\n"
+refusal_text Memory name = codes "memory\n"
+
+-- the sink has what it had, and did not fail
+pub record IsUnwritten (wrote wrote' : Option (List ℕ)) (faults faults' : ℕ) : Type 0 where
+  pub same : wrote' ≡ wrote
+  pub quiet : faults' ≡ faults
+
+-- the line was written and the sink did not fail
+pub record IsWritten (line : List ℕ) (wrote wrote' : Option (List ℕ)) (faults faults' : ℕ) : Type 0 where
+  pub added : Appends wrote wrote' line
+  pub quiet : faults' ≡ faults
+
+-- the sink failed, and a front was written
+pub record IsCut (line : List ℕ) (wrote wrote' : Option (List ℕ)) (faults faults' : ℕ) : Type 0 where
+  pub front : AppendsFront wrote wrote' line
+  pub cause : Rose faults faults'
+
+-- a line was written, or where the sink failed a front of it, or where memory ran out nothing
 abbrev pub WritesLine : List ℕ → Option (List ℕ) → Option (List ℕ) → ℕ → ℕ → Type 0
-WritesLine line wrote wrote' faults faults' = Appends wrote wrote' line ⊎ (AppendsFront wrote wrote' line × Rose faults faults')
+WritesLine line wrote wrote' faults faults' = IsWritten line wrote wrote' faults faults' ⊎ (IsCut line wrote wrote' faults faults' ⊎ IsUnwritten wrote wrote' faults faults')
 
 -- the line of a refusal was written, and no image has changed
 pub record WritesRefusal (text : List ℕ) (at at' : List ℕ → Image) (wrote wrote' : Option (List ℕ)) (faults faults' : ℕ) : Type 0 where
   pub images : at' ≡ at
   pub line : WritesLine text wrote wrote' faults faults'
 
--- the source was read to its end and is a script of one disk with one client, and this holds of the two
-pub record OfScript (left left' : Option (List ℕ)) (P : DiskPlan → ClientPlan → Type 0) : Type 0 where
+-- the source is no script, which the line says, and no image has changed
+pub record ScriptRefused (left left' : Option (List ℕ)) (at at' : List ℕ → Image) (wrote wrote' : Option (List ℕ)) (faults faults' : ℕ) : Type 0 where
+  pub number : ℕ
+  pub reason : Reason
+  pub refused : IsRefused left left' number reason
+  pub line : WritesRefusal (refusal_text (Script number reason) []) at at' wrote wrote' faults faults'
+
+-- the source was read to its end and is a script of these disks, of which this holds
+pub record OfScript (left left' : Option (List ℕ)) (P : List DiskPlan → Type 0) : Type 0 where
   pub plans : List DiskPlan
   pub script : IsScript left left' plans
-  pub one : OfOne plans P
+  pub holds : P plans
 
--- the image of a disk could not be taken or put back, and the line says so
-pub record ImageFailed (at at' : List ℕ → Image) (wrote wrote' : Option (List ℕ)) (faults faults' : ℕ) (plan : DiskPlan) (client : ClientPlan) : Type 0 where
-  pub fails : ImageFails plan client (at plan.image) (at' plan.image)
-  pub others : ChangesOnly plan.image at at'
-  pub line : WritesLine (refusal_text ImageOf plan.image) wrote wrote' faults faults'
+-- an image could not be taken or put back, and the line says so
+pub record ImageFailed (at at' : List ℕ → Image) (wrote wrote' : Option (List ℕ)) (faults faults' : ℕ) (plans : List DiskPlan) : Type 0 where
+  pub name : List ℕ
+  pub fails : NotTaken plans at at' name ⊎ NotPutBack plans at at' name
+  pub line : WritesLine (refusal_text ImageOf name) wrote wrote' faults faults'
 
--- a disk was served, and the sink failed in its report
-pub record SinkFailed (at at' : List ℕ → Image) (wrote wrote' : Option (List ℕ)) (faults faults' : ℕ) (plan : DiskPlan) (client : ClientPlan) : Type 0 where
-  pub served : Served plan client at at' (AppendsFront wrote wrote')
+-- the disks were served, and the sink failed in their reports
+pub record SinkFailed (at at' : List ℕ → Image) (wrote wrote' : Option (List ℕ)) (faults faults' : ℕ) (plans : List DiskPlan) : Type 0 where
+  pub served : Served plans at at' (AppendsFront wrote wrote')
   pub cause : Rose faults faults'
 
--- memory ran out, and the image of a disk is left so
-pub record MemoryRanOut (at at' : List ℕ → Image) (plan : DiskPlan) (client : ClientPlan) : Type 0 where
-  pub leaves : MayLeave plan.size (at plan.image) (at' plan.image)
-  pub others : ChangesOnly plan.image at at'
+-- memory ran out in the reports of the disks, which were served, and nothing failed
+pub record ReportRanOut (at at' : List ℕ → Image) (wrote wrote' : Option (List ℕ)) (faults faults' : ℕ) (plans : List DiskPlan) : Type 0 where
+  pub served : Served plans at at' (AppendsFront wrote wrote')
+  pub quiet : faults' ≡ faults
 
--- there is no image of one block for its one disk
-abbrev pub LacksImage : List DiskPlan → (List ℕ → Image) → Type 0
-LacksImage [] at = ⊥
-LacksImage (plan ∷ []) at = LacksBlock plan.size (at plan.image).place
-LacksImage (plan ∷ other ∷ more) at = ⊥
+-- memory ran out before, and the images are left so
+pub record DisksRanOut (at at' : List ℕ → Image) (wrote wrote' : Option (List ℕ)) (faults faults' : ℕ) (plans : List DiskPlan) : Type 0 where
+  pub leaves : MemoryLeaves plans at at'
+  pub line : WritesLine (refusal_text Memory []) wrote wrote' faults faults'
+
+abbrev pub ServingRanOut : (List ℕ → Image) → (List ℕ → Image) → Option (List ℕ) → Option (List ℕ) → ℕ → ℕ → List DiskPlan → Type 0
+ServingRanOut at at' wrote wrote' faults faults' plans = DisksRanOut at at' wrote wrote' faults faults' plans ⊎ ReportRanOut at at' wrote wrote' faults faults' plans
+
+-- memory ran out in reading the script, or in serving its disks or in their reports
+abbrev pub MemoryRanOut : Option (List ℕ) → Option (List ℕ) → (List ℕ → Image) → (List ℕ → Image) → Option (List ℕ) → Option (List ℕ) → ℕ → ℕ → Type 0
+MemoryRanOut left left' at at' wrote wrote' faults faults' =
+    WritesRefusal (refusal_text Memory []) at at' wrote wrote' faults faults' ⊎ OfScript left left' (ServingRanOut at at' wrote wrote' faults faults')
 
 abbrev pub SaidLacksImage : Result (List DiskPlan) (ℕ × Reason) → (List ℕ → Image) → Type 0
 SaidLacksImage (Ok plans) at = LacksImage plans at
@@ -79,11 +124,44 @@ abbrev pub IsToldRefused : Option (List ℕ) → Type 0
 IsToldRefused (Some left) = IsErr (said_of left)
 IsToldRefused None = ⊥
 
--- the source tells its bytes, and they are a script for whose disk there is no image of one block
+-- the source tells its bytes, and they are a script of which an image lacks blocks
 abbrev pub IsToldLacking : Option (List ℕ) → (List ℕ → Image) → Type 0
 IsToldLacking (Some left) at = SaidLacksImage (said_of left) at
 IsToldLacking None at = ⊥
 
--- what serving a disk may answer
+-- the source tells its bytes, and they are a script each of whose images is there and has its blocks
+abbrev pub SaidHasImages : Result (List DiskPlan) (ℕ × Reason) → (List ℕ → Image) → Type 0
+SaidHasImages (Ok plans) at = HasImages plans at
+SaidHasImages (Err fault) at = ⊥
+
+abbrev pub IsToldServable : Option (List ℕ) → (List ℕ → Image) → Type 0
+IsToldServable (Some left) at = SaidHasImages (said_of left) at
+IsToldServable None at = ⊥
+
+-- what serving disks may answer
 abbrev pub IsServingStatus : ℕ → Type 0
 IsServingStatus n = (n ≡ 0) ⊎ ((n ≡ 3) ⊎ ((n ≡ 5) ⊎ (n ≡ 6)))
+
+-- why the disks were not served, and what was left and written
+abbrev pub ServingFails : Unserved → List DiskPlan → List Wanted → (List ℕ → Image) → (List ℕ → Image) → Option (List ℕ) → Option (List ℕ) → ℕ → ℕ → Type 0
+ServingFails (fault.Image place) plans wanted at at' wrote wrote' faults faults' = ImageStops plans wanted place at at' × IsUnwritten wrote wrote' faults faults'
+ServingFails fault.Memory plans wanted at at' wrote wrote' faults faults' = MemoryLeaves plans at at' × IsUnwritten wrote wrote' faults faults'
+ServingFails fault.Sink plans wanted at at' wrote wrote' faults faults' = SinkFailed at at' wrote wrote' faults faults' plans
+ServingFails fault.Report plans wanted at at' wrote wrote' faults faults' = ReportRanOut at at' wrote wrote' faults faults' plans
+
+-- an image could not be taken or put back, or memory ran out before the reports
+abbrev pub IsImageStop : Result (Unit {0}) Unserved → Type 0
+IsImageStop (Ok x) = ⊥
+IsImageStop (Err (fault.Image place)) = Unit {0}
+IsImageStop (Err fault.Memory) = Unit {0}
+IsImageStop (Err fault.Sink) = ⊥
+IsImageStop (Err fault.Report) = ⊥
+
+-- the count did not rise
+abbrev pub IsNoRise : ℕ → ℕ → Type 0
+IsNoRise before now = Rose before now → ⊥
+
+-- the program ends with the status of its run and writes nothing; without one, since memory ran out for its words, with 6 and a line
+abbrev pub EndsWith : Option ℕ → ℕ → Option (List ℕ) → Option (List ℕ) → ℕ → ℕ → Type 0
+EndsWith (Some status) code wrote wrote' faults faults' = (code ≡ status) × IsUnwritten wrote wrote' faults faults'
+EndsWith None code wrote wrote' faults faults' = (code ≡ 6) × WritesLine (refusal_text Memory []) wrote wrote' faults faults'

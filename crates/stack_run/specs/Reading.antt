@@ -1,10 +1,11 @@
 -- What of a source is read, and what it says (own profile).
-use Rattle.std.specs.Prelude.{◌≡◌, ℕ, List, [], ◌∷◌, take, drop, Option, None, Some, Result, Ok, Err}
+use Rattle.std.specs.Prelude.{◌≡◌, ℕ, List, [], take, drop, Option, None, Some, Result, Ok, Err}
 use Rattle.script_text.specs.declared.language.plans.DiskPlan.{DiskPlan}
-use Rattle.script_text.specs.declared.language.plans.ClientPlan.{ClientPlan}
 use Rattle.script_text.specs.declared.language.refusal.Reason.{Reason}
 use Rattle.script_text.specs.declared.language.reader.ScriptReader.{ScriptReader}
 use Rattle.script_text.specs.Fed.{WasFed}
+use Rattle.stack_run.specs.declared.reading.NotRead.{NotRead}
+use Rattle.stack_run.specs.declared.reading.NotRead.TheVariants.{Failed, Refused, Memory}
 use Rattle.stack_run.specs.Simple.{said_of}
 
 -- the most bytes of a source that are read: 4 MiB and one byte, one more than a script may have
@@ -31,10 +32,8 @@ pub record IsScript (left left' : Option (List ℕ)) (plans : List DiskPlan) : T
   pub says : SourceSays left (Ok plans)
   pub out : IsReadOut left left'
 
--- the source was read to its end or as far as may be read, and is refused as a script
-pub record IsRefused (left left' : Option (List ℕ)) : Type 0 where
-  pub line : ℕ
-  pub reason : Reason
+-- the source was read to its end or as far as may be read, and is refused as a script with this first faulty line and reason
+pub record IsRefused (left left' : Option (List ℕ)) (line : ℕ) (reason : Reason) : Type 0 where
   pub says : SourceSays left (Err (line, reason))
   pub bytes : List ℕ
   pub reads : SourceReads left left' bytes
@@ -45,10 +44,8 @@ pub record FedBy (left left' : Option (List ℕ)) (reader : ScriptReader) : Type
   pub reads : SourceReads left left' bytes
   pub fed : WasFed reader bytes
 
--- these are one disk with one client, and this holds of the two
-pub record OfOne (plans : List DiskPlan) (P : DiskPlan → ClientPlan → Type 0) : Type 0 where
-  pub plan : DiskPlan
-  pub client : ClientPlan
-  pub disk : plans ≡ plan ∷ []
-  pub client_of : plan.clients ≡ client ∷ []
-  pub holds : P plan client
+-- a fault that is a refusal says so
+abbrev pub SaysWhy : Option (List ℕ) → Option (List ℕ) → NotRead → Type 0
+SaysWhy left left' Failed = Unit {0}
+SaysWhy left left' (Refused line reason) = IsRefused left left' line reason
+SaysWhy left left' Memory = Unit {0}

@@ -1,150 +1,111 @@
--- What one disk of a script did, and what it left (own profile).
-use Rattle.std.specs.Prelude.{◌≡◌, ℕ, ◌*◌, ◌/◌, ◌^◌, ◌<◌, ◌≤◌, ◌⊎◌, false, List, [], ◌∷◌, ◌++◌, length, Option, Some}
-use Rattle.medium.specs.Counts.{adds, Rose}
-use Rattle.medium.specs.Device.{Device}
-use Rattle.disk_split.specs.declared.geometry.Geometry.{Geometry}
+-- What the disks of a script did, and what they left (own profile).
+use Rattle.std.specs.Prelude.{◌≡◌, ◌≢◌, ℕ, ◌+◌, ◌*◌, ◌⊎◌, List, [], ◌∷◌, ◌++◌, map, Option}
+use Rattle.std.specs.List.{AllByRecursion}
+use Rattle.medium.specs.Counts.{Rose}
 use Rattle.history.specs.declared.entry.Entry.{Entry}
-use Rattle.history.specs.declared.order.Order.{Order}
-use Rattle.history.specs.Setup.{Setup, size_of, blocks_of}
-use Rattle.history.specs.Contents.{kept_contents}
-use Rattle.history.specs.Rules.{IsLegal}
-use Rattle.history.specs.Room.{faults}
-use Rattle.disk_core.specs.Facts.{MeetsEra}
-use Rattle.image_store.specs.Place.{Place, Here, Missing, Taken, Untold, Image, IsShort, MayBeShort, ChangesOnly, whole_block_bytes, tail_of}
+use Rattle.history.specs.Setup.{Setup, size_of, per_of, blocks_of}
+use Rattle.image_store.specs.Place.{Image}
 use Rattle.script_text.specs.declared.language.plans.DiskPlan.{DiskPlan}
-use Rattle.script_text.specs.declared.language.plans.ClientPlan.{ClientPlan}
-use Rattle.script_text.specs.Report.{givens_of, AreEnds, AreGiven, report_text}
-use Rattle.stack_run.specs.declared.serving.Run.{Run}
-use Rattle.stack_run.specs.Plain.{outcomes_of, plain_history}
+use Rattle.script_text.specs.declared.report.parts.KeptMedium.{KeptMedium}
+use Rattle.script_text.specs.Fitting.{images_of}
+use Rattle.script_text.specs.Report.{head_text, body_text}
+use Rattle.stack_run.specs.declared.wanted.Wanted.{Wanted}
+use Rattle.stack_run.specs.Media.{media_names, wanted_of, IsSetupOf, IsLostPlace, IsLeft, IsLeftOrLost, IsLeftOrGone, EachMedium, IsBackOrLost, IsBackOrGone, IsUnmade, MayHaveBlocks, HasBlocks, ChangesAmong}
+use Rattle.stack_run.specs.Chains.{LacksOne}
+use Rattle.stack_run.specs.Runs.{RanPlain, RanInPart}
 
--- the lines ran over a disk by the plain schedule: the history is legal, and the medium follows it
-pub record RanOver (S : Setup) (orders : List Order) (medium : Device) (run : Run) : Type 0 where
-  pub blocks : run.blocks ≡ medium.blocks
-  pub fits : medium.blocks * medium.size < 2 ^ 64
-  pub legal : IsLegal S run.history.entries
-  pub plain : run.history.entries ≡ plain_history S orders (outcomes_of run.history.entries)
-  pub faultless : faults run.history.entries ≡ 0 → run.history.entries ≡ plain_history S orders []
-  pub meets : MeetsEra S run.history.entries 1 medium
-  pub ends : AreEnds S run.history.entries run.ends.items
-  pub given : AreGiven S run.history.entries (givens_of run.ends.items)
+-- the media of a report: their images, and their lengths in bytes
+unfoldable pub kept_media : ℕ → List (List ℕ) → List ℕ → List KeptMedium
+kept_media size [] blocks = []
+kept_media size (name ∷ names) [] = []
+kept_media size (name ∷ names) (n ∷ blocks) = record { name = name; bytes = n * size } ∷ kept_media size names blocks
 
--- the medium follows some legal history
-pub record RanSome (S : Setup) (medium : Device) : Type 0 where
-  pub history : List Entry
-  pub legal : IsLegal S history
-  pub meets : MeetsEra S history 1 medium
+abbrev pub blocks_in : Setup → List ℕ
+blocks_in S = map (λ o. o.blocks) S.media
 
--- a disk with one medium, with no cache, and not protected
-abbrev pub one_medium : ℕ → ℕ → Option (List ℕ) → Setup
-one_medium size blocks first = record { geometry = record { size = size; per = 1 }; cached = false; protected = false; media = record { blocks = blocks; first = first } ∷ [] }
+-- the report of a disk with this number; the lines of its table stand behind the first, where it was probed
+unfoldable pub disk_report : ℕ → DiskPlan → Setup → List ℕ → List Entry → List (Option (List ℕ)) → List ℕ
+disk_report number plan S table H given =
+    head_text number plan.image (size_of S) (blocks_of S 1) (per_of S) ++ (table ++ body_text S H given (kept_media (size_of S) (media_names plan) (blocks_in S)))
 
--- the disk over a medium that keeps no cache
-abbrev pub disk_over : Device → Setup
-disk_over d = one_medium d.size d.blocks d.first
-
--- the blocks of a disk of a script, each a group of its own
-abbrev pub blocks_alone : DiskPlan → Geometry
-blocks_alone plan = record { size = plan.size; per = 1 }
-
--- the setup has the image's whole blocks; those of an image that does not tell are some
-abbrev pub Opens : ℕ → Place → Setup → Type 0
-Opens size (Here bytes) S = (size ≤ length bytes) × (S ≡ one_medium size (length bytes / size) (Some (whole_block_bytes size bytes)))
-Opens size Missing S = ⊥
-Opens size (Taken tail) S = ⊥
-Opens size Untold S = (blocks : ℕ) × (first : Option (List ℕ)) × (S ≡ one_medium size blocks first)
-
--- an image that told its bytes is its medium's kept contents and then its tail
-abbrev pub Leaves : Setup → List Entry → Place → Place → Type 0
-Leaves S H (Here bytes) new = (kept : List ℕ) × (kept_contents S 1 H ≡ Some kept) × (new ≡ Here (kept ++ tail_of (size_of S) bytes))
-Leaves S H Missing new = ⊥
-Leaves S H (Taken tail) new = ⊥
-Leaves S H Untold new = new ≡ Untold
-
--- an image that could not be put back is nowhere, where it told its bytes
-abbrev pub IsLost : Place → Place → Type 0
-IsLost (Here bytes) new = new ≡ Missing
-IsLost Missing new = ⊥
-IsLost (Taken tail) new = ⊥
-IsLost Untold new = new ≡ Untold
-
--- a legal history over the image, whose faults are the commands that failed under its name
-pub record RanOn (size : ℕ) (old new : Image) (S : Setup) (H : List Entry) : Type 0 where
-  pub opens : Opens size old.place S
-  pub legal : IsLegal S H
-  pub worn : new.worn ≡ adds old.worn (faults H)
-
--- it is the plain run of the client's lines with its own outcomes, of the lines alone where no command failed; and
--- this is what its reads gave
-pub record RanPlain (plan : DiskPlan) (client : ClientPlan) (old new : Image) (S : Setup) (H : List Entry) (given : List (Option (List ℕ))) : Type 0 where
-  pub on : RanOn plan.size old new S H
-  pub plain : H ≡ plain_history S client.orders (outcomes_of H)
-  pub faultless : faults H ≡ 0 → H ≡ plain_history S client.orders []
-  pub reads : AreGiven S H given
-
--- the report of a script's one disk with its one medium, which has so many blocks
-unfoldable pub report_of : DiskPlan → Setup → ℕ → List Entry → List (Option (List ℕ)) → List ℕ
-report_of plan S blocks H given = report_text 1 plan.image S blocks H given (record { name = plan.image; bytes = blocks * plan.size } ∷ [])
-
-abbrev pub run_report : DiskPlan → Setup → Run → List ℕ
-run_report plan S run = report_of plan S run.blocks run.history.entries (givens_of run.ends.items)
-
-abbrev pub disk_report : DiskPlan → Setup → List Entry → List (Option (List ℕ)) → List ℕ
-disk_report plan S H given = report_of plan S (blocks_of S 1) H given
-
--- the lines ran over the image to their end, and it was put back: no call of its name failed
-pub record RanDisk (plan : DiskPlan) (client : ClientPlan) (old new : Image) (run : Run) : Type 0 where
-  pub setup : Setup
-  pub ran : RanPlain plan client old new setup run.history.entries (givens_of run.ends.items)
-  pub image : Leaves setup run.history.entries old.place new.place
-  pub quiet : new.faults ≡ old.faults
-  pub blocks : run.blocks ≡ blocks_of setup 1
-  pub fits : run.blocks * plan.size < 2 ^ 64
-  pub geometry : setup.geometry ≡ blocks_alone plan
-  pub ends : AreEnds setup run.history.entries run.ends.items
-
--- the images are those of one history, and so is the report, which was written so; no call of the image's name failed
-pub record Served (plan : DiskPlan) (client : ClientPlan) (at at' : List ℕ → Image) (Writes : List ℕ → Type 0) : Type 0 where
+-- the lines of a disk ran to their end over its images, each of which ended so
+pub record HasRun (Ends : Setup → List Entry → ℕ → Image → Image → Type 0) (plan : DiskPlan) (at at' : List ℕ → Image) : Type 0 where
   pub setup : Setup
   pub history : List Entry
   pub given : List (Option (List ℕ))
-  pub ran : RanPlain plan client (at plan.image) (at' plan.image) setup history given
-  pub image : Leaves setup history (at plan.image).place (at' plan.image).place
-  pub quiet : (at' plan.image).faults ≡ (at plan.image).faults
-  pub others : ChangesOnly plan.image at at'
-  pub report : Writes (disk_report plan setup history given)
+  pub opened : IsSetupOf plan at setup
+  pub ran : RanPlain plan setup [] history given
+  pub images : EachMedium (Ends setup history) 1 (media_names plan) at at'
 
--- the image was not taken and is where it was: it is too short, or its name's faults rose
-pub record NotTaken (size : ℕ) (old new : Image) : Type 0 where
-  pub place : new.place ≡ old.place
-  pub worn : new.worn ≡ old.worn
-  pub cause : Rose old.faults new.faults ⊎ MayBeShort old.place size
-
--- the lines ran, and the image could not be put back: its name's faults rose
-pub record NotPutBack (plan : DiskPlan) (client : ClientPlan) (old new : Image) : Type 0 where
+-- or some of them, or none
+pub record HasRunInPart (plan : DiskPlan) (at at' : List ℕ → Image) : Type 0 where
   pub setup : Setup
   pub history : List Entry
-  pub given : List (Option (List ℕ))
-  pub ran : RanPlain plan client old new setup history given
-  pub lost : IsLost old.place new.place
-  pub cause : Rose old.faults new.faults
+  pub opened : IsSetupOf plan at setup
+  pub part : RanInPart plan setup [] history
+  pub images : EachMedium (IsLeftOrGone setup history) 1 (media_names plan) at at'
 
-abbrev pub ImageFails : DiskPlan → ClientPlan → Image → Image → Type 0
-ImageFails plan client old new = NotTaken plan.size old new ⊎ NotPutBack plan client old new
+-- this is the report of a disk that was not probed, and then this rest
+pub record IsReport (number : ℕ) (plan : DiskPlan) (at at' : List ℕ → Image) (text rest : List ℕ) : Type 0 where
+  pub run : HasRun IsLeft plan at at'
+  pub is : text ≡ disk_report number plan run.setup [] run.history run.given ++ rest
 
--- a legal history ran over the image, which it left, or which could not be put back
-pub record RanInPart (size : ℕ) (old new : Image) : Type 0 where
-  pub setup : Setup
-  pub history : List Entry
-  pub on : RanOn size old new setup history
-  pub left : Leaves setup history old.place new.place ⊎ IsLost old.place new.place
+-- the reports of all disks, the first of which has this number
+unfoldable pub AreReports : ℕ → List DiskPlan → (List ℕ → Image) → (List ℕ → Image) → List ℕ → Type 0
+AreReports number [] at at' text = text ≡ []
+AreReports number (plan ∷ plans) at at' text = (rest : List ℕ) × IsReport number plan at at' text rest × AreReports (number + 1) plans at at' rest
 
--- what want of memory leaves: the image where it was, or as a legal history says
-abbrev pub MayLeave : ℕ → Image → Image → Type 0
-MayLeave size old new = ((new.place ≡ old.place) × (new.worn ≡ old.worn)) ⊎ RanInPart size old new
+-- all disks did what their reports say, all images are put back, and the reports were written so; no other name has changed
+pub record Served (plans : List DiskPlan) (at at' : List ℕ → Image) (Writes : List ℕ → Type 0) : Type 0 where
+  pub text : List ℕ
+  pub reports : AreReports 1 plans at at' text
+  pub others : ChangesAmong (images_of plans) at at'
+  pub written : Writes text
 
--- there is no image of one block
-abbrev pub LacksBlock : ℕ → Place → Type 0
-LacksBlock size (Here bytes) = IsShort (Here bytes) size
-LacksBlock size Missing = Unit {0}
-LacksBlock size (Taken tail) = ⊥
-LacksBlock size Untold = ⊥
+-- this is the first of the wanted images for which that holds not
+pub record IsFirstAt (P : Wanted → Type 0) (wanted : List Wanted) (want : Wanted) : Type 0 where
+  pub before : List Wanted
+  pub after : List Wanted
+  pub is : wanted ≡ before ++ want ∷ after
+  pub first : AllByRecursion P before
+
+-- this image could not be taken, the first of all, and each other one is back or lost
+pub record NotTaken (plans : List DiskPlan) (at at' : List ℕ → Image) (name : List ℕ) : Type 0 where
+  pub want : Wanted
+  pub named : want.image ≡ name
+  pub first : IsFirstAt (λ earlier. MayHaveBlocks earlier (at earlier.image).place) (wanted_of plans) want
+  pub unmade : IsUnmade want (at name) (at' name)
+  pub back : (other : List ℕ) → other ≢ name → IsBackOrLost (at other) (at' other)
+  pub others : ChangesAmong (images_of plans) at at'
+
+-- all disks ran to their end, and this is the first image that could not be put back
+pub record NotPutBack (plans : List DiskPlan) (at at' : List ℕ → Image) (name : List ℕ) : Type 0 where
+  pub ran : AllByRecursion (λ plan. HasRun IsLeftOrLost plan at at') plans
+  pub want : Wanted
+  pub named : want.image ≡ name
+  pub first : IsFirstAt (λ earlier. (at' earlier.image).faults ≡ (at earlier.image).faults) (wanted_of plans) want
+  pub cause : Rose (at name).faults (at' name).faults
+  pub others : ChangesAmong (images_of plans) at at'
+
+-- an image could not be taken, and memory ran out in putting another one back
+pub record NotTakenSpent (at at' : List ℕ → Image) : Type 0 where
+  pub want : Wanted
+  pub unmade : IsUnmade want (at want.image) (at' want.image)
+  pub back : (other : List ℕ) → other ≢ want.image → IsBackOrGone (at other) (at' other)
+  pub spent : List ℕ
+  pub lost : IsLostPlace (at spent).place (at' spent).place
+  pub quiet : (at' spent).faults ≡ (at spent).faults
+
+-- what want of memory leaves: all images where they were or lost, but for one that could not be taken; or as parts of the disks' runs
+-- left them
+pub record MemoryLeaves (plans : List DiskPlan) (at at' : List ℕ → Image) : Type 0 where
+  pub images : ((name : List ℕ) → IsBackOrGone (at name) (at' name)) ⊎ (NotTakenSpent at at' ⊎ AllByRecursion (λ plan. HasRunInPart plan at at') plans)
+  pub others : ChangesAmong (images_of plans) at at'
+
+-- some wanted image has not the blocks that it has to have
+abbrev pub LacksImage : List DiskPlan → (List ℕ → Image) → Type 0
+LacksImage plans at = LacksOne (wanted_of plans) at
+
+-- each wanted image is there and has its blocks
+abbrev pub HasImages : List DiskPlan → (List ℕ → Image) → Type 0
+HasImages plans at = AllByRecursion (λ want. HasBlocks want (at want.image).place) (wanted_of plans)

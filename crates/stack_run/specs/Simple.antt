@@ -1,6 +1,6 @@
--- What of the script language this version runs: one disk of one medium with one client (own profile).
-use Rattle.std.specs.Prelude.{◌≡◌, ℕ, ◌^◌, ◌<◌, ◌≤◌, Bool, true, false, not, ◌&&◌, nat_eq, if◌then◌else◌, List, [], ◌∷◌, length, is_none, Result, Ok, Err}
-use Rattle.std.specs.List.{list_all}
+-- What of the script language this version runs: disks with one client each (own profile).
+use Rattle.std.specs.Prelude.{◌≡◌, ℕ, ◌^◌, ◌<◌, ◌≤◌, Bool, true, false, ◌&&◌, nat_eq, if◌then◌else◌, List, [], ◌∷◌, length, is_none, Result, Ok, Err}
+use Rattle.std.specs.List.{list_all, AllByRecursion}
 use Rattle.history.specs.declared.entry.Asked.{Asked}
 use Rattle.history.specs.declared.entry.Kind.{Kind}
 use Rattle.history.specs.declared.entry.Kind.TheVariants.{Read, Write, Flush, Erase}
@@ -53,19 +53,13 @@ are_simple_clients [] = false
 are_simple_clients (client ∷ []) = is_simple_client client
 are_simple_clients (client ∷ other ∷ more) = false
 
-abbrev pub has_no_name : List (List ℕ) → Bool
-has_no_name [] = true
-has_no_name (name ∷ more) = false
-
--- one medium with no cache, not protected, its groups of one block each
+-- any media, flags and groups
 abbrev pub is_simple_disk : DiskPlan → Bool
-is_simple_disk disk = not disk.cached && not disk.protected && nat_eq disk.physical 1 && has_no_name disk.spares && are_simple_clients disk.clients
+is_simple_disk disk = are_simple_clients disk.clients
 
--- one disk
+-- each of its disks
 abbrev pub is_simple : List DiskPlan → Bool
-is_simple [] = false
-is_simple (disk ∷ []) = is_simple_disk disk
-is_simple (disk ∷ other ∷ more) = false
+is_simple disks = list_all is_simple_disk disks
 
 abbrev pub simple_alone : List DiskPlan → Result (List DiskPlan) (ℕ × Reason)
 simple_alone plans = if is_simple plans then Ok plans else Err (0, why.Order)
@@ -102,7 +96,9 @@ unfoldable pub AreSimpleOrders : List Order → Type 0
 AreSimpleOrders [] = Unit {0}
 AreSimpleOrders (one ∷ more) = IsSimpleOrder one × AreSimpleOrders more
 
--- one disk with one client
-abbrev pub IsSingle : List DiskPlan → Type 0
-IsSingle (disk ∷ []) = length disk.clients ≡ 1
-IsSingle disks = ⊥
+-- one client, each of whose lines this version runs
+abbrev pub IsSimpleDisk : DiskPlan → Type 0
+IsSimpleDisk disk = are_simple_clients disk.clients ≡ true
+
+unfoldable pub AreSimpleDisks : List DiskPlan → Type 0
+AreSimpleDisks disks = AllByRecursion IsSimpleDisk disks

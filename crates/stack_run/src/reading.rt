@@ -1,13 +1,15 @@
-ghost use Rattle.std.specs.Prelude.{◌≡◌, ◌<◌, ◌≤◌, true, IfOk, IsErrOf};
+ghost use Rattle.std.specs.Prelude.{◌≡◌, ◌<◌, ◌≤◌, true, IfOk, IfErr};
 ghost use Rattle.std.specs.List.{list_all};
 ghost use Rattle.image_store.specs.Edge.{Takes, HasCause, HasCauseOf};
-ghost use Rattle.script_text.specs.Fitting.{AreDisks};
-ghost use Rattle.stack_run.specs.Reading.{FedBy, IsScript, IsRefused};
-ghost use Rattle.stack_run.specs.Simple.{brings_simply, is_simple_request, is_simple_order, is_simple_client, are_simple_clients, is_simple_disk, is_simple, IsSingle};
+ghost use Rattle.script_text.specs.Fitting.{AreDisks, FitTogether};
+ghost use Rattle.stack_run.specs.Reading.{FedBy, IsScript, SaysWhy};
+ghost use Rattle.stack_run.specs.Simple.{brings_simply, is_simple_request, is_simple_order, is_simple_client, are_simple_clients, is_simple_disk, is_simple, AreSimpleDisks};
 
 use history::{Kind, Order, Payload, UnitKind};
 use image_store::{Failed, Source};
-use script_text::{ClientPlan, DiskPlan, SCRIPT_BYTES, Script, ScriptReader, ScriptRefused};
+use script_text::{
+    ClientPlan, DiskPlan, Reason, SCRIPT_BYTES, Script, ScriptReader, ScriptRefused,
+};
 use std::alloc::Global;
 
 /// Why a source could not be read (own profile).
@@ -24,8 +26,8 @@ pub enum ReadFault {
 pub enum NotRead {
     /// It failed.
     Failed,
-    /// What it gave is refused as a script.
-    Refused,
+    /// What it gave is refused as a script: its first faulty line with the first reason that holds.
+    Refused { line: u64, reason: Reason },
     /// Memory ran out.
     Memory,
 }
@@ -79,10 +81,9 @@ pub fn read_source<R: Source>(alloc: Global, source: &mut R) -> Result<Script, N
     ensures script { IfOk result (λ script.
         IsScript (R.left source.old) (R.left source.new) script.disks) }
     ensures fit { IfOk result (λ script. AreDisks script.disks) }
-    ensures simple { IfOk result (λ script. is_simple script.disks ≡ true) }
-    ensures single { IfOk result (λ script. IsSingle script.disks) }
-    ensures refused { IsErrOf result NotRead.Refused
-        → IsRefused (R.left source.old) (R.left source.new) }
+    ensures together { IfOk result (λ script. FitTogether script.disks) }
+    ensures simple { IfOk result (λ script. AreSimpleDisks script.disks) }
+    ensures refused { IfErr result (SaysWhy (R.left source.old) (R.left source.new)) }
     ensures cause { HasCauseOf NotRead.Failed (R.faults source.old) (R.faults source.new) result }
 {
     let reader = match feed_source(alloc, source) {
@@ -95,10 +96,13 @@ pub fn read_source<R: Source>(alloc: Global, source: &mut R) -> Result<Script, N
             if is_simple(&script) {
                 Ok(script)
             } else {
-                Err(NotRead::Refused)
+                Err(NotRead::Refused {
+                    line: 0,
+                    reason: Reason::Order,
+                })
             }
         }
-        Err(ScriptRefused::Fault { .. }) => Err(NotRead::Refused),
+        Err(ScriptRefused::Fault { line, reason }) => Err(NotRead::Refused { line, reason }),
         Err(ScriptRefused::Memory) => Err(NotRead::Memory),
     }
 }
@@ -107,20 +111,17 @@ pub fn read_source<R: Source>(alloc: Global, source: &mut R) -> Result<Script, N
 fn is_simple(script: &Script) -> bool
     ensures { result ≡ is_simple script.now.disks }
 {
-    match script.disks.as_slice() {
-        [disk] => is_simple_disk(disk),
-        _ => false,
-    }
+    script
+        .disks
+        .as_slice()
+        .iter()
+        .all(|disk| is_simple_disk(disk))
 }
 
 fn is_simple_disk(disk: &DiskPlan) -> bool
     ensures { result ≡ is_simple_disk disk.now }
 {
-    !disk.cached
-        && !disk.protected
-        && disk.physical == 1
-        && disk.spares.as_slice().is_empty()
-        && are_simple_clients(disk.clients.as_slice())
+    are_simple_clients(disk.clients.as_slice())
 }
 
 fn are_simple_clients(clients: &[ClientPlan]) -> bool

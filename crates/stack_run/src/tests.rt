@@ -2,11 +2,13 @@ ghost use Rattle.std.specs.Prelude.{ℕ, List, IfOk};
 ghost use Rattle.image_store.specs.Place.{IsFree};
 ghost use Rattle.image_store.specs.Slots.{images_at};
 
+mod disks;
 mod generated;
 mod refusals;
 mod rows;
 
 use crate::run_plain;
+use disks::DISKS;
 use image_store::{MemImages, MemSink, MemSource};
 use medium::Planned;
 use refusals::REFUSALS;
@@ -21,6 +23,8 @@ struct Given {
     words: &'static [&'static str],
     script: &'static str,
     image: Option<usize>,
+    // Further images of zero bytes.
+    others: &'static [Blank],
     planned: &'static [Planned],
     images_fail: &'static [u64],
     source_fails: &'static [u64],
@@ -28,6 +32,13 @@ struct Given {
     // A star in the script or in what is written stands for this text so many times.
     star: &'static str,
     times: usize,
+}
+
+// An image of so many zero bytes.
+#[derive(Drop)]
+struct Blank {
+    name: &'static str,
+    length: usize,
 }
 
 // The bytes of an image that are not zero, from a place on.
@@ -49,6 +60,7 @@ const FIRST: Given = Given {
     words: &["plain"],
     script: "disk a.img 512 1\nclient\nwrite 510 aabbccdd\nwait\nread 508 8\n",
     image: Some(1024),
+    others: &[],
     planned: &[],
     images_fail: &[],
     source_fails: &[],
@@ -86,17 +98,32 @@ fn without_stars(alloc: Global, text: &str, given: &Given) -> Result<String, All
     text.replace(alloc, '*', star.as_str())
 }
 
+fn add_image(
+    alloc: Global,
+    images: &mut MemImages,
+    image: &Blank,
+    planned: &[Planned],
+) -> Result<(), AllocError>
+    requires { (name : List ℕ) → IsFree (images_at images.old name).place }
+    ensures { (name : List ℕ) → IsFree (images_at images.new name).place }
+{
+    let bytes = vec![in alloc; 0; image.length]?;
+    let planned = Vec::from_slice(alloc, planned)?;
+    images.add(image.name, &bytes, planned)
+}
+
 fn images_of(alloc: Global, given: &Given) -> Result<MemImages, AllocError>
     ensures free { IfOk result (λ images. (name : List ℕ) → IsFree (images_at images name).place) }
 {
     let failing = Vec::from_slice(alloc, given.images_fail)?;
     let mut images = MemImages::make(alloc, failing);
-    let Some(length) = given.image else {
-        return Ok(images);
-    };
-    let bytes = vec![in alloc; 0; length]?;
-    let planned = Vec::from_slice(alloc, given.planned)?;
-    images.add("a.img", &bytes, planned)?;
+    if let Some(length) = given.image {
+        let name = "a.img";
+        add_image(alloc, &mut images, &Blank { name, length }, given.planned)?;
+    }
+    for image in given.others {
+        add_image(alloc, &mut images, image, &[])?;
+    }
     Ok(images)
 }
 
@@ -159,6 +186,12 @@ fn runs_rows(rt: HostRuntime) -> Result<(), Fail> {
 #[test]
 fn tells_faults_of_the_medium(rt: HostRuntime) -> Result<(), Fail> {
     compare_all(&rt, rt.alloc(), &FAULTS)?;
+    Ok(())
+}
+
+#[test]
+fn runs_disks(rt: HostRuntime) -> Result<(), Fail> {
+    compare_all(&rt, rt.alloc(), &DISKS)?;
     Ok(())
 }
 

@@ -1,7 +1,7 @@
 use super::{ALL_WRITTEN, FIRST, Given, Row, UNCHANGED};
 
 /// Runs that end without their report.
-pub const REFUSALS: [Row; 15] = [
+pub const REFUSALS: [Row; 16] = [
     Row {
         given: Given {
             words: &[],
@@ -44,7 +44,16 @@ pub const REFUSALS: [Row; 15] = [
             ..FIRST
         },
         status: 2,
-        written: "script\n",
+        written: "script 0 order\n",
+        left: UNCHANGED,
+    },
+    Row {
+        given: Given {
+            script: "disk a.img 512 1\nfrob\n",
+            ..FIRST
+        },
+        status: 2,
+        written: "script 2 form\n",
         left: UNCHANGED,
     },
     Row {
@@ -126,11 +135,13 @@ pub const REFUSALS: [Row; 15] = [
     },
     Row {
         given: Given {
-            script: "",
+            script: "disk a.img 512 1\nclient\nread 0 1\n*",
+            star: "#23456789012345678901234567890123456789012345678901234567890123\n",
+            times: 65536,
             ..FIRST
         },
         status: 2,
-        written: "script\n",
+        written: "script 0 size\n",
         left: UNCHANGED,
     },
     // The image is put back before the report is written.

@@ -1,0 +1,6 @@
+use Rattle.image_store.specs.Slots.{images_at}
+use Rattle.stack_run.proofs.FreeAgain.{all-again}
+use Rattle.stack_run.proofs.tests.add_image.Goals as goal
+
+pub returns : goal.returns
+returns c = all-again (images_at c.args.images.now) (images_at c.add.new.self) _ c.requires c.add.ensures.here c.add.ensures.others
