@@ -39,7 +39,8 @@ fn finished_run<M: Medium>(
     history: History,
     ends: Vec<TokenLine>,
 ) -> Option<Run>
-    ensures blocks { IfSome result (λ run. run.blocks.items ≡ map (λ m. (M.device m).blocks) media.now) }
+    ensures blocks { IfSome result (λ run. run.blocks.items ≡ map (λ m.
+        (M.device m).blocks) media.now) }
     ensures history { IfSome result (λ run. run.history.entries ≡ history.entries) }
     ensures ends { IfSome result (λ run. run.ends.items ≡ ends.items) }
 {
@@ -59,8 +60,10 @@ pub fn run_desk<M: Medium>(alloc: Global, plan: &DiskPlan, drive: Drive<M>) -> (
     requires simple { IsSimpleDisk plan.now }
     requires fit { FitTheDrive M.device drive }
     requires fresh { IsFreshDrive M.device drive }
-    ensures over { IfSome result.1 (λ run. RanOver plan.now (setup_of M.device drive drive.protected) (map M.device result.0.items) run) }
-    ensures some { RanSomeOver plan.now (setup_of M.device drive drive.protected) (map M.device result.0.items) }
+    ensures over { IfSome result.1 (λ run. RanOver plan.now
+        (setup_of M.device drive drive.protected) (map M.device result.0.items) run) }
+    ensures some { RanSomeOver plan.now (setup_of M.device drive drive.protected)
+        (map M.device result.0.items) }
 {
     let mut disk = match Disk::make(alloc, drive, 1) {
         Ok(disk) => disk,

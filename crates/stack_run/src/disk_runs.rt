@@ -17,7 +17,8 @@ fn run_disk<M: Medium>(alloc: Global, plan: &DiskPlan, media: Vec<M>) -> (Vec<M>
     requires simple { IsSimpleDisk plan.now }
     requires count { length media.items ≡ length plan.now.spares + 1 }
     requires made { All (λ m. IsMediumOf plan.now (M.device m)) media.items }
-    ensures over { IfSome result.1 (λ run. RanDisk plan.now (map M.device media.items) (map M.device result.0.items) run) }
+    ensures over { IfSome result.1 (λ run. RanDisk plan.now (map M.device media.items)
+        (map M.device result.0.items) run) }
     ensures some { RanSome plan.now (map M.device media.items) (map M.device result.0.items) }
 {
     let drive = Drive::make(media, plan.cached, plan.protected, plan.physical);
@@ -54,7 +55,8 @@ fn add_back<M>(all: &mut Vec<M>, mut more: Vec<M>)
 
 // Adds a run at the end. The error is that there is none, or want of memory.
 fn add_run(runs: &mut Vec<Run>, run: Option<Run>) -> Result<(), AllocError>
-    ensures { OnOk result ((one : Run) × (run ≡ Some one) × (runs.new.items ≡ runs.old.items ++ one ∷ [])) }
+    ensures { OnOk result ((one : Run) × (run ≡ Some one) ×
+        (runs.new.items ≡ runs.old.items ++ one ∷ [])) }
 {
     match run {
         Some(run) => {
@@ -74,7 +76,8 @@ pub fn run_disks<M: Medium>(
     requires disks { AreDisks plans.now }
     requires simple { AreSimpleDisks plans.now }
     requires made { AreMade (wanted_of plans.now) (map M.device media.items) }
-    ensures over { IfSome result.1 (λ runs. RanAll plans.now (map M.device media.items) (map M.device result.0.items) runs.items) }
+    ensures over { IfSome result.1 (λ runs. RanAll plans.now (map M.device media.items)
+        (map M.device result.0.items) runs.items) }
     ensures some { RanSomeOfAll plans.now (map M.device media.items) (map M.device result.0.items) }
 {
     let mut runs = Vec::new(alloc);

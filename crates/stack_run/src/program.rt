@@ -32,12 +32,16 @@ fn run_script<I: Images, O: Sink>(alloc: Global, script: &Script, images: &mut I
     requires simple { AreSimpleDisks script.now.disks }
     requires fit { AreDisks script.now.disks }
     requires together { FitTogether script.now.disks }
-    ensures done { result ≡ 0 → Served script.now.disks (I.at images.old) (I.at images.new) (Appends (O.wrote out.old) (O.wrote out.new)) }
-    ensures image { result ≡ 3 → ImageFailed (I.at images.old) (I.at images.new) (O.wrote out.old) (O.wrote out.new) (O.faults out.old) (O.faults out.new) script.now.disks }
+    ensures done { result ≡ 0 → Served script.now.disks (I.at images.old) (I.at images.new)
+        (Appends (O.wrote out.old) (O.wrote out.new)) }
+    ensures image { result ≡ 3 → ImageFailed (I.at images.old) (I.at images.new) (O.wrote out.old)
+        (O.wrote out.new) (O.faults out.old) (O.faults out.new) script.now.disks }
     ensures lacks { LacksImage script.now.disks (I.at images.old) → (result ≡ 3) ⊎ (result ≡ 6) }
-    ensures sink { result ≡ 5 → SinkFailed (I.at images.old) (I.at images.new) (O.wrote out.old) (O.wrote out.new) (O.faults out.old) (O.faults out.new) script.now.disks }
+    ensures sink { result ≡ 5 → SinkFailed (I.at images.old) (I.at images.new) (O.wrote out.old)
+        (O.wrote out.new) (O.faults out.old) (O.faults out.new) script.now.disks }
     ensures quiet { result ≡ 0 → O.faults out.new ≡ O.faults out.old }
-    ensures memory { result ≡ 6 → ServingRanOut (I.at images.old) (I.at images.new) (O.wrote out.old) (O.wrote out.new) (O.faults out.old) (O.faults out.new) script.now.disks }
+    ensures memory { result ≡ 6 → ServingRanOut (I.at images.old) (I.at images.new)
+        (O.wrote out.old) (O.wrote out.new) (O.faults out.old) (O.faults out.new) script.now.disks }
     ensures few { IsServingStatus result }
     ensures again { (name : List ℕ) → IsFree (I.at images.new name).place }
 {
@@ -76,26 +80,45 @@ pub fn run_plain<I: Images, R: Source, O: Sink>(
     out: &mut O,
 ) -> u8
     requires free { (name : List ℕ) → IsFree (I.at images.old name).place }
-    ensures done { result ≡ 0 → OfScript (R.left script.old) (R.left script.new) (λ plans. Served plans (I.at images.old) (I.at images.new) (Appends (O.wrote out.old) (O.wrote out.new))) }
+    ensures done { result ≡ 0 → OfScript (R.left script.old) (R.left script.new)
+        (λ plans. Served plans (I.at images.old) (I.at images.new) (Appends (O.wrote out.old)
+        (O.wrote out.new))) }
     ensures words { result ≡ 1 → is_plain (map string_bytes words.now) ≡ false }
     ensures words_exactly { is_plain (map string_bytes words.now) ≡ false → result ≡ 1 }
     ensures words_unread { result ≡ 1 → script.new ≡ script.old }
-    ensures words_line { result ≡ 1 → WritesRefusal (refusal_text Refusal.Words []) (I.at images.old) (I.at images.new) (O.wrote out.old) (O.wrote out.new) (O.faults out.old) (O.faults out.new) }
-    ensures script { result ≡ 2 → ScriptRefused (R.left script.old) (R.left script.new) (I.at images.old) (I.at images.new) (O.wrote out.old) (O.wrote out.new) (O.faults out.old) (O.faults out.new) }
-    ensures script_exactly { is_plain (map string_bytes words.now) ≡ true → IsToldRefused (R.left script.old) → (result ≡ 2) ⊎ ((result ≡ 4) ⊎ (result ≡ 6)) }
-    ensures image { result ≡ 3 → OfScript (R.left script.old) (R.left script.new) (ImageFailed (I.at images.old) (I.at images.new) (O.wrote out.old) (O.wrote out.new) (O.faults out.old) (O.faults out.new)) }
-    ensures image_exactly { is_plain (map string_bytes words.now) ≡ true → IsToldLacking (R.left script.old) (I.at images.old) → (result ≡ 3) ⊎ ((result ≡ 4) ⊎ (result ≡ 6)) }
+    ensures words_line { result ≡ 1 → WritesRefusal (refusal_text Refusal.Words [])
+        (I.at images.old) (I.at images.new) (O.wrote out.old) (O.wrote out.new) (O.faults out.old)
+        (O.faults out.new) }
+    ensures script { result ≡ 2 → ScriptRefused (R.left script.old) (R.left script.new)
+        (I.at images.old) (I.at images.new) (O.wrote out.old) (O.wrote out.new) (O.faults out.old)
+        (O.faults out.new) }
+    ensures script_exactly { is_plain (map string_bytes words.now) ≡ true → IsToldRefused
+        (R.left script.old) → (result ≡ 2) ⊎ ((result ≡ 4) ⊎ (result ≡ 6)) }
+    ensures image { result ≡ 3 → OfScript (R.left script.old) (R.left script.new) (ImageFailed
+        (I.at images.old) (I.at images.new) (O.wrote out.old) (O.wrote out.new) (O.faults out.old)
+        (O.faults out.new)) }
+    ensures image_exactly { is_plain (map string_bytes words.now) ≡ true → IsToldLacking
+        (R.left script.old) (I.at images.old) → (result ≡ 3) ⊎ ((result ≡ 4) ⊎ (result ≡ 6)) }
     ensures source { result ≡ 4 → Rose (R.faults script.old) (R.faults script.new) }
     ensures source_exactly { (R.faults script.new ≡ R.faults script.old) ⊎ (result ≡ 4) }
-    ensures source_line { result ≡ 4 → WritesRefusal (refusal_text Refusal.Source []) (I.at images.old) (I.at images.new) (O.wrote out.old) (O.wrote out.new) (O.faults out.old) (O.faults out.new) }
-    ensures sink { result ≡ 5 → OfScript (R.left script.old) (R.left script.new) (SinkFailed (I.at images.old) (I.at images.new) (O.wrote out.old) (O.wrote out.new) (O.faults out.old) (O.faults out.new)) }
+    ensures source_line { result ≡ 4 → WritesRefusal (refusal_text Refusal.Source [])
+        (I.at images.old) (I.at images.new) (O.wrote out.old) (O.wrote out.new) (O.faults out.old)
+        (O.faults out.new) }
+    ensures sink { result ≡ 5 → OfScript (R.left script.old) (R.left script.new) (SinkFailed
+        (I.at images.old) (I.at images.new) (O.wrote out.old) (O.wrote out.new) (O.faults out.old)
+        (O.faults out.new)) }
     ensures sink_quiet { result ≡ 0 → O.faults out.new ≡ O.faults out.old }
-    ensures memory { result ≡ 6 → MemoryRanOut (R.left script.old) (R.left script.new) (I.at images.old) (I.at images.new) (O.wrote out.old) (O.wrote out.new) (O.faults out.old) (O.faults out.new) }
+    ensures memory { result ≡ 6 → MemoryRanOut (R.left script.old) (R.left script.new)
+        (I.at images.old) (I.at images.new) (O.wrote out.old) (O.wrote out.new) (O.faults out.old)
+        (O.faults out.new) }
     ensures memory_words { result ≡ 6 → is_plain (map string_bytes words.now) ≡ true }
     ensures memory_source { result ≡ 6 → R.faults script.new ≡ R.faults script.old }
-    ensures complete { is_plain (map string_bytes words.now) ≡ true → IsToldServable (R.left script.old) (I.at images.old)
-        → IsNoRise (R.faults script.old) (R.faults script.new) → IsNoRise (O.faults out.old) (O.faults out.new)
-        → ((name : List ℕ) → IsNoRise (I.at images.old name).faults (I.at images.new name).faults) → (result ≡ 0) ⊎ (result ≡ 6) }
+    ensures complete { is_plain (map string_bytes words.now) ≡ true → IsToldServable
+        (R.left script.old) (I.at images.old)
+        → IsNoRise (R.faults script.old) (R.faults script.new) → IsNoRise (O.faults out.old)
+        (O.faults out.new)
+        → ((name : List ℕ) → IsNoRise (I.at images.old name).faults (I.at images.new name).faults)
+        → (result ≡ 0) ⊎ (result ≡ 6) }
     ensures few { result ≤ 6 }
     ensures again { (name : List ℕ) → IsFree (I.at images.new name).place }
 {

@@ -15,7 +15,8 @@ pub fn put_image<I: Images>(
     medium: I::M,
 ) -> Result<(), NotRun>
     requires taken { IsTaken (I.at images.old want.now.image).place }
-    ensures puts { Puts result (I.M.device medium) (I.at images.old want.now.image) (I.at images.new want.now.image) }
+    ensures puts { Puts result (I.M.device medium) (I.at images.old want.now.image)
+        (I.at images.new want.now.image) }
     ensures others { ChangesOnly want.now.image (I.at images.old) (I.at images.new) }
 {
     match images.put_back(alloc, want.image.as_str(), medium) {
@@ -35,9 +36,12 @@ fn put_some<I: Images>(
     requires all { length media.old.items ≡ length wanted.now }
     requires apart { AreApart wanted.now }
     requires taken { AreTaken wanted.now (I.at images.old) }
-    ensures put { OnOk result (Chain PutsBack wanted.now (map I.M.device media.old.items) (I.at images.old) (I.at images.new)) }
+    ensures put { OnOk result (Chain PutsBack wanted.now (map I.M.device media.old.items)
+        (I.at images.old) (I.at images.new)) }
     ensures none { OnOk result (media.new.items ≡ []) }
-    ensures stops { IfErr result (λ stop. PuttingStops wanted.now (map I.M.device media.old.items) (map I.M.device media.new.items) stop.place stop.fault (I.at images.old) (I.at images.new)) }
+    ensures stops { IfErr result (λ stop. PuttingStops wanted.now (map I.M.device media.old.items)
+        (map I.M.device media.new.items) stop.place stop.fault (I.at images.old)
+        (I.at images.new)) }
 {
     for (place, want) in wanted.iter().enumerate() {
         let medium = media.remove(0);
@@ -52,8 +56,10 @@ fn put_some<I: Images>(
 // Whether memory ran out in putting a medium back.
 fn put_one<I: Images>(alloc: Global, want: &Wanted, images: &mut I, medium: I::M) -> bool
     requires taken { IsTaken (I.at images.old want.now.image).place }
-    ensures puts { PutsOr result want.now (I.M.device medium) (I.at images.old want.now.image) (I.at images.new want.now.image) }
-    ensures spent { result ≡ true → Puts (Err NotRun.Memory) (I.M.device medium) (I.at images.old want.now.image) (I.at images.new want.now.image) }
+    ensures puts { PutsOr result want.now (I.M.device medium) (I.at images.old want.now.image)
+        (I.at images.new want.now.image) }
+    ensures spent { result ≡ true → Puts (Err NotRun.Memory) (I.M.device medium)
+        (I.at images.old want.now.image) (I.at images.new want.now.image) }
     ensures others { ChangesOnly want.now.image (I.at images.old) (I.at images.new) }
 {
     match put_image(alloc, want, images, medium) {
@@ -73,7 +79,8 @@ pub fn put_rest<I: Images>(
     requires all { length media.items ≡ length wanted.now }
     requires apart { AreApart wanted.now }
     requires taken { AreTaken wanted.now (I.at images.old) }
-    ensures put { Chain (PutsOr result) wanted.now (map I.M.device media.items) (I.at images.old) (I.at images.new) }
+    ensures put { Chain (PutsOr result) wanted.now (map I.M.device media.items) (I.at images.old)
+        (I.at images.new) }
     ensures spent { result ≡ true → SpentAmong wanted.now (I.at images.old) (I.at images.new) }
 {
     let mut spent = false;
@@ -97,8 +104,10 @@ pub fn put_images<I: Images>(
     requires all { length media.items ≡ length wanted.now }
     requires apart { AreApart wanted.now }
     requires taken { AreTaken wanted.now (I.at images.old) }
-    ensures put { OnOk result (Chain PutsBack wanted.now (map I.M.device media.items) (I.at images.old) (I.at images.new)) }
-    ensures stops { IfErr result (λ stop. PutEnds stop.fault wanted.now (map I.M.device media.items) stop.place (I.at images.old) (I.at images.new)) }
+    ensures put { OnOk result (Chain PutsBack wanted.now (map I.M.device media.items)
+        (I.at images.old) (I.at images.new)) }
+    ensures stops { IfErr result (λ stop. PutEnds stop.fault wanted.now
+        (map I.M.device media.items) stop.place (I.at images.old) (I.at images.new)) }
 {
     let Stopped { place, fault } = match put_some(alloc, wanted, images, &mut media) {
         Ok(()) => {

@@ -54,7 +54,8 @@ fn status(refusal: Refusal) -> u8
 
 // Writes the line of a refusal, or a front of it where the sink fails, or nothing for want of memory.
 fn write_refusal<O: Sink>(alloc: Global, refusal: Refusal, name: &str, out: &mut O)
-    ensures { WritesLine (refusal_text refusal name.now) (O.wrote out.old) (O.wrote out.new) (O.faults out.old) (O.faults out.new) }
+    ensures { WritesLine (refusal_text refusal name.now) (O.wrote out.old) (O.wrote out.new)
+        (O.faults out.old) (O.faults out.new) }
 {
     let line = match refusal_line(alloc, refusal, name) {
         Ok(line) => line,
@@ -70,7 +71,8 @@ fn write_refusal<O: Sink>(alloc: Global, refusal: Refusal, name: &str, out: &mut
 // Ends a run with a refusal: writes its line, and answers its status, whatever becomes of the line.
 pub fn refuse<O: Sink>(alloc: Global, refusal: Refusal, name: &str, out: &mut O) -> u8
     ensures status { result ≡ status_of refusal }
-    ensures line { WritesLine (refusal_text refusal name.now) (O.wrote out.old) (O.wrote out.new) (O.faults out.old) (O.faults out.new) }
+    ensures line { WritesLine (refusal_text refusal name.now) (O.wrote out.old) (O.wrote out.new)
+        (O.faults out.old) (O.faults out.new) }
 {
     write_refusal(alloc, refusal, name, out);
     status(refusal)

@@ -31,7 +31,8 @@ fn add_kept(
 ) -> Result<(), AllocError>
     requires place { place ≤ length plan.now.spares }
     requires fits { count * plan.now.size < 2 ^ 64 }
-    ensures { OnOk result (media.new.items ≡ media.old.items ++ record { name = name_at plan.now place; bytes = count * plan.now.size } ∷ []) }
+    ensures { OnOk result (media.new.items ≡ media.old.items ++ record
+        { name = name_at plan.now place; bytes = count * plan.now.size } ∷ []) }
 {
     let name = Name::copy_of(alloc, name_of(plan, place))?;
     let bytes = count * u64::from(plan.size);
@@ -43,7 +44,8 @@ fn add_kept(
 fn kept_of(alloc: Global, plan: &DiskPlan, blocks: &[u64]) -> Result<Vec<KeptMedium>, AllocError>
     requires count { length blocks.now ≡ length plan.now.spares + 1 }
     requires fits { AllByRecursion (λ b. b * plan.now.size < 2 ^ 64) blocks.now }
-    ensures { IfOk result (λ media. media.items ≡ kept_media plan.now.size (media_names plan.now) blocks.now) }
+    ensures { IfOk result (λ media. media.items ≡ kept_media plan.now.size
+        (media_names plan.now) blocks.now) }
 {
     let mut media = Vec::new(alloc);
     for (place, count) in blocks.iter().enumerate() {
@@ -61,7 +63,8 @@ fn write_report<O: Sink>(
     out: &mut O,
 ) -> Result<(), ReportFault>
     requires run { IsReportable plan.now run.now }
-    ensures text { TellsDisk number plan.now run.now (PutsText (O.wrote out.old) (O.wrote out.new) result) }
+    ensures text { TellsDisk number plan.now run.now (PutsText (O.wrote out.old)
+        (O.wrote out.new) result) }
     ensures cause { HasCauseOf ReportFault.Failed (O.faults out.old) (O.faults out.new) result }
 {
     let blocks = run.blocks.as_slice();
@@ -86,7 +89,8 @@ pub fn write_reports<O: Sink>(
 ) -> Result<(), ReportFault>
     requires few { length plans.now ≤ 16 }
     requires runs { AreReportable plans.now runs.now }
-    ensures text { TellsDisks plans.now runs.now (PutsText (O.wrote out.old) (O.wrote out.new) result) }
+    ensures text { TellsDisks plans.now runs.now (PutsText (O.wrote out.old)
+        (O.wrote out.new) result) }
     ensures cause { HasCauseOf ReportFault.Failed (O.faults out.old) (O.faults out.new) result }
 {
     for (place, plan) in plans.iter().enumerate() {

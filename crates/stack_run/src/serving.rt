@@ -43,8 +43,10 @@ fn run_images<I: Images>(
     requires simple { AreSimpleDisks plans.now }
     requires together { FitTogether plans.now }
     requires free { (name : List ℕ) → IsFree (I.at images.old name).place }
-    ensures ran { IfOk result (λ runs. AllRan plans.now (I.at images.old) (I.at images.new) runs.items) }
-    ensures stops { IfErr result (λ stop. RunStops stop.fault plans.now wanted.now stop.place (I.at images.old) (I.at images.new)) }
+    ensures ran { IfOk result (λ runs. AllRan plans.now (I.at images.old)
+        (I.at images.new) runs.items) }
+    ensures stops { IfErr result (λ stop. RunStops stop.fault plans.now wanted.now stop.place
+        (I.at images.old) (I.at images.new)) }
     ensures lacks { LacksImage plans.now (I.at images.old) → IsErr result }
     ensures others { ChangesAmong (images_of plans.now) (I.at images.old) (I.at images.new) }
     ensures again { (name : List ℕ) → IsFree (I.at images.new name).place }
@@ -94,9 +96,12 @@ pub fn serve<I: Images, O: Sink>(
     requires simple { AreSimpleDisks plans.now }
     requires together { FitTogether plans.now }
     requires free { (name : List ℕ) → IsFree (I.at images.old name).place }
-    ensures served { OnOk result (Served plans.now (I.at images.old) (I.at images.new) (Appends (O.wrote out.old) (O.wrote out.new))) }
+    ensures served { OnOk result (Served plans.now (I.at images.old) (I.at images.new) (Appends
+        (O.wrote out.old) (O.wrote out.new))) }
     ensures quiet { OnOk result (O.faults out.new ≡ O.faults out.old) }
-    ensures fails { IfErr result (λ fault. ServingFails fault plans.now wanted.now (I.at images.old) (I.at images.new) (O.wrote out.old) (O.wrote out.new) (O.faults out.old) (O.faults out.new)) }
+    ensures fails { IfErr result (λ fault. ServingFails fault plans.now wanted.now
+        (I.at images.old) (I.at images.new) (O.wrote out.old) (O.wrote out.new) (O.faults out.old)
+        (O.faults out.new)) }
     ensures lacks { LacksImage plans.now (I.at images.old) → IsImageStop result }
     ensures again { (name : List ℕ) → IsFree (I.at images.new name).place }
 {

@@ -13,7 +13,8 @@ use std::alloc::Global;
 // Puts a medium back whose blocks are no whole groups, and tells what the image's refusal is.
 fn refuse_medium<I: Images>(alloc: Global, want: &Wanted, images: &mut I, medium: I::M) -> NotRun
     requires taken { IsTaken (I.at images.old want.now.image).place }
-    ensures puts { Unmakes (I.M.device medium) result (I.at images.old want.now.image) (I.at images.new want.now.image) }
+    ensures puts { Unmakes (I.M.device medium) result (I.at images.old want.now.image)
+        (I.at images.new want.now.image) }
     ensures others { ChangesOnly want.now.image (I.at images.old) (I.at images.new) }
 {
     match put_image(alloc, want, images, medium) {
@@ -26,9 +27,12 @@ fn refuse_medium<I: Images>(alloc: Global, want: &Wanted, images: &mut I, medium
 fn take_image<I: Images>(alloc: Global, want: &Wanted, images: &mut I) -> Result<I::M, NotRun>
     requires want { IsWanted want.now }
     requires free { IsFree (I.at images.old want.now.image).place }
-    ensures takes { IfOk result (λ medium. Takes want.now (I.M.device medium) (I.at images.old want.now.image) (I.at images.new want.now.image)) }
-    ensures image { IsErrOf result NotRun.Image → IsUnmade want.now (I.at images.old want.now.image) (I.at images.new want.now.image) }
-    ensures memory { IsErrOf result NotRun.Memory → IsBackOrGone (I.at images.old want.now.image) (I.at images.new want.now.image) }
+    ensures takes { IfOk result (λ medium. Takes want.now (I.M.device medium)
+        (I.at images.old want.now.image) (I.at images.new want.now.image)) }
+    ensures image { IsErrOf result NotRun.Image → IsUnmade want.now
+        (I.at images.old want.now.image) (I.at images.new want.now.image) }
+    ensures memory { IsErrOf result NotRun.Memory → IsBackOrGone (I.at images.old want.now.image)
+        (I.at images.new want.now.image) }
     ensures lacks { LacksBlocks want.now (I.at images.old want.now.image).place → IsErr result }
     ensures free { OnErr result (IsFree (I.at images.new want.now.image).place) }
     ensures others { ChangesOnly want.now.image (I.at images.old) (I.at images.new) }
@@ -58,8 +62,11 @@ pub fn take_images<I: Images>(
     requires wanted { AreWanted wanted.now }
     requires apart { AreApart wanted.now }
     requires free { AreFree wanted.now (I.at images.old) }
-    ensures taken { OnOk result (Chain Takes wanted.now (map I.M.device media.new.items) (I.at images.old) (I.at images.new)) }
-    ensures stops { IfErr result (λ stop. TakingStops wanted.now (map I.M.device media.new.items) stop.place stop.fault (I.at images.old) (I.at images.new)) }
+    ensures taken { OnOk result (Chain Takes wanted.now (map I.M.device media.new.items)
+        (I.at images.old) (I.at images.new)) }
+    ensures stops { IfErr result (λ stop. TakingStops wanted.now
+        (map I.M.device media.new.items) stop.place stop.fault (I.at images.old)
+        (I.at images.new)) }
     ensures lacks { LacksOne wanted.now (I.at images.old) → IsErr result }
 {
     for (place, want) in wanted.iter().enumerate() {

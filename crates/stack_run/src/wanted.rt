@@ -38,7 +38,8 @@ fn add_wanted(
 
 // Adds the images of a disk. The error is want of memory.
 fn add_disk(alloc: Global, plan: &DiskPlan, all: &mut Vec<Wanted>) -> Result<(), AllocError>
-    ensures { OnOk result (all.new.items ≡ all.old.items ++ map (wanted_by plan.now) (media_names plan.now)) }
+    ensures { OnOk result (all.new.items ≡ all.old.items ++ map (wanted_by plan.now)
+        (media_names plan.now)) }
 {
     add_wanted(alloc, plan, &plan.image, all)?;
     for name in plan.spares.as_slice() {
