@@ -5,7 +5,7 @@ use Rattle.std.proofs.lemmas.Nat.{mul-le}
 use Rattle.history.specs.declared.entry.View.{View}
 use Rattle.history.specs.declared.entry.Entry.{Entry}
 use Rattle.history.specs.Setup.{Setup, size_of}
-use Rattle.disk_io2.specs.Views.{AreOutside, IsOutside, OutsideStays}
+use Rattle.history_laws.specs.Ranges.{AreOutside, IsOutside, OutsideStays}
 use Rattle.partition_tables.specs.declared.table.Child.{Child}
 use Rattle.partition_tables.proofs.Lying.{children_lie}
 use Rattle.partition_children.specs.Children.{view_of}

@@ -1,2 +1,5 @@
 pub mod Children
 pub mod Law
+pub mod Reads
+pub mod Entries
+pub mod Probing

@@ -1,0 +1,135 @@
+-- What the entries of a read leave as it was.
+use Rattle.std.proofs.Common.{◌≡◌, ◌⊎◌, inl, inr, ℕ, zero, suc, ◌+◌, ◌*◌, ◌<◌, ◌≤◌, Bool, true, false, nat_eq, ◌||◌, List, [], ◌∷◌, ◌++◌, length, map, Option, None, Some, refl, sym, ◌∙◌, ap, subst, arith}
+use Rattle.std.proofs.lemmas.Bool.{eq-eqb}
+use Rattle.std.proofs.lemmas.List.{append_assoc}
+use Rattle.disk_split.specs.declared.span.Span.{Span}
+use Rattle.efi_status.specs.declared.Status.{Status}
+use Rattle.history.specs.declared.entry.View.{View}
+use Rattle.history.specs.declared.entry.Command.TheVariants.{Get}
+use Rattle.history.specs.declared.entry.Entry.{Entry}
+use Rattle.history.specs.declared.entry.Entry.TheVariants.{Accept, Collect, Done, Fault}
+use Rattle.history.specs.Setup.{Setup}
+use Rattle.history.specs.Eras.{is_eject, is_insert, is_present, media_id_of}
+use Rattle.history.specs.Tokens.{accepted, was_collected}
+use Rattle.history.specs.Contents.{contents, kept_contents, piece_of}
+use Rattle.history.specs.Room.{faults}
+use Rattle.history_laws.proofs.ContentLemmas.{contents-same, is_flush_entry, kept-same, piece-none, piece-unchanged, piece-unchanged-fault}
+use Rattle.history_laws.proofs.CountLemmas.{accepted-more, accepted-same, faults-more, faults-same}
+use Rattle.history_laws.proofs.MediaLemmas.{media-id-same, present-same}
+use Rattle.disk_core.specs.State.{State}
+use Rattle.disk_core.specs.Turns.{IsIdle}
+use Rattle.partition_children.specs.Entries.{get_of, read_asked}
+use Rattle.partition_children.specs.Probing.{IsQuiet, Stays}
+use Rattle.partition_children.proofs.Gets.{AreGets}
+use Rattle.partition_children.proofs.Served.{Served}
+
+-- the medium that is in, and the bytes of all media, are as they were
+pub record SameMedia (S : Setup) (G G' : List Entry) : Type 0 where
+  pub media_id : media_id_of G' ≡ media_id_of G
+  pub present : is_present G' ≡ is_present G
+  pub bytes : (k : ℕ) → contents S k G' ≡ contents S k G
+  pub kept : (k : ℕ) → kept_contents S k G' ≡ kept_contents S k G
+
+pub same-media : (S : Setup) (G : List Entry) → SameMedia S G G
+same-media S G = record { media_id = refl; present = refl; bytes = λ k. refl; kept = λ k. refl }
+
+pub same-on : (S : Setup) (A B C : List Entry) → SameMedia S A B → SameMedia S B C → SameMedia S A C
+same-on S A B C one two = record {
+  media_id = two.media_id ∙ one.media_id;
+  present = two.present ∙ one.present;
+  bytes = λ k. two.bytes k ∙ one.bytes k;
+  kept = λ k. two.kept k ∙ one.kept k;
+}
+
+same-entry : (S : Setup) (G : List Entry) (e : Entry) → is_insert e ≡ false → is_eject e ≡ false → is_flush_entry e ≡ false → piece_of S G e ≡ None → SameMedia S G (e ∷ G)
+same-entry S G e in_ out flush piece = record {
+  media_id = media-id-same G e in_;
+  present = present-same G e out in_;
+  bytes = λ k. contents-same S k G e piece;
+  kept = λ k. kept-same S k G e flush piece;
+}
+
+same-get : (S : Setup) (G : List Entry) (t : ℕ) (u : Span) → SameMedia S G (get_of t u ∷ G)
+same-get S G t u = same-entry S G (get_of t u) refl refl refl (piece-unchanged S G t (Get u.block u.count) refl)
+
+-- gets change nothing
+pub same-gets : (S : Setup) (G : List Entry) (t : ℕ) (cs : List Entry) → AreGets t cs → SameMedia S G (cs ++ G)
+same-gets S G t [] all = same-media S G
+same-gets S G t (e ∷ cs) ((u, same), all) =
+    same-on S G (cs ++ G) (e ∷ (cs ++ G)) (same-gets S G t cs all) (subst (λ (x : Entry). SameMedia S (cs ++ G) (x ∷ (cs ++ G))) (sym same) (same-get S (cs ++ G) t u))
+
+pub same-accept : (S : Setup) (G : List Entry) (view : View) (read : ℕ × ℕ) → SameMedia S G (Accept 0 view (read_asked read) [] ∷ G)
+same-accept S G view read = let e : Entry = Accept 0 view (read_asked read) [] in same-entry S G e refl refl refl (piece-none S G e refl)
+
+same-collect : (S : Setup) (G : List Entry) (t : ℕ) → SameMedia S G (Collect 0 t ∷ G)
+same-collect S G t = same-entry S G (Collect 0 t) refl refl refl (piece-none S G (Collect 0 t) refl)
+
+same-fault : (S : Setup) (G : List Entry) (t : ℕ) (u : Span) → SameMedia S G (Fault t (Get u.block u.count) 0 ∷ G)
+same-fault S G t u = same-entry S G (Fault t (Get u.block u.count) 0) refl refl refl (piece-unchanged-fault S G t (Get u.block u.count) 0 refl)
+
+-- and no count but that of the commands
+gets-accepted : (G : List Entry) (t : ℕ) (cs : List Entry) → AreGets t cs → accepted (cs ++ G) ≡ accepted G
+gets-accepted G t [] all = refl
+gets-accepted G t (e ∷ cs) ((u, same), all) = rw same (accepted-same (cs ++ G) (get_of t u) refl ∙ gets-accepted G t cs all)
+
+gets-faults : (G : List Entry) (t : ℕ) (cs : List Entry) → AreGets t cs → faults (cs ++ G) ≡ faults G
+gets-faults G t [] all = refl
+gets-faults G t (e ∷ cs) ((u, same), all) = rw same (faults-same (cs ++ G) (get_of t u) refl ∙ gets-faults G t cs all)
+
+-- a last command that failed, on top of gets
+pub record LastFails (t : ℕ) (cs : List Entry) : Type 0 where
+  pub earlier : List Entry
+  pub unit : Span
+  pub is : cs ≡ Fault t (Get unit.block unit.count) 0 ∷ earlier
+  pub gets : AreGets t earlier
+
+-- the gets of a read, and then its fault where it failed
+abbrev pub Commands : ℕ → ℕ → List Entry → Type 0
+Commands t f cs = ((f ≡ 0) × AreGets t cs) ⊎ ((f ≡ 1) × LastFails t cs)
+
+commands-same : (S : Setup) (G : List Entry) (t f : ℕ) (cs : List Entry) → Commands t f cs → SameMedia S G (cs ++ G)
+commands-same S G t f cs (inl (none, all)) = same-gets S G t cs all
+commands-same S G t f cs (inr (one, last)) =
+    subst (λ (xs : List Entry). SameMedia S G (xs ++ G)) (sym last.is) (same-on S G (last.earlier ++ G) _ (same-gets S G t last.earlier last.gets) (same-fault S (last.earlier ++ G) t last.unit))
+
+commands-accepted : (G : List Entry) (t f : ℕ) (cs : List Entry) → Commands t f cs → accepted (cs ++ G) ≡ accepted G
+commands-accepted G t f cs (inl (none, all)) = gets-accepted G t cs all
+commands-accepted G t f cs (inr (one, last)) =
+    ap (λ (xs : List Entry). accepted (xs ++ G)) last.is ∙ (accepted-same (last.earlier ++ G) (Fault t (Get last.unit.block last.unit.count) 0) refl ∙ gets-accepted G t last.earlier last.gets)
+
+commands-faults : (G : List Entry) (t f : ℕ) (cs : List Entry) → Commands t f cs → faults (cs ++ G) ≡ faults G + f
+commands-faults G t f cs (inl (none, all)) = omega (arith, gets-faults G t cs all)
+commands-faults G t f cs (inr (one, last)) =
+    let more : faults (cs ++ G) ≡ faults (last.earlier ++ G) + 1 =
+    ap (λ (xs : List Entry). faults (xs ++ G)) last.is ∙ faults-more (last.earlier ++ G) (Fault t (Get last.unit.block last.unit.count) 0) refl in
+    omega (arith, more, gets-faults G t last.earlier last.gets)
+
+collected-now : (t : ℕ) (G : List Entry) → was_collected (Collect 0 t ∷ G) t ≡ true
+unfolding was_collected
+collected-now t G = rw (eq-eqb t t refl) refl
+
+-- what a served read leaves of the disk
+pub read-stays : (old new : State) (view : View) (read : ℕ × ℕ) (status : Status) (failed : Bool) (bytes : List ℕ) (f : ℕ) (s : Served old.setup old.entries view read status failed bytes new)
+    → Commands (accepted old.entries) f s.cs → IsIdle new.gates → Stays old f new
+read-stays old new view read status failed bytes f s all idle =
+    let accept : Entry = Accept 0 view (read_asked read) [] in
+    let t = accepted old.entries in
+    let H = accept ∷ old.entries in
+    let same : SameMedia old.setup old.entries (Collect 0 t ∷ (s.cs ++ H)) =
+    same-on old.setup old.entries (s.cs ++ H) (Collect 0 t ∷ (s.cs ++ H))
+    (same-on old.setup old.entries H (s.cs ++ H) (same-accept old.setup old.entries view read) (commands-same old.setup H t f s.cs all)) (same-collect old.setup (s.cs ++ H) t) in
+    let same_new : SameMedia old.setup old.entries new.entries = subst (λ (E : List Entry). SameMedia old.setup old.entries E) (sym s.entries) same in
+    let count : accepted new.entries ≡ t + 1 =
+    ap accepted s.entries ∙ (accepted-same (s.cs ++ H) (Collect 0 t) refl ∙ (commands-accepted H t f s.cs all ∙ accepted-more old.entries accept refl)) in
+    record {
+      setup = s.setup;
+      more = Collect 0 t ∷ (s.cs ++ accept ∷ []);
+      entries = s.entries ∙ ap (λ (E : List Entry). Collect 0 t ∷ E) (sym (append_assoc s.cs (accept ∷ []) old.entries));
+      quiet = record { idle = idle; drained = s.drained };
+      media_id = same_new.media_id;
+      present = same_new.present;
+      bytes = same_new.bytes;
+      kept = same_new.kept;
+      collected = λ u from below. (let is : u ≡ t = omega (arith, count) in rw (is, s.entries) (collected-now t (s.cs ++ H)));
+      failures = ap faults s.entries ∙ (faults-same (s.cs ++ H) (Collect 0 t) refl ∙ (commands-faults H t f s.cs all ∙ ap (λ n. n + f) (faults-same old.entries accept refl)));
+    }

@@ -1,0 +1,24 @@
+use Rattle.std.proofs.Common.{sym, ◌∙◌}
+use Rattle.std.proofs.lemmas.Bool.{iff_false}
+use Rattle.partition_children.proofs.Headers.{blocks-told, size-some, with-none, with-good, with-bad}
+use Rattle.partition_children.proofs.gpt.with_array.Goals as goal
+
+pub returns-in_default-clause-found : goal.returns-in_default-clause-found
+returns-in_default-clause-found g c bytes holds =
+    let target = c.args.target.now in
+    with-none c.args.disk.now target.view.media_id target.blocks target.size c.args.header bytes
+    (blocks-told bytes target.blocks target.size (size-some target.size c.requires.target.sized) (c.requires.target.long bytes holds)) (sym c.array_range.ensures.exact ∙ c.in_default.is)
+
+pub returns-then-array_ok-clause-found : goal.returns-then-array_ok-clause-found
+returns-then-array_ok-clause-found g c bytes holds =
+    let target = c.args.target.now in
+    with-good c.args.disk.now c.read_array.new.disk target.view.media_id target.blocks target.size c.args.header bytes c.in_ok-array.array.items c.deref.result.now c.in-Some.at c.in-Some.length
+    (blocks-told bytes target.blocks target.size (size-some target.size c.requires.target.sized) (c.requires.target.long bytes holds)) (sym c.array_range.ensures.exact ∙ c.in-Some.is)
+    (c.in_ok-array.ensures.found bytes holds) c.deref.ensures.value (c.array_ok.ensures.0 c.if-array_ok.true)
+
+pub returns-else-array_ok-clause-found : goal.returns-else-array_ok-clause-found
+returns-else-array_ok-clause-found g c bytes holds =
+    let target = c.args.target.now in
+    with-bad c.args.disk.now c.read_array.new.disk target.view.media_id target.blocks target.size c.args.header bytes c.in_ok-array.array.items c.deref.result.now c.in-Some.at c.in-Some.length
+    (blocks-told bytes target.blocks target.size (size-some target.size c.requires.target.sized) (c.requires.target.long bytes holds)) (sym c.array_range.ensures.exact ∙ c.in-Some.is)
+    (c.in_ok-array.ensures.found bytes holds) c.deref.ensures.value (iff_false c.array_ok.ensures c.if-array_ok.false)

@@ -1,0 +1,35 @@
+use Rattle.std.proofs.Common.{ap, sym, ◌∙◌, subst, List}
+use Rattle.partition_tables.specs.declared.table.Child.{Child}
+use Rattle.disk_core.specs.State.{State}
+use Rattle.partition_children.specs.Probing.{Stays}
+use Rattle.partition_children.proofs.Headers.{blocks-told, size-some}
+use Rattle.partition_children.proofs.ReadAllowed.{stays-same}
+use Rattle.partition_children.proofs.Tables.{IsMbrTable, mbr-alone, mbr-chain}
+use Rattle.partition_children.proofs.mbr.mbr_table.Goals.{in-Some+in_ok-add_logicals, in_default}
+use Rattle.partition_children.proofs.mbr.mbr_table.Goals as goal
+
+pub returns-clause-stays : goal.returns-clause-stays
+returns-clause-stays g c =
+    elim c.match-extended.branch [
+      | in-Some+in_ok-add_logicals w ↦ subst (λ (s : State). Stays c.args.disk.now 0 s) (sym w.disk-is) w.in_ok-add_logicals.ensures.stays
+      | in_default w ↦ subst (λ (s : State). Stays c.args.disk.now 0 s) (sym w.disk-is) (stays-same c.args.disk.now c.requires.quiet)
+    ]
+
+pub returns-clause-found : goal.returns-clause-found
+returns-clause-found g c bytes holds =
+    let target = c.args.target.now in
+    let same = blocks-told bytes target.blocks target.size (size-some target.size c.requires.target.sized) (c.requires.target.long bytes holds) in
+    let old = c.args.disk.now in
+    let k = target.view.media_id in
+    let mbr = c.args.mbr.now in
+    subst (λ (cs : List Child). IsMbrTable old k target.size target.blocks bytes mbr same cs c.match-extended.disk) (sym c.from_vec.ensures)
+    (elim c.match-extended.branch [
+      | in-Some+in_ok-add_logicals w ↦
+          subst (λ (s : State). IsMbrTable old k target.size target.blocks bytes mbr same c.match-extended.children.items s) (sym w.disk-is)
+          (subst (λ (cs : List Child). IsMbrTable old k target.size target.blocks bytes mbr same cs w.add_logicals.new.disk) (sym (ap (λ v. v.items) w.children-is))
+          (mbr-chain old k target.size target.blocks bytes mbr same w.add_logicals.new.disk w.begin.result (w.in-Some.start, w.in-Some.size) w.signature.result c.in_ok-children.children.items w.add_logicals.new.children.items
+          (sym c.extended.ensures.exact ∙ w.in-Some.is) w.begin.ensures w.signature.ensures c.in_ok-children.ensures (w.in_ok-add_logicals.ensures.found bytes holds)))
+      | in_default w ↦
+          subst (λ (s : State). IsMbrTable old k target.size target.blocks bytes mbr same c.match-extended.children.items s) (sym w.disk-is)
+          (mbr-alone old k target.size target.blocks bytes mbr same c.match-extended.children.items (sym c.extended.ensures.exact ∙ w.in_default.is) (ap (λ v. v.items) w.children-is ∙ c.in_ok-children.ensures))
+    ])
