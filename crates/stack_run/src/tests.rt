@@ -1,4 +1,4 @@
-ghost use Rattle.std.specs.Prelude.{ℕ, List, IfOk};
+ghost use Rattle.std.specs.Prelude.{ℕ, List, IfOk, OnOk};
 ghost use Rattle.image_store.specs.Place.{IsFree};
 ghost use Rattle.image_store.specs.Slots.{images_at};
 
@@ -105,11 +105,24 @@ fn add_image(
     planned: &[Planned],
 ) -> Result<(), AllocError>
     requires { (name : List ℕ) → IsFree (images_at images.old name).place }
-    ensures { (name : List ℕ) → IsFree (images_at images.new name).place }
+    ensures { OnOk result ((name : List ℕ) → IsFree (images_at images.new name).place) }
 {
     let bytes = vec![in alloc; 0; image.length]?;
     let planned = Vec::from_slice(alloc, planned)?;
-    images.add(image.name, &bytes, planned)
+    images.add(image.name, &bytes, planned)?;
+    Ok(())
+}
+
+// Adds the image `a.img`, if there is one.
+fn add_first(alloc: Global, images: &mut MemImages, given: &Given) -> Result<(), AllocError>
+    requires { (name : List ℕ) → IsFree (images_at images.old name).place }
+    ensures { OnOk result ((name : List ℕ) → IsFree (images_at images.new name).place) }
+{
+    let name = "a.img";
+    match given.image {
+        Some(length) => add_image(alloc, images, &Blank { name, length }, given.planned),
+        None => Ok(()),
+    }
 }
 
 fn images_of(alloc: Global, given: &Given) -> Result<MemImages, AllocError>
@@ -117,10 +130,7 @@ fn images_of(alloc: Global, given: &Given) -> Result<MemImages, AllocError>
 {
     let failing = Vec::from_slice(alloc, given.images_fail)?;
     let mut images = MemImages::make(alloc, failing);
-    if let Some(length) = given.image {
-        let name = "a.img";
-        add_image(alloc, &mut images, &Blank { name, length }, given.planned)?;
-    }
+    add_first(alloc, &mut images, given)?;
     for image in given.others {
         add_image(alloc, &mut images, image, &[])?;
     }
