@@ -39,5 +39,5 @@ fn main(rt: HostRuntime) -> ExitCode {
         }
         None => None,
     };
-    end_program(alloc, status, &mut out)
+    end_program(status, &mut out)
 }

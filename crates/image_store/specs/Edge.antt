@@ -2,6 +2,12 @@
 use Rattle.std.specs.Prelude.{◌≡◌, ◌≢◌, ℕ, ◌<◌, ◌≤◌, List, [], ◌++◌, length, take, Option, None, Some, Result, Ok, Err, IsErrOf, OnOk, OnErr}
 pub use Rattle.medium.specs.Counts.{Rose}
 
+-- a sink as its callers see it: what was written, where it tells; how often it failed; and how often memory ran out in it
+pub record Outlet : Type 0 where
+  pub wrote : Option (List ℕ)
+  pub faults : ℕ
+  pub spent : ℕ
+
 -- the count stays where this fault is not the answer
 abbrev pub StaysUnless : {T E : Type 0} → E → ℕ → ℕ → Result T E → Type 0
 StaysUnless fault before now (Ok x) = now ≡ before

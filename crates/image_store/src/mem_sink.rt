@@ -11,6 +11,7 @@ pub struct MemSink {
     bytes: Vec<u8>,
     failing: Failing,
     faults: u64,
+    spent: u64,
 }
 
 impl MemSink {
@@ -18,20 +19,21 @@ impl MemSink {
 
     /// An empty sink whose calls of this list fail, numbered from 0.
     pub fn make(alloc: Global, failing: Vec<u64>) -> MemSink
-        ensures wrote { ⟦<MemSink as Sink>⟧.wrote result ≡ Some [] }
-        ensures faults { ⟦<MemSink as Sink>⟧.faults result ≡ 0 }
+        ensures wrote { (⟦<MemSink as Sink>⟧.outlet result).wrote ≡ Some [] }
+        ensures faults { (⟦<MemSink as Sink>⟧.outlet result).faults ≡ 0 }
         ensures calls { IsUncalled failing.items (sink_calls result) }
     {
         MemSink {
             bytes: Vec::new(alloc),
             failing: Failing::make(failing),
             faults: 0,
+            spent: 0,
         }
     }
 
     /// All bytes that were put.
     pub fn bytes(&self) -> &[u8]
-        ensures { ⟦<MemSink as Sink>⟧.wrote self.now ≡ Some result.now }
+        ensures { (⟦<MemSink as Sink>⟧.outlet self.now).wrote ≡ Some result.now }
     {
         &self.bytes
     }
@@ -40,18 +42,18 @@ impl MemSink {
 impl Sink for MemSink {
     ghost use Rattle.image_store.specs.Calls.{is_next_failing, IsCalled, sink_calls};
 
-    ghost wrote = { λ sink. Some sink.bytes.items };
-
-    ghost faults = { λ sink. sink.faults };
+    ghost outlet = { λ sink. record {
+        wrote = Some sink.bytes.items; faults = sink.faults; spent = sink.spent; } };
 
     /// Fails exactly where the call is in the list. After a fault nothing was added.
     #[tactic(auto, using(crate::proofs::Fronts::none_put), unfolding(crate::specs::Edge::Appends))]
     fn put(&mut self, bytes: &[u8]) -> Result<(), PutFault>
-        ensures text { PutsText (⟦<MemSink as Sink>⟧.wrote self.old) (⟦<MemSink as Sink>⟧.wrote self.new) result bytes.now }
-        ensures cause { HasCauseOf PutFault.Failed (⟦<MemSink as Sink>⟧.faults self.old) (⟦<MemSink as Sink>⟧.faults self.new) result }
-        ensures memory { IsErrOf result PutFault.Memory → ⟦<MemSink as Sink>⟧.wrote self.new ≡ ⟦<MemSink as Sink>⟧.wrote self.old }
+        ensures text { PutsText (⟦<MemSink as Sink>⟧.outlet self.old).wrote (⟦<MemSink as Sink>⟧.outlet self.new).wrote result bytes.now }
+        ensures cause { HasCauseOf PutFault.Failed (⟦<MemSink as Sink>⟧.outlet self.old).faults (⟦<MemSink as Sink>⟧.outlet self.new).faults result }
+        ensures spent { HasCauseOf PutFault.Memory (⟦<MemSink as Sink>⟧.outlet self.old).spent (⟦<MemSink as Sink>⟧.outlet self.new).spent result }
+        ensures memory { IsErrOf result PutFault.Memory → (⟦<MemSink as Sink>⟧.outlet self.new).wrote ≡ (⟦<MemSink as Sink>⟧.outlet self.old).wrote }
         ensures failing { IsTrue (is_next_failing (sink_calls self.old)) ↔ (result ≡ Err PutFault.Failed) }
-        ensures unwritten { OnErr result (⟦<MemSink as Sink>⟧.wrote self.new ≡ ⟦<MemSink as Sink>⟧.wrote self.old) }
+        ensures unwritten { OnErr result ((⟦<MemSink as Sink>⟧.outlet self.new).wrote ≡ (⟦<MemSink as Sink>⟧.outlet self.old).wrote) }
         ensures called { IsCalled (sink_calls self.old) (sink_calls self.new) }
     {
         if self.failing.next_fails() {
@@ -60,7 +62,10 @@ impl Sink for MemSink {
         }
         match self.bytes.extend_from_slice(bytes) {
             Ok(()) => Ok(()),
-            Err(_) => Err(PutFault::Memory),
+            Err(_) => {
+                self.spent = self.spent.saturating_add(1);
+                Err(PutFault::Memory)
+            }
         }
     }
 }

@@ -15,25 +15,24 @@ pub struct OutSink<W> {
 impl<W: Write> OutSink<W> {
     /// A sink that writes to the writer.
     pub fn make(to: W) -> OutSink<W>
-        ensures { ⟦<OutSink<W> as Sink>⟧.faults result ≡ 0 }
+        ensures { (⟦<OutSink<W> as Sink>⟧.outlet result).faults ≡ 0 }
     {
         OutSink { to, faults: 0 }
     }
 }
 
 impl<W: Write> Sink for OutSink<W> {
-    ghost wrote = { λ sink. None };
-
-    ghost faults = { λ sink. sink.faults };
+    ghost outlet = { λ sink. record { wrote = None; faults = sink.faults; spent = 0; } };
 
     ghost use Rattle.image_store.specs.Streams.{writer_of};
 
     /// Hands the bytes to the writer.
     #[tactic(auto, using(crate::proofs::Fronts::untold_put), unfolding(crate::specs::Edge::Appends))]
     fn put(&mut self, bytes: &[u8]) -> Result<(), PutFault>
-        ensures text { PutsText (⟦<OutSink<W> as Sink>⟧.wrote self.old) (⟦<OutSink<W> as Sink>⟧.wrote self.new) result bytes.now }
-        ensures cause { HasCauseOf PutFault.Failed (⟦<OutSink<W> as Sink>⟧.faults self.old) (⟦<OutSink<W> as Sink>⟧.faults self.new) result }
-        ensures memory { IsErrOf result PutFault.Memory → ⟦<OutSink<W> as Sink>⟧.wrote self.new ≡ ⟦<OutSink<W> as Sink>⟧.wrote self.old }
+        ensures text { PutsText (⟦<OutSink<W> as Sink>⟧.outlet self.old).wrote (⟦<OutSink<W> as Sink>⟧.outlet self.new).wrote result bytes.now }
+        ensures cause { HasCauseOf PutFault.Failed (⟦<OutSink<W> as Sink>⟧.outlet self.old).faults (⟦<OutSink<W> as Sink>⟧.outlet self.new).faults result }
+        ensures spent { HasCauseOf PutFault.Memory (⟦<OutSink<W> as Sink>⟧.outlet self.old).spent (⟦<OutSink<W> as Sink>⟧.outlet self.new).spent result }
+        ensures memory { IsErrOf result PutFault.Memory → (⟦<OutSink<W> as Sink>⟧.outlet self.new).wrote ≡ (⟦<OutSink<W> as Sink>⟧.outlet self.old).wrote }
         ensures bytes { OnOk result (WritesOn (W.contents (writer_of self.old)) (W.contents (writer_of self.new)) bytes.now) }
     {
         match self.to.write_all(bytes) {

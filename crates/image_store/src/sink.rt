@@ -1,5 +1,5 @@
-ghost use Rattle.std.specs.Prelude.{◌≡◌, ℕ, List, Option, IsErrOf};
-ghost use Rattle.image_store.specs.Edge.{PutsText, HasCauseOf};
+ghost use Rattle.std.specs.Prelude.{◌≡◌, IsErrOf};
+ghost use Rattle.image_store.specs.Edge.{Outlet, PutsText, HasCauseOf};
 
 use std::alloc::AllocError;
 
@@ -24,16 +24,17 @@ impl From<AllocError> for PutFault {
 
 /// Where bytes go (own profile).
 pub trait Sink {
-    /// The bytes that were written, where it tells.
-    ghost wrote: { Self → Option (List ℕ) };
+    /// What was written, how often it failed, and how often memory ran out in it.
+    ghost outlet: { Self → Outlet };
 
-    /// How often it failed.
-    ghost faults: { Self → ℕ };
-
-    /// Adds the bytes. It fails only where its faults rose; after a fault a front of the bytes was added, and for want of
-    /// memory none.
+    /// Adds the bytes. It fails only where its faults rose, and after a fault a front of the bytes was added. Memory ran out
+    /// only where that count rose, and none was then added.
     fn put(&mut self, bytes: &[u8]) -> Result<(), PutFault>
-        ensures text { PutsText (wrote self.old) (wrote self.new) result bytes.now }
-        ensures cause { HasCauseOf PutFault.Failed (faults self.old) (faults self.new) result }
-        ensures memory { IsErrOf result PutFault.Memory → wrote self.new ≡ wrote self.old };
+        ensures text { PutsText (outlet self.old).wrote (outlet self.new).wrote result bytes.now }
+        ensures cause { HasCauseOf PutFault.Failed (outlet self.old).faults (outlet self.new).faults
+            result }
+        ensures spent { HasCauseOf PutFault.Memory (outlet self.old).spent (outlet self.new).spent
+            result }
+        ensures memory { IsErrOf result PutFault.Memory
+            → (outlet self.new).wrote ≡ (outlet self.old).wrote };
 }

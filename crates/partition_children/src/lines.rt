@@ -19,8 +19,8 @@ pub enum ShowFault {
 /// Writes the lines of a table: its kind, and its children in order of number (own profile). After a fault a front of them was
 /// written. `Failed` comes only where the sink's faults rose.
 pub fn show<O: Sink>(alloc: Global, table: &Table, out: &mut O) -> Result<(), ShowFault>
-    ensures text { PutsText (O.wrote out.old) (O.wrote out.new) result (table_text table.now) }
-    ensures cause { HasCauseOf ShowFault.Failed (O.faults out.old) (O.faults out.new) result }
+    ensures text { PutsText (O.outlet out.old).wrote (O.outlet out.new).wrote result (table_text table.now) }
+    ensures cause { HasCauseOf ShowFault.Failed (O.outlet out.old).faults (O.outlet out.new).faults result }
 {
     match report_table(alloc, table, out) {
         Ok(()) => Ok(()),

@@ -2,6 +2,7 @@
 use Rattle.std.proofs.Common.{◌≡◌, ℕ, ◌⊎◌, inl, inr, List, ◌∷◌, Option, None, Some, Ok, Err, subst, arith}
 use Rattle.std.specs.List.{AllByRecursion}
 use Rattle.medium.specs.Counts.{Rose}
+use Rattle.image_store.specs.Edge.{Outlet}
 use Rattle.image_store.specs.Place.{Place, Here, Missing, Taken, Untold}
 use Rattle.script_text.specs.declared.language.plans.DiskPlan.{DiskPlan}
 use Rattle.script_text.specs.declared.language.refusal.Reason.{Reason}
@@ -31,13 +32,13 @@ image-stays plans at at' name has none (inl fails) = by fails.unmade.cause
 image-stays plans at at' name has none (inr fails) = none name fails.cause
 
 -- the statuses of failures do not come
-pub serves : (n : ℕ) (plans : List DiskPlan) (at at' : Names) (wrote wrote' : Option (List ℕ)) (faults faults' : ℕ) → IsServingStatus n
-    → (n ≡ 3 → ImageFailed at at' wrote wrote' faults faults' plans) → (n ≡ 5 → SinkFailed at at' wrote wrote' faults faults' plans)
-    → HasImages plans at → IsNoRise faults faults' → ((name : List ℕ) → IsNoRise (at name).faults (at' name).faults) → (n ≡ 0) ⊎ (n ≡ 6)
-serves n plans at at' wrote wrote' faults faults' (inl zero_is) image sink has quiet none = inl zero_is
-serves n plans at at' wrote wrote' faults faults' (inr (inl three)) image sink has quiet none = let fails = image three in absurd (image-stays plans at at' fails.name has none fails.fails)
-serves n plans at at' wrote wrote' faults faults' (inr (inr (inl five))) image sink has quiet none = let fails = sink five in absurd (quiet fails.cause)
-serves n plans at at' wrote wrote' faults faults' (inr (inr (inr six))) image sink has quiet none = inr six
+pub serves : (n : ℕ) (plans : List DiskPlan) (at at' : Names) (out out' : Outlet) → IsServingStatus n
+    → (n ≡ 3 → ImageFailed at at' out out' plans) → (n ≡ 5 → SinkFailed at at' out out' plans)
+    → HasImages plans at → IsNoRise out.faults out'.faults → ((name : List ℕ) → IsNoRise (at name).faults (at' name).faults) → (n ≡ 0) ⊎ (n ≡ 6)
+serves n plans at at' out out' (inl zero_is) image sink has quiet none = inl zero_is
+serves n plans at at' out out' (inr (inl three)) image sink has quiet none = let fails = image three in absurd (image-stays plans at at' fails.name has none fails.fails)
+serves n plans at at' out out' (inr (inr (inl five))) image sink has quiet none = let fails = sink five in absurd (quiet fails.cause)
+serves n plans at at' out out' (inr (inr (inr six))) image sink has quiet none = inr six
 
 -- the script that is told is the one that was read
 pub servable-has : (left : Option (List ℕ)) (plans : List DiskPlan) (at : Names) → SourceSays left (Ok plans) → IsToldServable left at → HasImages plans at

@@ -1,7 +1,9 @@
 -- The program's words, its statuses, and what stands behind each of them (own profile).
 use Rattle.std.specs.Prelude.{◌≡◌, ℕ, ◌⊎◌, Bool, false, List, [], ◌∷◌, ◌++◌, codes, decimal, Option, None, Some, Result, Ok, Err, IsErr, bytes_eq}
 use Rattle.medium.specs.Counts.{Rose}
-use Rattle.image_store.specs.Edge.{Appends, AppendsFront}
+use Rattle.image_store.specs.declared.sink.PutFault.{PutFault}
+use Rattle.image_store.specs.declared.sink.PutFault.TheVariants as put
+use Rattle.image_store.specs.Edge.{Outlet, Appends, AppendsFront, PutsText, HasCauseOf}
 use Rattle.image_store.specs.Place.{Image}
 use Rattle.script_text.specs.declared.language.plans.DiskPlan.{DiskPlan}
 use Rattle.script_text.specs.declared.language.refusal.Reason.{Reason}
@@ -49,36 +51,37 @@ refusal_text ImageOf name = codes "image " ++ (name ++ 10 ∷ [])
 refusal_text Source name = codes "source\n"
 refusal_text Memory name = codes "memory\n"
 
--- the sink has what it had, and did not fail
-pub record IsUnwritten (wrote wrote' : Option (List ℕ)) (faults faults' : ℕ) : Type 0 where
-  pub same : wrote' ≡ wrote
-  pub quiet : faults' ≡ faults
+-- the line was put, or a front of it where the sink failed or ran out of memory
+pub record PutsLine (out out' : Outlet) (result : Result (Unit {0}) PutFault) (line : List ℕ) : Type 0 where
+  pub text : PutsText out.wrote out'.wrote result line
+  pub cause : HasCauseOf put.Failed out.faults out'.faults result
+  pub spent : HasCauseOf put.Memory out.spent out'.spent result
 
 -- the line was written and the sink did not fail
-pub record IsWritten (line : List ℕ) (wrote wrote' : Option (List ℕ)) (faults faults' : ℕ) : Type 0 where
-  pub added : Appends wrote wrote' line
-  pub quiet : faults' ≡ faults
+pub record IsWritten (line : List ℕ) (out out' : Outlet) : Type 0 where
+  pub added : Appends out.wrote out'.wrote line
+  pub quiet : out'.faults ≡ out.faults
 
--- the sink failed, and a front was written
-pub record IsCut (line : List ℕ) (wrote wrote' : Option (List ℕ)) (faults faults' : ℕ) : Type 0 where
-  pub front : AppendsFront wrote wrote' line
-  pub cause : Rose faults faults'
+-- the sink failed or ran out of memory, and a front was written
+pub record IsCut (line : List ℕ) (out out' : Outlet) : Type 0 where
+  pub front : AppendsFront out.wrote out'.wrote line
+  pub cause : Rose out.faults out'.faults ⊎ Rose out.spent out'.spent
 
--- a line was written, or where the sink failed a front of it, or where memory ran out nothing
-abbrev pub WritesLine : List ℕ → Option (List ℕ) → Option (List ℕ) → ℕ → ℕ → Type 0
-WritesLine line wrote wrote' faults faults' = IsWritten line wrote wrote' faults faults' ⊎ (IsCut line wrote wrote' faults faults' ⊎ IsUnwritten wrote wrote' faults faults')
+-- a line was written, or a front of it where the sink failed or ran out of memory
+abbrev pub WritesLine : List ℕ → Outlet → Outlet → Type 0
+WritesLine line out out' = IsWritten line out out' ⊎ IsCut line out out'
 
 -- the line of a refusal was written, and no image has changed
-pub record WritesRefusal (text : List ℕ) (at at' : List ℕ → Image) (wrote wrote' : Option (List ℕ)) (faults faults' : ℕ) : Type 0 where
+pub record WritesRefusal (text : List ℕ) (at at' : List ℕ → Image) (out out' : Outlet) : Type 0 where
   pub images : at' ≡ at
-  pub line : WritesLine text wrote wrote' faults faults'
+  pub line : WritesLine text out out'
 
 -- the source is no script, which the line says, and no image has changed
-pub record ScriptRefused (left left' : Option (List ℕ)) (at at' : List ℕ → Image) (wrote wrote' : Option (List ℕ)) (faults faults' : ℕ) : Type 0 where
+pub record ScriptRefused (left left' : Option (List ℕ)) (at at' : List ℕ → Image) (out out' : Outlet) : Type 0 where
   pub number : ℕ
   pub reason : Reason
   pub refused : IsRefused left left' number reason
-  pub line : WritesRefusal (refusal_text (Script number reason) []) at at' wrote wrote' faults faults'
+  pub line : WritesRefusal (refusal_text (Script number reason) []) at at' out out'
 
 -- the source was read to its end and is a script of these disks, of which this holds
 pub record OfScript (left left' : Option (List ℕ)) (P : List DiskPlan → Type 0) : Type 0 where
@@ -87,33 +90,33 @@ pub record OfScript (left left' : Option (List ℕ)) (P : List DiskPlan → Type
   pub holds : P plans
 
 -- an image could not be taken or put back, and the line says so
-pub record ImageFailed (at at' : List ℕ → Image) (wrote wrote' : Option (List ℕ)) (faults faults' : ℕ) (plans : List DiskPlan) : Type 0 where
+pub record ImageFailed (at at' : List ℕ → Image) (out out' : Outlet) (plans : List DiskPlan) : Type 0 where
   pub name : List ℕ
   pub fails : NotTaken plans at at' name ⊎ NotPutBack plans at at' name
-  pub line : WritesLine (refusal_text ImageOf name) wrote wrote' faults faults'
+  pub line : WritesLine (refusal_text ImageOf name) out out'
 
 -- the disks were served, and the sink failed in their reports
-pub record SinkFailed (at at' : List ℕ → Image) (wrote wrote' : Option (List ℕ)) (faults faults' : ℕ) (plans : List DiskPlan) : Type 0 where
-  pub served : Served plans at at' (AppendsFront wrote wrote')
-  pub cause : Rose faults faults'
+pub record SinkFailed (at at' : List ℕ → Image) (out out' : Outlet) (plans : List DiskPlan) : Type 0 where
+  pub served : Served plans at at' (AppendsFront out.wrote out'.wrote)
+  pub cause : Rose out.faults out'.faults
 
 -- memory ran out in the reports of the disks, which were served, and nothing failed
-pub record ReportRanOut (at at' : List ℕ → Image) (wrote wrote' : Option (List ℕ)) (faults faults' : ℕ) (plans : List DiskPlan) : Type 0 where
-  pub served : Served plans at at' (AppendsFront wrote wrote')
-  pub quiet : faults' ≡ faults
+pub record ReportRanOut (at at' : List ℕ → Image) (out out' : Outlet) (plans : List DiskPlan) : Type 0 where
+  pub served : Served plans at at' (AppendsFront out.wrote out'.wrote)
+  pub quiet : out'.faults ≡ out.faults
 
 -- memory ran out before, and the images are left so
-pub record DisksRanOut (at at' : List ℕ → Image) (wrote wrote' : Option (List ℕ)) (faults faults' : ℕ) (plans : List DiskPlan) : Type 0 where
+pub record DisksRanOut (at at' : List ℕ → Image) (out out' : Outlet) (plans : List DiskPlan) : Type 0 where
   pub leaves : MemoryLeaves plans at at'
-  pub line : WritesLine (refusal_text Memory []) wrote wrote' faults faults'
+  pub line : WritesLine (refusal_text Memory []) out out'
 
-abbrev pub ServingRanOut : (List ℕ → Image) → (List ℕ → Image) → Option (List ℕ) → Option (List ℕ) → ℕ → ℕ → List DiskPlan → Type 0
-ServingRanOut at at' wrote wrote' faults faults' plans = DisksRanOut at at' wrote wrote' faults faults' plans ⊎ ReportRanOut at at' wrote wrote' faults faults' plans
+abbrev pub ServingRanOut : (List ℕ → Image) → (List ℕ → Image) → Outlet → Outlet → List DiskPlan → Type 0
+ServingRanOut at at' out out' plans = DisksRanOut at at' out out' plans ⊎ ReportRanOut at at' out out' plans
 
 -- memory ran out in reading the script, or in serving its disks or in their reports
-abbrev pub MemoryRanOut : Option (List ℕ) → Option (List ℕ) → (List ℕ → Image) → (List ℕ → Image) → Option (List ℕ) → Option (List ℕ) → ℕ → ℕ → Type 0
-MemoryRanOut left left' at at' wrote wrote' faults faults' =
-    WritesRefusal (refusal_text Memory []) at at' wrote wrote' faults faults' ⊎ OfScript left left' (ServingRanOut at at' wrote wrote' faults faults')
+abbrev pub MemoryRanOut : Option (List ℕ) → Option (List ℕ) → (List ℕ → Image) → (List ℕ → Image) → Outlet → Outlet → Type 0
+MemoryRanOut left left' at at' out out' =
+    WritesRefusal (refusal_text Memory []) at at' out out' ⊎ OfScript left left' (ServingRanOut at at' out out')
 
 abbrev pub SaidLacksImage : Result (List DiskPlan) (ℕ × Reason) → (List ℕ → Image) → Type 0
 SaidLacksImage (Ok plans) at = LacksImage plans at
@@ -143,11 +146,11 @@ abbrev pub IsServingStatus : ℕ → Type 0
 IsServingStatus n = (n ≡ 0) ⊎ ((n ≡ 3) ⊎ ((n ≡ 5) ⊎ (n ≡ 6)))
 
 -- why the disks were not served, and what was left and written
-abbrev pub ServingFails : Unserved → List DiskPlan → List Wanted → (List ℕ → Image) → (List ℕ → Image) → Option (List ℕ) → Option (List ℕ) → ℕ → ℕ → Type 0
-ServingFails (fault.Image place) plans wanted at at' wrote wrote' faults faults' = ImageStops plans wanted place at at' × IsUnwritten wrote wrote' faults faults'
-ServingFails fault.Memory plans wanted at at' wrote wrote' faults faults' = MemoryLeaves plans at at' × IsUnwritten wrote wrote' faults faults'
-ServingFails fault.Sink plans wanted at at' wrote wrote' faults faults' = SinkFailed at at' wrote wrote' faults faults' plans
-ServingFails fault.Report plans wanted at at' wrote wrote' faults faults' = ReportRanOut at at' wrote wrote' faults faults' plans
+abbrev pub ServingFails : Unserved → List DiskPlan → List Wanted → (List ℕ → Image) → (List ℕ → Image) → Outlet → Outlet → Type 0
+ServingFails (fault.Image place) plans wanted at at' out out' = ImageStops plans wanted place at at' × (out' ≡ out)
+ServingFails fault.Memory plans wanted at at' out out' = MemoryLeaves plans at at' × (out' ≡ out)
+ServingFails fault.Sink plans wanted at at' out out' = SinkFailed at at' out out' plans
+ServingFails fault.Report plans wanted at at' out out' = ReportRanOut at at' out out' plans
 
 -- an image could not be taken or put back, or memory ran out before the reports
 abbrev pub IsImageStop : Result (Unit {0}) Unserved → Type 0
@@ -161,7 +164,7 @@ IsImageStop (Err fault.Report) = ⊥
 abbrev pub IsNoRise : ℕ → ℕ → Type 0
 IsNoRise before now = Rose before now → ⊥
 
--- the program ends with the status of its run and writes nothing; without one, since memory ran out for its words, with 6 and a line
-abbrev pub EndsWith : Option ℕ → ℕ → Option (List ℕ) → Option (List ℕ) → ℕ → ℕ → Type 0
-EndsWith (Some status) code wrote wrote' faults faults' = (code ≡ status) × IsUnwritten wrote wrote' faults faults'
-EndsWith None code wrote wrote' faults faults' = (code ≡ 6) × WritesLine (refusal_text Memory []) wrote wrote' faults faults'
+-- the program ends with the status of its run and leaves the sink as it was; without one, since memory ran out for its words, with 6 and a line
+abbrev pub EndsWith : Option ℕ → ℕ → Outlet → Outlet → Type 0
+EndsWith (Some status) code out out' = (code ≡ status) × (out' ≡ out)
+EndsWith None code out out' = (code ≡ 6) × WritesLine (refusal_text Memory []) out out'

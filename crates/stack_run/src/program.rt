@@ -33,29 +33,27 @@ fn run_script<I: Images, O: Sink>(alloc: Global, script: &Script, images: &mut I
     requires fit { AreDisks script.now.disks }
     requires together { FitTogether script.now.disks }
     ensures done { result ≡ 0 → Served script.now.disks (I.at images.old) (I.at images.new)
-        (Appends (O.wrote out.old) (O.wrote out.new)) }
-    ensures image { result ≡ 3 → ImageFailed (I.at images.old) (I.at images.new) (O.wrote out.old)
-        (O.wrote out.new) (O.faults out.old) (O.faults out.new) script.now.disks }
+        (Appends (O.outlet out.old).wrote (O.outlet out.new).wrote) }
+    ensures image { result ≡ 3 → ImageFailed (I.at images.old) (I.at images.new) (O.outlet out.old) (O.outlet out.new) script.now.disks }
     ensures lacks { LacksImage script.now.disks (I.at images.old) → (result ≡ 3) ⊎ (result ≡ 6) }
-    ensures sink { result ≡ 5 → SinkFailed (I.at images.old) (I.at images.new) (O.wrote out.old)
-        (O.wrote out.new) (O.faults out.old) (O.faults out.new) script.now.disks }
-    ensures quiet { result ≡ 0 → O.faults out.new ≡ O.faults out.old }
+    ensures sink { result ≡ 5 → SinkFailed (I.at images.old) (I.at images.new) (O.outlet out.old) (O.outlet out.new) script.now.disks }
+    ensures quiet { result ≡ 0 → (O.outlet out.new).faults ≡ (O.outlet out.old).faults }
     ensures memory { result ≡ 6 → ServingRanOut (I.at images.old) (I.at images.new)
-        (O.wrote out.old) (O.wrote out.new) (O.faults out.old) (O.faults out.new) script.now.disks }
+        (O.outlet out.old) (O.outlet out.new) script.now.disks }
     ensures few { IsServingStatus result }
     ensures again { (name : List ℕ) → IsFree (I.at images.new name).place }
 {
     let plans = script.disks.as_slice();
     let wanted = match wanted_images(alloc, plans) {
         Ok(wanted) => wanted,
-        Err(_) => return refuse(alloc, Refusal::Memory, "", out),
+        Err(_) => return refuse(Refusal::Memory, "", out),
     };
     match serve(alloc, plans, wanted.as_slice(), images, out) {
         Ok(()) => 0,
         Err(Unserved::Image { place }) => {
-            refuse(alloc, Refusal::Image, wanted[place].image.as_str(), out)
+            refuse(Refusal::Image, wanted[place].image.as_str(), out)
         }
-        Err(Unserved::Memory) => refuse(alloc, Refusal::Memory, "", out),
+        Err(Unserved::Memory) => refuse(Refusal::Memory, "", out),
         Err(Unserved::Sink) => 5,
         Err(Unserved::Report) => 6,
     }
@@ -81,56 +79,50 @@ pub fn run_plain<I: Images, R: Source, O: Sink>(
 ) -> u8
     requires free { (name : List ℕ) → IsFree (I.at images.old name).place }
     ensures done { result ≡ 0 → OfScript (R.left script.old) (R.left script.new)
-        (λ plans. Served plans (I.at images.old) (I.at images.new) (Appends (O.wrote out.old)
-        (O.wrote out.new))) }
+        (λ plans. Served plans (I.at images.old) (I.at images.new) (Appends (O.outlet out.old).wrote
+        (O.outlet out.new).wrote)) }
     ensures words { result ≡ 1 → is_plain (map string_bytes words.now) ≡ false }
     ensures words_exactly { is_plain (map string_bytes words.now) ≡ false → result ≡ 1 }
     ensures words_unread { result ≡ 1 → script.new ≡ script.old }
     ensures words_line { result ≡ 1 → WritesRefusal (refusal_text Refusal.Words [])
-        (I.at images.old) (I.at images.new) (O.wrote out.old) (O.wrote out.new) (O.faults out.old)
-        (O.faults out.new) }
+        (I.at images.old) (I.at images.new) (O.outlet out.old) (O.outlet out.new) }
     ensures script { result ≡ 2 → ScriptRefused (R.left script.old) (R.left script.new)
-        (I.at images.old) (I.at images.new) (O.wrote out.old) (O.wrote out.new) (O.faults out.old)
-        (O.faults out.new) }
+        (I.at images.old) (I.at images.new) (O.outlet out.old) (O.outlet out.new) }
     ensures script_exactly { is_plain (map string_bytes words.now) ≡ true → IsToldRefused
         (R.left script.old) → (result ≡ 2) ⊎ ((result ≡ 4) ⊎ (result ≡ 6)) }
     ensures image { result ≡ 3 → OfScript (R.left script.old) (R.left script.new) (ImageFailed
-        (I.at images.old) (I.at images.new) (O.wrote out.old) (O.wrote out.new) (O.faults out.old)
-        (O.faults out.new)) }
+        (I.at images.old) (I.at images.new) (O.outlet out.old) (O.outlet out.new)) }
     ensures image_exactly { is_plain (map string_bytes words.now) ≡ true → IsToldLacking
         (R.left script.old) (I.at images.old) → (result ≡ 3) ⊎ ((result ≡ 4) ⊎ (result ≡ 6)) }
     ensures source { result ≡ 4 → Rose (R.faults script.old) (R.faults script.new) }
     ensures source_exactly { (R.faults script.new ≡ R.faults script.old) ⊎ (result ≡ 4) }
     ensures source_line { result ≡ 4 → WritesRefusal (refusal_text Refusal.Source [])
-        (I.at images.old) (I.at images.new) (O.wrote out.old) (O.wrote out.new) (O.faults out.old)
-        (O.faults out.new) }
+        (I.at images.old) (I.at images.new) (O.outlet out.old) (O.outlet out.new) }
     ensures sink { result ≡ 5 → OfScript (R.left script.old) (R.left script.new) (SinkFailed
-        (I.at images.old) (I.at images.new) (O.wrote out.old) (O.wrote out.new) (O.faults out.old)
-        (O.faults out.new)) }
-    ensures sink_quiet { result ≡ 0 → O.faults out.new ≡ O.faults out.old }
+        (I.at images.old) (I.at images.new) (O.outlet out.old) (O.outlet out.new)) }
+    ensures sink_quiet { result ≡ 0 → (O.outlet out.new).faults ≡ (O.outlet out.old).faults }
     ensures memory { result ≡ 6 → MemoryRanOut (R.left script.old) (R.left script.new)
-        (I.at images.old) (I.at images.new) (O.wrote out.old) (O.wrote out.new) (O.faults out.old)
-        (O.faults out.new) }
+        (I.at images.old) (I.at images.new) (O.outlet out.old) (O.outlet out.new) }
     ensures memory_words { result ≡ 6 → is_plain (map string_bytes words.now) ≡ true }
     ensures memory_source { result ≡ 6 → R.faults script.new ≡ R.faults script.old }
     ensures complete { is_plain (map string_bytes words.now) ≡ true → IsToldServable
         (R.left script.old) (I.at images.old)
-        → IsNoRise (R.faults script.old) (R.faults script.new) → IsNoRise (O.faults out.old)
-        (O.faults out.new)
+        → IsNoRise (R.faults script.old) (R.faults script.new) → IsNoRise (O.outlet out.old).faults
+        (O.outlet out.new).faults
         → ((name : List ℕ) → IsNoRise (I.at images.old name).faults (I.at images.new name).faults)
         → (result ≡ 0) ⊎ (result ≡ 6) }
     ensures few { result ≤ 6 }
     ensures again { (name : List ℕ) → IsFree (I.at images.new name).place }
 {
     if !is_plain_run(words) {
-        return refuse(alloc, Refusal::Words, "", out);
+        return refuse(Refusal::Words, "", out);
     }
     match read_source(alloc, script) {
         Ok(read) => run_script(alloc, &read, images, out),
-        Err(NotRead::Failed) => refuse(alloc, Refusal::Source, "", out),
+        Err(NotRead::Failed) => refuse(Refusal::Source, "", out),
         Err(NotRead::Refused { line, reason }) => {
-            refuse(alloc, Refusal::Script { line, reason }, "", out)
+            refuse(Refusal::Script { line, reason }, "", out)
         }
-        Err(NotRead::Memory) => refuse(alloc, Refusal::Memory, "", out),
+        Err(NotRead::Memory) => refuse(Refusal::Memory, "", out),
     }
 }

@@ -63,9 +63,9 @@ fn write_report<O: Sink>(
     out: &mut O,
 ) -> Result<(), ReportFault>
     requires run { IsReportable plan.now run.now }
-    ensures text { TellsDisk number plan.now run.now (PutsText (O.wrote out.old)
-        (O.wrote out.new) result) }
-    ensures cause { HasCauseOf ReportFault.Failed (O.faults out.old) (O.faults out.new) result }
+    ensures text { TellsDisk number plan.now run.now (PutsText (O.outlet out.old).wrote
+        (O.outlet out.new).wrote result) }
+    ensures cause { HasCauseOf ReportFault.Failed (O.outlet out.old).faults (O.outlet out.new).faults result }
 {
     let blocks = run.blocks.as_slice();
     let media = match kept_of(alloc, plan, blocks) {
@@ -89,9 +89,9 @@ pub fn write_reports<O: Sink>(
 ) -> Result<(), ReportFault>
     requires few { length plans.now ≤ 16 }
     requires runs { AreReportable plans.now runs.now }
-    ensures text { TellsDisks plans.now runs.now (PutsText (O.wrote out.old)
-        (O.wrote out.new) result) }
-    ensures cause { HasCauseOf ReportFault.Failed (O.faults out.old) (O.faults out.new) result }
+    ensures text { TellsDisks plans.now runs.now (PutsText (O.outlet out.old).wrote
+        (O.outlet out.new).wrote result) }
+    ensures cause { HasCauseOf ReportFault.Failed (O.outlet out.old).faults (O.outlet out.new).faults result }
 {
     for (place, plan) in plans.iter().enumerate() {
         match write_report(alloc, place as u32 + 1, plan, &runs[place], out) {

@@ -97,11 +97,10 @@ pub fn serve<I: Images, O: Sink>(
     requires together { FitTogether plans.now }
     requires free { (name : List ℕ) → IsFree (I.at images.old name).place }
     ensures served { OnOk result (Served plans.now (I.at images.old) (I.at images.new) (Appends
-        (O.wrote out.old) (O.wrote out.new))) }
-    ensures quiet { OnOk result (O.faults out.new ≡ O.faults out.old) }
+        (O.outlet out.old).wrote (O.outlet out.new).wrote)) }
+    ensures quiet { OnOk result ((O.outlet out.new).faults ≡ (O.outlet out.old).faults) }
     ensures fails { IfErr result (λ fault. ServingFails fault plans.now wanted.now
-        (I.at images.old) (I.at images.new) (O.wrote out.old) (O.wrote out.new) (O.faults out.old)
-        (O.faults out.new)) }
+        (I.at images.old) (I.at images.new) (O.outlet out.old) (O.outlet out.new)) }
     ensures lacks { LacksImage plans.now (I.at images.old) → IsImageStop result }
     ensures again { (name : List ℕ) → IsFree (I.at images.new name).place }
 {

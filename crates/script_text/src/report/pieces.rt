@@ -11,8 +11,8 @@ const PIECE_BYTES: usize = 64 << 10;
 
 /// Puts a text.
 pub fn put<O: Sink>(out: &mut O, text: &str) -> Result<(), ReportFault>
-    ensures text { PutsText (O.wrote out.old) (O.wrote out.new) result text.now }
-    ensures cause { HasCauseOf ReportFault.Failed (O.faults out.old) (O.faults out.new) result }
+    ensures text { PutsText (O.outlet out.old).wrote (O.outlet out.new).wrote result text.now }
+    ensures cause { HasCauseOf ReportFault.Failed (O.outlet out.old).faults (O.outlet out.new).faults result }
 {
     match out.put(text.as_bytes()) {
         Ok(()) => Ok(()),
@@ -24,9 +24,9 @@ pub fn put<O: Sink>(out: &mut O, text: &str) -> Result<(), ReportFault>
 /// Adds a line to what is held back, and puts that where it is a piece.
 #[tactic(auto, using(crate::proofs::HeldText::none_put, crate::proofs::HeldText::still_held, crate::proofs::HeldText::all_put), unfolding(crate::specs::Held::AddsText))]
 pub fn add<O: Sink>(held: &mut String, out: &mut O, line: &str) -> Result<(), ReportFault>
-    ensures text { AddsText (O.wrote out.old) (string_bytes held.old) result
-        (O.wrote out.new) (string_bytes held.new) line.now }
-    ensures cause { HasCauseOf ReportFault.Failed (O.faults out.old) (O.faults out.new) result }
+    ensures text { AddsText (O.outlet out.old).wrote (string_bytes held.old) result
+        (O.outlet out.new).wrote (string_bytes held.new) line.now }
+    ensures cause { HasCauseOf ReportFault.Failed (O.outlet out.old).faults (O.outlet out.new).faults result }
 {
     match held.push_str(line) {
         Ok(()) => {}
@@ -52,9 +52,9 @@ pub fn add_made<O: Sink>(
     made: Result<String, AllocError>,
 ) -> Result<(), ReportFault>
     ensures text { (line : List ℕ) → IfOk made (λ text. string_bytes text ≡ line)
-        → AddsText (O.wrote out.old) (string_bytes held.old) result
-        (O.wrote out.new) (string_bytes held.new) line }
-    ensures cause { HasCauseOf ReportFault.Failed (O.faults out.old) (O.faults out.new) result }
+        → AddsText (O.outlet out.old).wrote (string_bytes held.old) result
+        (O.outlet out.new).wrote (string_bytes held.new) line }
+    ensures cause { HasCauseOf ReportFault.Failed (O.outlet out.old).faults (O.outlet out.new).faults result }
 {
     match made {
         Ok(line) => add(held, out, line.as_str()),

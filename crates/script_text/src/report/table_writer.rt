@@ -14,8 +14,8 @@ use std::alloc::Global;
 /// fault a front of them was written. `Failed` comes only where the sink's faults rose.
 #[tactic(auto, using(crate::proofs::HeldText::none_put, crate::proofs::HeldText::puts_held), unfolding(crate::specs::Tables::table_text))]
 pub fn report_table<O: Sink>(alloc: Global, table: &Table, out: &mut O) -> Result<(), ReportFault>
-    ensures text { PutsText (O.wrote out.old) (O.wrote out.new) result (table_text table.now) }
-    ensures cause { HasCauseOf ReportFault.Failed (O.faults out.old) (O.faults out.new) result }
+    ensures text { PutsText (O.outlet out.old).wrote (O.outlet out.new).wrote result (table_text table.now) }
+    ensures cause { HasCauseOf ReportFault.Failed (O.outlet out.old).faults (O.outlet out.new).faults result }
 {
     let mut held = match kind_line(alloc, table.kind) {
         Ok(line) => line,
@@ -31,8 +31,8 @@ pub fn report_table<O: Sink>(alloc: Global, table: &Table, out: &mut O) -> Resul
 /// `Failed` comes only where the sink's faults rose.
 #[tactic(auto, unfolding(crate::specs::Text::line_of, crate::specs::Tables::unread_text))]
 pub fn report_unread<O: Sink>(out: &mut O) -> Result<(), ReportFault>
-    ensures text { PutsText (O.wrote out.old) (O.wrote out.new) result unread_text }
-    ensures cause { HasCauseOf ReportFault.Failed (O.faults out.old) (O.faults out.new) result }
+    ensures text { PutsText (O.outlet out.old).wrote (O.outlet out.new).wrote result unread_text }
+    ensures cause { HasCauseOf ReportFault.Failed (O.outlet out.old).faults (O.outlet out.new).faults result }
 {
     pieces::put(out, "table unread\n")
 }
@@ -43,9 +43,9 @@ fn add_children<O: Sink>(
     held: &mut String,
     out: &mut O,
 ) -> Result<(), ReportFault>
-    ensures text { AddsText (O.wrote out.old) (string_bytes held.old) result
-        (O.wrote out.new) (string_bytes held.new) (children_text children.now) }
-    ensures cause { HasCauseOf ReportFault.Failed (O.faults out.old) (O.faults out.new) result }
+    ensures text { AddsText (O.outlet out.old).wrote (string_bytes held.old) result
+        (O.outlet out.new).wrote (string_bytes held.new) (children_text children.now) }
+    ensures cause { HasCauseOf ReportFault.Failed (O.outlet out.old).faults (O.outlet out.new).faults result }
 {
     for child in children {
         match pieces::add_made(held, out, child_line(alloc, child)) {

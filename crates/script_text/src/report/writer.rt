@@ -24,9 +24,9 @@ pub fn report_head<O: Sink>(
     blocks: u64,
     out: &mut O,
 ) -> Result<(), ReportFault>
-    ensures text { PutsText (O.wrote out.old) (O.wrote out.new) result
+    ensures text { PutsText (O.outlet out.old).wrote (O.outlet out.new).wrote result
         (head_text number plan.now.image plan.now.size blocks plan.now.physical) }
-    ensures cause { HasCauseOf ReportFault.Failed (O.faults out.old) (O.faults out.new) result }
+    ensures cause { HasCauseOf ReportFault.Failed (O.outlet out.old).faults (O.outlet out.new).faults result }
 {
     match tokens::head_line(
         alloc,
@@ -53,9 +53,9 @@ pub fn report_body<O: Sink>(
     out: &mut O,
 ) -> Result<(), ReportFault>
     ensures text { (S : Setup) → per_of S ≡ per → AreEnds S history.now.entries ends.now
-        → PutsText (O.wrote out.old) (O.wrote out.new) result
+        → PutsText (O.outlet out.old).wrote (O.outlet out.new).wrote result
         (body_text S history.now.entries (givens_of ends.now) media.now) }
-    ensures cause { HasCauseOf ReportFault.Failed (O.faults out.old) (O.faults out.new) result }
+    ensures cause { HasCauseOf ReportFault.Failed (O.outlet out.old).faults (O.outlet out.new).faults result }
 {
     put_body(alloc, per, history, ends, media, out)
 }
@@ -69,9 +69,9 @@ fn put_body<O: Sink>(
     media: &[KeptMedium],
     out: &mut O,
 ) -> Result<(), ReportFault>
-    ensures text { PutsText (O.wrote out.old) (O.wrote out.new) result
+    ensures text { PutsText (O.outlet out.old).wrote (O.outlet out.new).wrote result
         (ended_text per history.now.entries ends.now media.now) }
-    ensures cause { HasCauseOf ReportFault.Failed (O.faults out.old) (O.faults out.new) result }
+    ensures cause { HasCauseOf ReportFault.Failed (O.outlet out.old).faults (O.outlet out.new).faults result }
 {
     let entries = history.entries();
     let tagged = match tokens::tagged_reads(alloc, entries) {
@@ -100,9 +100,9 @@ pub fn add_entries<O: Sink>(
     held: &mut String,
     out: &mut O,
 ) -> Result<(), ReportFault>
-    ensures text { AddsText (O.wrote out.old) (string_bytes held.old) result
-        (O.wrote out.new) (string_bytes held.new) (entries_text per entries.now) }
-    ensures cause { HasCauseOf ReportFault.Failed (O.faults out.old) (O.faults out.new) result }
+    ensures text { AddsText (O.outlet out.old).wrote (string_bytes held.old) result
+        (O.outlet out.new).wrote (string_bytes held.new) (entries_text per entries.now) }
+    ensures cause { HasCauseOf ReportFault.Failed (O.outlet out.old).faults (O.outlet out.new).faults result }
 {
     for (place, entry) in entries.iter().enumerate() {
         match pieces::add_made(held, out, entry_line(alloc, per, place as u64, entry)) {
@@ -120,9 +120,9 @@ fn add_tokens<O: Sink>(
     held: &mut String,
     out: &mut O,
 ) -> Result<(), ReportFault>
-    ensures text { AddsText (O.wrote out.old) (string_bytes held.old) result
-        (O.wrote out.new) (string_bytes held.new) (ends_text tagged.now ends.now) }
-    ensures cause { HasCauseOf ReportFault.Failed (O.faults out.old) (O.faults out.new) result }
+    ensures text { AddsText (O.outlet out.old).wrote (string_bytes held.old) result
+        (O.outlet out.new).wrote (string_bytes held.new) (ends_text tagged.now ends.now) }
+    ensures cause { HasCauseOf ReportFault.Failed (O.outlet out.old).faults (O.outlet out.new).faults result }
 {
     for (token, end) in ends.iter().enumerate() {
         let tagged = tokens::is_tagged(tagged, token);
@@ -144,9 +144,9 @@ fn add_media<O: Sink>(
     held: &mut String,
     out: &mut O,
 ) -> Result<(), ReportFault>
-    ensures text { AddsText (O.wrote out.old) (string_bytes held.old) result
-        (O.wrote out.new) (string_bytes held.new) (media_text media.now) }
-    ensures cause { HasCauseOf ReportFault.Failed (O.faults out.old) (O.faults out.new) result }
+    ensures text { AddsText (O.outlet out.old).wrote (string_bytes held.old) result
+        (O.outlet out.new).wrote (string_bytes held.new) (media_text media.now) }
+    ensures cause { HasCauseOf ReportFault.Failed (O.outlet out.old).faults (O.outlet out.new).faults result }
 {
     for (place, medium) in media.iter().enumerate() {
         match pieces::add_made(

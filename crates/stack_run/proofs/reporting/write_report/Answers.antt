@@ -3,7 +3,7 @@ use Rattle.stack_run.proofs.Reported.{nothing-written, put-behind, head-front, r
 use Rattle.stack_run.proofs.reporting.write_report.Goals as goal
 
 pub returns-in-Err-clause-text : goal.returns-in-Err-clause-text
-returns-in-Err-clause-text g c = λ S geometry blocks ends. nothing-written (g.O.Sink.wrote c.args.out.now) _
+returns-in-Err-clause-text g c = λ S geometry blocks ends. nothing-written (g.O.Sink.outlet c.args.out.now).wrote _
 
 pub returns-in-Err-report_head-clause-text : goal.returns-in-Err-report_head-clause-text
 returns-in-Err-report_head-clause-text g c =
@@ -18,4 +18,4 @@ returns-clause-text g c =
     let body = rw (c.deref.ensures.value, c.deref-2.ensures.value, c.in-Ok.ensures, c.as_slice-blocks.ensures.value) at c.report_body.ensures.text in
     λ S geometry blocks ends.
     rw (report-parts c.args.number c.args.plan.now S c.args.run.now.blocks.items (get_or c.args.run.now.blocks.items 0 0) _ _ geometry blocks (first-blocks S c.args.run.now.blocks.items 0 blocks (omega (arith, c.requires.run.count))))
-    (put-behind (g.O.Sink.wrote c.args.out.now) (g.O.Sink.wrote c.report_head.new.out) (g.O.Sink.wrote c.report_body.new.out) _ _ c.report_body.result head (body S (per-is c.args.plan.now S geometry) ends))
+    (put-behind (g.O.Sink.outlet c.args.out.now).wrote (g.O.Sink.outlet c.report_head.new.out).wrote (g.O.Sink.outlet c.report_body.new.out).wrote _ _ c.report_body.result head (body S (per-is c.args.plan.now S geometry) ends))

@@ -5,6 +5,6 @@ use Rattle.script_text.proofs.report.writer.add_media.Given as goal
 
 abbrev pub invariant-loop-place : goal.invariant-loop-place
 invariant-loop-place g l = record {
-  added : HasAdded medium_text 1 l.media l.place (g.O.Sink.wrote l.initial.out) (g.O.Sink.wrote l.out) (string_bytes l.initial.held) (string_bytes l.held);
-  quiet : g.O.Sink.faults l.out ≡ g.O.Sink.faults l.initial.out;
+  added : HasAdded medium_text 1 l.media l.place (g.O.Sink.outlet l.initial.out).wrote (g.O.Sink.outlet l.out).wrote (string_bytes l.initial.held) (string_bytes l.held);
+  quiet : (g.O.Sink.outlet l.out).faults ≡ (g.O.Sink.outlet l.initial.out).faults;
 }

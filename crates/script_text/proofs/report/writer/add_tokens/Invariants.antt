@@ -5,6 +5,6 @@ use Rattle.script_text.proofs.report.writer.add_tokens.Given as goal
 
 abbrev pub invariant-loop-token : goal.invariant-loop-token
 invariant-loop-token g l = record {
-  added : HasAdded (λ t end. end_text t (is_tagged l.tagged t) end) 0 l.ends l.token (g.O.Sink.wrote l.initial.out) (g.O.Sink.wrote l.out) (string_bytes l.initial.held) (string_bytes l.held);
-  quiet : g.O.Sink.faults l.out ≡ g.O.Sink.faults l.initial.out;
+  added : HasAdded (λ t end. end_text t (is_tagged l.tagged t) end) 0 l.ends l.token (g.O.Sink.outlet l.initial.out).wrote (g.O.Sink.outlet l.out).wrote (string_bytes l.initial.held) (string_bytes l.held);
+  quiet : (g.O.Sink.outlet l.out).faults ≡ (g.O.Sink.outlet l.initial.out).faults;
 }
