@@ -3,9 +3,9 @@ use Rattle.std.proofs.Common.{◌≡◌, ℕ, zero, suc, ◌+◌, ◌-◌, ◌<�
 use Rattle.std.specs.List.{refill, length_refill, list_any}
 use Rattle.std.proofs.lemmas.Bool.{cases_eq, cases_Bool, or_cases, or_right, and_right, eqb-true, ne_eqb, false_from_ne_true}
 use Rattle.std.proofs.lemmas.List.{length-set, get_or-set_same, set-get_or, length-replicate, get_or-replicate, length-drop}
-use Rattle.index_links.specs.Lists.{LinkedLists, list_at, is_among, is_listed, pushed, unlinked, AreApart}
+use Rattle.index_links.specs.Lists.{LinkedLists, list_at, is_among, is_listed, with_node_at_end, without_node, AreApart}
 use Rattle.index_links.proofs.LinkedListsLemmas.{among-at, among-append, listed-in, list-exists}
-use Rattle.block_gate.specs.Gates.{Gate, Gates, gate_of, is_block_held, is_lent, is_out, is_ours, holding, lending, releasing, taking, refitted, filled, idle_gates}
+use Rattle.block_gate.specs.Gates.{Gate, Gates, gate_of, is_block_held, is_lent, is_out, is_ours, with_gate, with_work_out, without_hold, with_work_back, with_new_sets, with_copy, idle_gates}
 use Rattle.block_gate.specs.Works.{Lent}
 use Rattle.block_gate.specs.Sets.{gate_at, gates_in, tickets_in, gates_of, is_so, AreSets}
 use Rattle.block_gate.proofs.Moves.{gate-here, gate-other}
@@ -22,7 +22,7 @@ free-set sets L size n old among = ap not (old.free_in n among)
 -- a set was given the block and the ticket, and its copy filled
 pub record HoldsSo (sets : List Gate) (L : LinkedLists) (size : ℕ) (now : Gates) (after : List Gate) (M : LinkedLists) (b t : ℕ) (copy : List ℕ) : Type 0 where
   pub ordered : AreSets after M size
-  pub shown : gates_of after M size ≡ holding now b t copy
+  pub shown : gates_of after M size ≡ with_gate now b t copy
 
 -- the set that was given them, as it is read again
 pub mid-read : (sets : List Gate) (n : ℕ) (mid second : Gate) → n < length sets → second ≡ get_or (set sets n mid) n second → second ≡ mid
@@ -38,11 +38,11 @@ copy-long sets L size n b t was mid old among read mid-is =
     ap (λ (g : Gate). length g.copy) mid-is ∙ ap (λ (g : Gate). length g.copy) here ∙ old.long n (inside-of sets L size 0 n old among)
 
 pub holds-so : (sets : List Gate) (L M : LinkedLists) (size n b t : ℕ) (now : Gates) (was mid : Gate) (w : List ℕ) → AreSets sets L size → gates_of sets L size ≡ now →
-    slice_get (list_at L 0) 0 ≡ Some n → M ≡ pushed (unlinked L n) 1 n → AreApart M →
+    slice_get (list_at L 0) 0 ≡ Some n → M ≡ with_node_at_end (without_node L n) 1 n → AreApart M →
     is_block_held now.held b ≡ false → gate_of now.held t ≡ None → is_among now.gone t ≡ false →
     was ≡ get_or sets n was → mid ≡ record { ticket = t; block = b; out = was.out; copy = was.copy } →
-    HoldsSo sets L size now (set (set sets n mid) n (filled mid w)) M b t (refill (length mid.copy) mid.copy w)
-unfolding filled
+    HoldsSo sets L size now (set (set sets n mid) n (with_copy mid w)) M b t (refill (length mid.copy) mid.copy w)
+unfolding with_copy
 holds-so sets L M size n b t now was mid w old is first link apart unheld fresh unknown read mid-is =
     let among : is_among (list_at L 0) n ≡ true = first-free L n first in
     let inside : n < length sets = inside-of sets L size 0 n old among in
@@ -51,12 +51,12 @@ holds-so sets L M size n b t now was mid w old is first link apart unheld fresh 
     let ticket : mid.ticket ≡ t = ap (λ (g : Gate). g.ticket) mid-is in
     let block : mid.block ≡ b = ap (λ (g : Gate). g.block) mid-is in
     let copy : List ℕ = refill (length mid.copy) mid.copy w in
-    let after : List Gate = set (set sets n mid) n (filled mid w) in
+    let after : List Gate = set (set sets n mid) n (with_copy mid w) in
     let kept : IsKept sets after n = record {
-      long = length-set (set sets n mid) n (filled mid w) ∙ length-set sets n mid;
-      same = λ m other. gate-other (set sets n mid) n m (filled mid w) other ∙ gate-other sets n m mid other;
+      long = length-set (set sets n mid) n (with_copy mid w) ∙ length-set sets n mid;
+      same = λ m other. gate-other (set sets n mid) n m (with_copy mid w) other ∙ gate-other sets n m mid other;
     } in
-    let set-is : gate_at after n ≡ filled mid w = gate-here (set sets n mid) n (filled mid w) (omega (arith, length-set sets n mid)) in
+    let set-is : gate_at after n ≡ with_copy mid w = gate-here (set sets n mid) n (with_copy mid w) (omega (arith, length-set sets n mid)) in
     let move : IsMove L M n 0 1 = relinked L M n 0 1 old.apart apart (omega (arith, old.lists)) among (λ one. omega arith) link in
     let long : length copy ≡ size = sym (length_refill (length mid.copy) mid.copy w refl) ∙ copy-long sets L size n b t was mid old among read mid-is in
     let fits : Fits sets L size (gate_at after n) n 1 =
@@ -68,7 +68,7 @@ holds-so sets L M size n b t now was mid w old is first link apart unheld fresh 
       shown = shows-held sets after L M size n b t copy old among move kept
           (set-is ∙ ap (λ u. record { ticket = u; block = mid.block; out = mid.out; copy = copy }) ticket ∙ ap (λ u. record { ticket = t; block = u; out = mid.out; copy = copy }) block
           ∙ ap (λ u. record { ticket = t; block = b; out = u; copy = copy }) out)
-          ∙ ap (λ g. holding g b t copy) is;
+          ∙ ap (λ g. with_gate g b t copy) is;
     }
 
 -- ---- lend, and a work of a gate that comes back
@@ -83,21 +83,21 @@ turned-set sets L size n out was new old among read is =
     ap (set sets n) (is ∙ ap (λ (g : Gate). record g { out = out }) (read-set sets L size 1 n was old among read))
 
 pub lends-so : (sets : List Gate) (L : LinkedLists) (size n t : ℕ) (now : Gates) (was new : Gate) → AreSets sets L size → gates_of sets L size ≡ now → is_among (list_at L 1) n ≡ true →
-    (gate_at sets n).ticket ≡ t → was ≡ get_or sets n was → new ≡ record was { out = true } → TurnsSo (set sets n new) L size (lending now t)
+    (gate_at sets n).ticket ≡ t → was ≡ get_or sets n was → new ≡ record was { out = true } → TurnsSo (set sets n new) L size (with_work_out now t)
 lends-so sets L size n t now was new old is among has read new-is =
     let same : set sets n new ≡ set sets n (record (gate_at sets n) { out = true }) = turned-set sets L size n true was new old among read new-is in
     record {
       ordered = subst (λ ss. AreSets ss L size) (sym same) (sets-turned sets L size n true old among);
-      shows = ap (λ ss. gates_of ss L size) same ∙ shows-lent sets L size n t old among has ∙ ap (λ g. lending g t) is;
+      shows = ap (λ ss. gates_of ss L size) same ∙ shows-lent sets L size n t old among has ∙ ap (λ g. with_work_out g t) is;
     }
 
 pub in-so : (sets : List Gate) (L : LinkedLists) (size n t : ℕ) (now : Gates) (was new : Gate) → AreSets sets L size → gates_of sets L size ≡ now → is_among (list_at L 1) n ≡ true →
-    (gate_at sets n).ticket ≡ t → was ≡ get_or sets n was → new ≡ record was { out = false } → TurnsSo (set sets n new) L size (taking now t)
+    (gate_at sets n).ticket ≡ t → was ≡ get_or sets n was → new ≡ record was { out = false } → TurnsSo (set sets n new) L size (with_work_back now t)
 in-so sets L size n t now was new old is among has read new-is =
     let same : set sets n new ≡ set sets n (record (gate_at sets n) { out = false }) = turned-set sets L size n false was new old among read new-is in
     record {
       ordered = subst (λ ss. AreSets ss L size) (sym same) (sets-turned sets L size n false old among);
-      shows = ap (λ ss. gates_of ss L size) same ∙ shows-in sets L size n t old among has ∙ ap (λ g. taking g t) is;
+      shows = ap (λ ss. gates_of ss L size) same ∙ shows-in sets L size n t old among has ∙ ap (λ g. with_work_back g t) is;
     }
 
 -- ---- a set whose ticket is revoked
@@ -112,29 +112,29 @@ freed-fits sets L size n was new old among read new-is =
     (ap (λ (g : Gate). g.out) here)
 
 pub home-so : (sets : List Gate) (L M : LinkedLists) (size n t : ℕ) (now : Gates) (was new : Gate) → AreSets sets L size → gates_of sets L size ≡ now → is_among (list_at L 2) n ≡ true →
-    (gate_at sets n).ticket ≡ t → was ≡ get_or sets n was → new ≡ record was { out = false } → M ≡ pushed (unlinked L n) 0 n → AreApart M → TurnsSo (set sets n new) M size (taking now t)
+    (gate_at sets n).ticket ≡ t → was ≡ get_or sets n was → new ≡ record was { out = false } → M ≡ with_node_at_end (without_node L n) 0 n → AreApart M → TurnsSo (set sets n new) M size (with_work_back now t)
 home-so sets L M size n t now was new old is among has read new-is link apart =
     let move : IsMove L M n 2 0 = relinked L M n 2 0 old.apart apart (omega (arith, old.lists)) among (λ one. omega arith) link in
     record {
       ordered = sets-moved sets (set sets n new) L M size n 2 0 old among (λ one. omega arith) move (kept-set sets n new) (freed-fits sets L size n was new old among read new-is);
-      shows = shows-home sets (set sets n new) L M size n t old among has move (kept-set sets n new) ∙ ap (λ g. taking g t) is;
+      shows = shows-home sets (set sets n new) L M size n t old among has move (kept-set sets n new) ∙ ap (λ g. with_work_back g t) is;
     }
 
 pub refits-so : (sets : List Gate) (L M : LinkedLists) (size n : ℕ) (now : Gates) (was new : Gate) → AreSets sets L size → gates_of sets L size ≡ now → slice_get (list_at L 2) 0 ≡ Some n →
-    was ≡ get_or sets n was → new ≡ record was { out = false } → M ≡ pushed (unlinked L n) 0 n → AreApart M → TurnsSo (set sets n new) M size (refitted now 1)
+    was ≡ get_or sets n was → new ≡ record was { out = false } → M ≡ with_node_at_end (without_node L n) 0 n → AreApart M → TurnsSo (set sets n new) M size (with_new_sets now 1)
 refits-so sets L M size n now was new old is first read new-is link apart =
     let among : is_among (list_at L 2) n ≡ true = among-at (list_at L 2) 0 n first in
     let move : IsMove L M n 2 0 = relinked L M n 2 0 old.apart apart (omega (arith, old.lists)) among (λ one. omega arith) link in
     record {
       ordered = sets-moved sets (set sets n new) L M size n 2 0 old among (λ one. omega arith) move (kept-set sets n new) (freed-fits sets L size n was new old among read new-is);
-      shows = shows-refitted sets (set sets n new) L M size n old first move (kept-set sets n new) ∙ ap (λ g. refitted g 1) is;
+      shows = shows-refitted sets (set sets n new) L M size n old first move (kept-set sets n new) ∙ ap (λ g. with_new_sets g 1) is;
     }
 
 -- ---- release
 
 pub released-so : (sets : List Gate) (L M : LinkedLists) (size n t b : ℕ) (now : Gates) (was : Gate) → AreSets sets L size → gates_of sets L size ≡ now → is_among (list_at L 1) n ≡ true →
     gate_of (gates_in sets (list_at L 1)) t ≡ Some (gate_at sets n) → (gate_at sets n).ticket ≡ t → was ≡ get_or sets n was → b ≡ cond was.out 2 0 →
-    M ≡ pushed (unlinked L n) b n → AreApart M → TurnsSo sets M size (releasing now t)
+    M ≡ with_node_at_end (without_node L n) b n → AreApart M → TurnsSo sets M size (without_hold now t)
 released-so sets L M size n t b now was old is among gate has read to link apart =
     let here : was ≡ gate_at sets n = read-set sets L size 1 n was old among read in
     let to' : b ≡ cond (gate_at sets n).out 2 0 = to ∙ ap (λ (g : Gate). cond g.out 2 0) here in
@@ -153,7 +153,7 @@ released-so sets L M size n t b now was old is among gate has read to link apart
     let move : IsMove L M n 1 b = relinked L M n 1 b old.apart apart (omega (arith, old.lists, fits.0)) among fits.1 link in
     record {
       ordered = sets-moved sets sets L M size n 1 b old among fits.1 move (kept-all sets n) fits.2;
-      shows = shows-released sets L M size n t b old among gate has to' move ∙ ap (λ g. releasing g t) is;
+      shows = shows-released sets L M size n t b old among gate has to' move ∙ ap (λ g. without_hold g t) is;
     }
 
 -- ---- whose a work is
@@ -176,9 +176,9 @@ not-out now w t same gone lent = rw (sym same, gone, lent) refl
 
 -- ---- refit
 
-pub refitted-none : (s : Gates) → s ≡ refitted s 0
-unfolding refitted
-refitted-none s = gates-eq s (refitted s 0) refl refl refl (omega arith)
+pub refitted-none : (s : Gates) → s ≡ with_new_sets s 0
+unfolding with_new_sets
+refitted-none s = gates-eq s (with_new_sets s 0) refl refl refl (omega arith)
 
 sum-one : (k : ℕ) → suc k + 1 ≡ suc (k + 1)
 sum-one k = omega arith
@@ -189,24 +189,24 @@ drop-more [] (suc k) = rw (sum-one k) refl
 drop-more (x ∷ xs) zero = refl
 drop-more (x ∷ xs) (suc k) = rw (sum-one k) (drop-more xs k)
 
-pub refitted-more : (s : Gates) (k : ℕ) → refitted (refitted s k) 1 ≡ refitted s (k + 1)
-unfolding refitted
-refitted-more s k = gates-eq (refitted (refitted s k) 1) (refitted s (k + 1)) refl refl (drop-more s.gone k) (omega arith)
+pub refitted-more : (s : Gates) (k : ℕ) → with_new_sets (with_new_sets s k) 1 ≡ with_new_sets s (k + 1)
+unfolding with_new_sets
+refitted-more s k = gates-eq (with_new_sets (with_new_sets s k) 1) (with_new_sets s (k + 1)) refl refl (drop-more s.gone k) (omega arith)
 
 -- how many revoked tickets are left
-pub gone-left : (sets : List Gate) (L : LinkedLists) (size k : ℕ) (now : Gates) → gates_of sets L size ≡ refitted now k → length (list_at L 2) ≡ length now.gone - k
-unfolding refitted
-gone-left sets L size k now is = sym (tickets-long sets (list_at L 2)) ∙ ap length (gone-is sets L size (refitted now k) is) ∙ length-drop k now.gone
+pub gone-left : (sets : List Gate) (L : LinkedLists) (size k : ℕ) (now : Gates) → gates_of sets L size ≡ with_new_sets now k → length (list_at L 2) ≡ length now.gone - k
+unfolding with_new_sets
+gone-left sets L size k now is = sym (tickets-long sets (list_at L 2)) ∙ ap length (gone-is sets L size (with_new_sets now k) is) ∙ length-drop k now.gone
 
 pub gone-few : (sets : List Gate) (L : LinkedLists) (size : ℕ) (now : Gates) → AreSets sets L size → gates_of sets L size ≡ now → length now.gone ≤ length sets
 gone-few sets L size now old is =
     omega (arith, list-short L 2 old.apart, old.nodes, sym (tickets-long sets (list_at L 2)) ∙ ap length (gone-is sets L size now is))
 
-pub left-after : (now : Gates) (k : ℕ) → k ≤ length now.gone → refitted now k ≡ refitted now (length now.gone - length (refitted now k).gone)
-unfolding refitted
+pub left-after : (now : Gates) (k : ℕ) → k ≤ length now.gone → with_new_sets now k ≡ with_new_sets now (length now.gone - length (with_new_sets now k).gone)
+unfolding with_new_sets
 left-after now k fits =
     let left : length now.gone - length (drop k now.gone) ≡ k = omega (arith, length-drop k now.gone) in
-    ap (refitted now) (sym left)
+    ap (with_new_sets now) (sym left)
 
 pub none-first : (xs : List ℕ) → slice_get xs 0 ≡ None → length xs ≡ 0
 none-first [] is = refl

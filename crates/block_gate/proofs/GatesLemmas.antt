@@ -2,7 +2,7 @@
 use Rattle.std.proofs.Common.{◌≡◌, ℕ, Bool, true, false, cond, List, [], ◌∷◌, ◌++◌, Option, None, Some, option_map, eqb, inl, inr, eq-eqb, refl, sym, ◌∙◌, ap}
 use Rattle.std.specs.List.{list_any}
 use Rattle.std.proofs.lemmas.Bool.{cases_Bool, ne_eqb, eqb-true, or_left, or_right}
-use Rattle.block_gate.specs.Gates.{Gate, gate_of, is_block_held, lesser, least_ticket, without_ticket, turned}
+use Rattle.block_gate.specs.Gates.{Gate, gate_of, is_block_held, lesser, least_ticket, without_ticket, with_out}
 
 pub gate-new : (held : List Gate) (t : ℕ) (g : Gate) → gate_of held t ≡ None → g.ticket ≡ t → gate_of (held ++ g ∷ []) t ≡ Some g
 unfolding gate_of
@@ -17,13 +17,13 @@ unfolding gate_of
 gate-of-others [] t g other = rw (ne_eqb t g.ticket (λ is. other (sym is))) refl
 gate-of-others (h ∷ held) t g other = ap (cond (eqb t h.ticket) (Some h)) (gate-of-others held t g other)
 
-pub gate-turned : (held : List Gate) (t : ℕ) (out : Bool) → gate_of (turned t out held) t ≡ option_map (λ (g : Gate). record g { out = out }) (gate_of held t)
-unfolding gate_of turned
+pub gate-turned : (held : List Gate) (t : ℕ) (out : Bool) → gate_of (with_out t out held) t ≡ option_map (λ (g : Gate). record g { out = out }) (gate_of held t)
+unfolding gate_of with_out
 gate-turned [] t out = refl
 gate-turned (h ∷ held) t out = elim (cases_Bool (eqb t h.ticket)) [ inl here ↦ rw (here, here) refl | inr other ↦ rw (other, other) (gate-turned held t out) ]
 
-pub gate-turned-other : (held : List Gate) (t u : ℕ) (out : Bool) → (t ≡ u → ⊥) → gate_of (turned t out held) u ≡ gate_of held u
-unfolding gate_of turned
+pub gate-turned-other : (held : List Gate) (t u : ℕ) (out : Bool) → (t ≡ u → ⊥) → gate_of (with_out t out held) u ≡ gate_of held u
+unfolding gate_of with_out
 gate-turned-other [] t u out other = refl
 gate-turned-other (h ∷ held) t u out other = elim (cases_Bool (eqb t h.ticket)) [
   | inl here ↦

@@ -4,7 +4,7 @@ use Rattle.std.specs.List.{filter, list_any, AllByRecursion, IsDistinct}
 use Rattle.std.proofs.lemmas.Bool.{cases_eq, cases_Bool, ne_eqb, eqb-true, eqb-false, or_cases, or_left, or_right, or_parts}
 use Rattle.std.proofs.lemmas.List.{get_or-set_same, get_or-set_other}
 use Rattle.index_links.specs.Lists.{is_among, without}
-use Rattle.block_gate.specs.Gates.{Gate, gate_of, without_ticket, turned}
+use Rattle.block_gate.specs.Gates.{Gate, gate_of, without_ticket, with_out}
 use Rattle.block_gate.specs.Sets.{gate_at, gates_in, tickets_in}
 
 -- ---- lists of nodes
@@ -131,11 +131,11 @@ tickets-without sets (x ∷ xs) n t owner = elim (cases_Bool (eqb n x)) [
 
 -- the set's work goes out, or comes in
 pub gates-turned : (sets : List Gate) (xs : List ℕ) (n t : ℕ) (out : Bool) → n < length sets → IsOwner sets xs n t →
-    gates_in (set sets n (record (gate_at sets n) { out = out })) xs ≡ turned t out (gates_in sets xs)
-unfolding gates_in turned
+    gates_in (set sets n (record (gate_at sets n) { out = out })) xs ≡ with_out t out (gates_in sets xs)
+unfolding gates_in with_out
 gates-turned sets [] n t out there owner = refl
 gates-turned sets (x ∷ xs) n t out there owner =
-    let rest : gates_in (set sets n (record (gate_at sets n) { out = out })) xs ≡ turned t out (gates_in sets xs) = gates-turned sets xs n t out there (owner-rest sets x xs n t owner) in
+    let rest : gates_in (set sets n (record (gate_at sets n) { out = out })) xs ≡ with_out t out (gates_in sets xs) = gates-turned sets xs n t out there (owner-rest sets x xs n t owner) in
     elim (cases_eq n x) [
       | inl same ↦
           rw (sym (owner-test sets x xs n t owner) ∙ eq-eqb n x same)

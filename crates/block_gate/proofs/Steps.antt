@@ -2,7 +2,7 @@
 use Rattle.std.proofs.Common.{◌≡◌, ℕ, ◌<◌, Bool, true, false, ◌||◌, List, [], ◌∷◌, ◌++◌, length, set, Option, None, Some, eqb, inl, inr, ◌⊎◌, refl, sym, ◌∙◌, ap, subst, arith}
 use Rattle.std.proofs.lemmas.Bool.{cases_eq, or_cases, eqb-true, false_from_ne_true}
 use Rattle.std.proofs.lemmas.List.{length-set}
-use Rattle.index_links.specs.Lists.{LinkedLists, list_at, is_among, is_listed, without, pushed, unlinked, AreApart}
+use Rattle.index_links.specs.Lists.{LinkedLists, list_at, is_among, is_listed, without, with_node_at_end, without_node, AreApart}
 use Rattle.index_links.proofs.LinkedListsLemmas.{pushed-here, pushed-other, unlinked-at, long-unlinked, long-pushed, nodes-unlinked, nodes-pushed, among-append, listed-in}
 use Rattle.block_gate.specs.Gates.{Gate, gate_of, AreSound}
 use Rattle.block_gate.specs.Sets.{gate_at, gates_in, gates_of, AreSets}
@@ -22,22 +22,22 @@ pub record IsMove (L M : LinkedLists) (n a b : ℕ) : Type 0 where
 pub absent : (L : LinkedLists) (n a c : ℕ) → AreApart L → is_among (list_at L a) n ≡ true → (c ≡ a → ⊥) → is_among (list_at L c) n ≡ false
 absent L n a c apart among other = false_from_ne_true (is_among (list_at L c) n) (λ also. other (apart.alone c a n also among))
 
-pub relinked : (L M : LinkedLists) (n a b : ℕ) → AreApart L → AreApart M → b < length L.lists → is_among (list_at L a) n ≡ true → (b ≡ a → ⊥) → M ≡ pushed (unlinked L n) b n → IsMove L M n a b
+pub relinked : (L M : LinkedLists) (n a b : ℕ) → AreApart L → AreApart M → b < length L.lists → is_among (list_at L a) n ≡ true → (b ≡ a → ⊥) → M ≡ with_node_at_end (without_node L n) b n → IsMove L M n a b
 relinked L M n a b apart after there among differ is = record {
-  nodes = ap (λ s. s.nodes) is ∙ nodes-pushed (unlinked L n) b n ∙ nodes-unlinked L n;
-  lists = ap (λ s. length s.lists) is ∙ long-pushed (unlinked L n) b n ∙ long-unlinked L n;
+  nodes = ap (λ s. s.nodes) is ∙ nodes-pushed (without_node L n) b n ∙ nodes-unlinked L n;
+  lists = ap (λ s. length s.lists) is ∙ long-pushed (without_node L n) b n ∙ long-unlinked L n;
   apart = after;
-  there = ap (λ s. list_at s b) is ∙ pushed-here (unlinked L n) b n (rw long-unlinked there)
+  there = ap (λ s. list_at s b) is ∙ pushed-here (without_node L n) b n (rw long-unlinked there)
       ∙ ap (λ xs. xs ++ n ∷ []) (unlinked-at L n b ∙ without-absent n (list_at L b) (absent L n a b apart among differ));
-  left = ap (λ s. list_at s a) is ∙ pushed-other (unlinked L n) b n a (λ same. differ (sym same)) ∙ unlinked-at L n a;
-  others = λ c not-a not-b. ap (λ s. list_at s c) is ∙ pushed-other (unlinked L n) b n c not-b ∙ unlinked-at L n c
+  left = ap (λ s. list_at s a) is ∙ pushed-other (without_node L n) b n a (λ same. differ (sym same)) ∙ unlinked-at L n a;
+  others = λ c not-a not-b. ap (λ s. list_at s c) is ∙ pushed-other (without_node L n) b n c not-b ∙ unlinked-at L n c
       ∙ without-absent n (list_at L c) (absent L n a c apart among not-a);
 }
 
 -- a node that was taken out is in no list
-pub unlisted : (L : LinkedLists) (n : ℕ) → is_listed (unlinked L n) n ≡ false
-unlisted L n = false_from_ne_true (is_listed (unlinked L n) n) (λ listed.
-    let (l, inside, among) = listed-in (unlinked L n) n listed in
+pub unlisted : (L : LinkedLists) (n : ℕ) → is_listed (without_node L n) n ≡ false
+unlisted L n = false_from_ne_true (is_listed (without_node L n) n) (λ listed.
+    let (l, inside, among) = listed-in (without_node L n) n listed in
     (among-from_without n n (list_at L l) (subst (λ xs. is_among xs n ≡ true) (unlinked-at L n l) among)).0 refl)
 
 members : (L M : LinkedLists) (n a b : ℕ) → AreApart L → is_among (list_at L a) n ≡ true → (b ≡ a → ⊥) → IsMove L M n a b →

@@ -5,7 +5,7 @@ use Rattle.std.proofs.lemmas.Bool.{cases_eq, cases_Bool, or_cases, or_parts, eqb
 use Rattle.std.proofs.lemmas.List.{length-append}
 use Rattle.index_links.specs.Lists.{LinkedLists, list_at, is_among, without, AreApart}
 use Rattle.index_links.proofs.LinkedListsLemmas.{among-at, list-exists}
-use Rattle.block_gate.specs.Gates.{Gate, Gates, gate_of, is_block_held, turned, is_lent, holding, lending, releasing, taking, refitted}
+use Rattle.block_gate.specs.Gates.{Gate, Gates, gate_of, is_block_held, with_out, is_lent, with_gate, with_work_out, without_hold, with_work_back, with_new_sets}
 use Rattle.block_gate.specs.Sets.{gate_at, gates_in, tickets_in, gates_of, AreSets}
 use Rattle.block_gate.proofs.Moves.{without-absent, among-from_without, length-without, without-first, gates-same, tickets-same, gates-append, tickets-append, IsOwner, gates-without, tickets-without, gates-turned, gate-absent, ticket-found, ticket-among}
 use Rattle.block_gate.proofs.Steps.{IsMove, IsKept, kept-set, Fits}
@@ -67,10 +67,10 @@ fits-new sets L size n b t g old among unheld fresh unknown long ticket block = 
 }
 
 pub shows-held : (sets after : List Gate) (L M : LinkedLists) (size n b t : ℕ) (copy : List ℕ) → AreSets sets L size → is_among (list_at L 0) n ≡ true → IsMove L M n 0 1 → IsKept sets after n →
-    gate_at after n ≡ record { ticket = t; block = b; out = false; copy = copy } → gates_of after M size ≡ holding (gates_of sets L size) b t copy
-unfolding gates_of holding
+    gate_at after n ≡ record { ticket = t; block = b; out = false; copy = copy } → gates_of after M size ≡ with_gate (gates_of sets L size) b t copy
+unfolding gates_of with_gate
 shows-held sets after L M size n b t copy old among move kept is =
-    gates-eq (gates_of after M size) (holding (gates_of sets L size) b t copy) refl
+    gates-eq (gates_of after M size) (with_gate (gates_of sets L size) b t copy) refl
     (ap (gates_in after) move.there ∙ gates-append after (list_at L 1) n ∙ ap (λ gs. gs ++ gate_at after n ∷ []) (same-gates sets after L n 0 1 old.apart among (λ is. omega arith) kept)
     ∙ ap (λ g. gates_in sets (list_at L 1) ++ g ∷ []) is)
     (ap (tickets_in after) (move.others 2 (λ is. omega arith) (λ is. omega arith)) ∙ same-tickets sets after L n 0 2 old.apart among (λ is. omega arith) kept)
@@ -79,18 +79,18 @@ shows-held sets after L M size n b t copy old among move kept is =
 -- ---- lend, and a work of a gate that comes back
 
 pub shows-turned : (sets : List Gate) (L : LinkedLists) (size n t : ℕ) (out : Bool) → AreSets sets L size → is_among (list_at L 1) n ≡ true → (gate_at sets n).ticket ≡ t →
-    gates_of (set sets n (record (gate_at sets n) { out = out })) L size ≡ record (gates_of sets L size) { held = turned t out (gates_of sets L size).held }
+    gates_of (set sets n (record (gate_at sets n) { out = out })) L size ≡ record (gates_of sets L size) { held = with_out t out (gates_of sets L size).held }
 unfolding gates_of
 shows-turned sets L size n t out old among has =
     let after : List Gate = set sets n (record (gate_at sets n) { out = out }) in
-    gates-eq (gates_of after L size) (record (gates_of sets L size) { held = turned t out (gates_of sets L size).held }) refl
+    gates-eq (gates_of after L size) (record (gates_of sets L size) { held = with_out t out (gates_of sets L size).held }) refl
     (gates-turned sets (list_at L 1) n t out (inside-of sets L size 1 n old among) (owner-of sets L size 1 n t old (omega arith) among has))
     (same-tickets sets after L n 1 2 old.apart among (λ is. omega arith) (kept-set sets n (record (gate_at sets n) { out = out })))
     refl
 
 pub shows-lent : (sets : List Gate) (L : LinkedLists) (size n t : ℕ) → AreSets sets L size → is_among (list_at L 1) n ≡ true → (gate_at sets n).ticket ≡ t →
-    gates_of (set sets n (record (gate_at sets n) { out = true })) L size ≡ lending (gates_of sets L size) t
-unfolding lending
+    gates_of (set sets n (record (gate_at sets n) { out = true })) L size ≡ with_work_out (gates_of sets L size) t
+unfolding with_work_out
 shows-lent sets L size n t old among has = shows-turned sets L size n t true old among has
 
 -- a held ticket is not a revoked one
@@ -102,12 +102,12 @@ not-gone sets L size n t old among has = false_from_ne_true (is_among (tickets_i
     omega arith)
 
 pub shows-in : (sets : List Gate) (L : LinkedLists) (size n t : ℕ) → AreSets sets L size → is_among (list_at L 1) n ≡ true → (gate_at sets n).ticket ≡ t →
-    gates_of (set sets n (record (gate_at sets n) { out = false })) L size ≡ taking (gates_of sets L size) t
-unfolding taking gates_of
+    gates_of (set sets n (record (gate_at sets n) { out = false })) L size ≡ with_work_back (gates_of sets L size) t
+unfolding with_work_back gates_of
 shows-in sets L size n t old among has =
     let none : is_among (tickets_in sets (list_at L 2)) t ≡ false = not-gone sets L size n t old among has in
     shows-turned sets L size n t false old among has
-    ∙ gates-eq (record (gates_of sets L size) { held = turned t false (gates_of sets L size).held }) (taking (gates_of sets L size) t) refl
+    ∙ gates-eq (record (gates_of sets L size) { held = with_out t false (gates_of sets L size).held }) (with_work_back (gates_of sets L size) t) refl
     (rw none refl) (sym (without-absent t (tickets_in sets (list_at L 2)) none)) (rw none refl)
 
 -- ---- a work of a revoked ticket that comes back, and new buffers
@@ -131,21 +131,21 @@ shows-freed sets after L M size n old among move kept =
     (ap length move.there ∙ append-long (list_at L 0) n)
 
 pub shows-home : (sets after : List Gate) (L M : LinkedLists) (size n t : ℕ) → AreSets sets L size → is_among (list_at L 2) n ≡ true → (gate_at sets n).ticket ≡ t → IsMove L M n 2 0 → IsKept sets after n →
-    gates_of after M size ≡ taking (gates_of sets L size) t
-unfolding gates_of taking
+    gates_of after M size ≡ with_work_back (gates_of sets L size) t
+unfolding gates_of with_work_back
 shows-home sets after L M size n t old among has move kept =
     let gone : is_among (tickets_in sets (list_at L 2)) t ≡ true = subst (λ u. is_among (tickets_in sets (list_at L 2)) u ≡ true) has (ticket-among sets (list_at L 2) n among) in
     shows-freed sets after L M size n old among move kept
-    ∙ gates-eq (record { size = size; held = gates_in sets (list_at L 1); gone = tickets_in sets (without n (list_at L 2)); free = length (list_at L 0) + 1 }) (taking (gates_of sets L size) t) refl
+    ∙ gates-eq (record { size = size; held = gates_in sets (list_at L 1); gone = tickets_in sets (without n (list_at L 2)); free = length (list_at L 0) + 1 }) (with_work_back (gates_of sets L size) t) refl
     (rw gone refl) (tickets-without sets (list_at L 2) n t (owner-of sets L size 2 n t old (omega arith) among has)) (rw gone refl)
 
 pub shows-refitted : (sets after : List Gate) (L M : LinkedLists) (size n : ℕ) → AreSets sets L size → slice_get (list_at L 2) 0 ≡ Some n → IsMove L M n 2 0 → IsKept sets after n →
-    gates_of after M size ≡ refitted (gates_of sets L size) 1
-unfolding gates_of refitted tickets_in
+    gates_of after M size ≡ with_new_sets (gates_of sets L size) 1
+unfolding gates_of with_new_sets tickets_in
 shows-refitted sets after L M size n old first move kept =
     let rest : (xs : List ℕ) → drop 1 (map (λ m. (gate_at sets m).ticket) xs) ≡ map (λ m. (gate_at sets m).ticket) (drop 1 xs) = map-rest (λ m. (gate_at sets m).ticket) in
     shows-freed sets after L M size n old (among-at (list_at L 2) 0 n first) move kept
-    ∙ gates-eq (record { size = size; held = gates_in sets (list_at L 1); gone = tickets_in sets (without n (list_at L 2)); free = length (list_at L 0) + 1 }) (refitted (gates_of sets L size) 1) refl
+    ∙ gates-eq (record { size = size; held = gates_in sets (list_at L 1); gone = tickets_in sets (without n (list_at L 2)); free = length (list_at L 0) + 1 }) (with_new_sets (gates_of sets L size) 1) refl
     refl (ap (tickets_in sets) (without-first n (list_at L 2) (old.apart.distinct 2) first) ∙ sym (rest (list_at L 2))) refl
   where
     map-rest : {A B : Type 0} (f : A → B) (xs : List A) → drop 1 (map f xs) ≡ map f (drop 1 xs)
@@ -164,13 +164,13 @@ fits-gone sets L size n old among out = record {
 }
 
 pub shows-released : (sets : List Gate) (L M : LinkedLists) (size n t b : ℕ) → AreSets sets L size → is_among (list_at L 1) n ≡ true → gate_of (gates_in sets (list_at L 1)) t ≡ Some (gate_at sets n) →
-    (gate_at sets n).ticket ≡ t → b ≡ cond (gate_at sets n).out 2 0 → IsMove L M n 1 b → gates_of sets M size ≡ releasing (gates_of sets L size) t
-unfolding gates_of releasing is_lent
+    (gate_at sets n).ticket ≡ t → b ≡ cond (gate_at sets n).out 2 0 → IsMove L M n 1 b → gates_of sets M size ≡ without_hold (gates_of sets L size) t
+unfolding gates_of without_hold is_lent
 shows-released sets L M size n t b old among gate has to move = elim (cases_Bool (gate_at sets n).out) [
   | inl out ↦
       let two : b ≡ 2 = to ∙ ap (λ o. cond o 2 0) out in
       let lent : is_lent (gate_of (gates_in sets (list_at L 1)) t) ≡ true = ap is_lent gate ∙ out in
-      gates-eq (gates_of sets M size) (releasing (gates_of sets L size) t) refl
+      gates-eq (gates_of sets M size) (without_hold (gates_of sets L size) t) refl
       (ap (gates_in sets) move.left ∙ gates-without sets (list_at L 1) n t (owner-of sets L size 1 n t old (omega arith) among has))
       (rw lent (ap (tickets_in sets) (ap (list_at M) (sym two) ∙ move.there ∙ ap (λ c. list_at L c ++ n ∷ []) two) ∙ tickets-append sets (list_at L 2) n
       ∙ ap (λ u. tickets_in sets (list_at L 2) ++ u ∷ []) has))
@@ -178,7 +178,7 @@ shows-released sets L M size n t b old among gate has to move = elim (cases_Bool
   | inr inside ↦
       let none : b ≡ 0 = to ∙ ap (λ o. cond o 2 0) inside in
       let kept : is_lent (gate_of (gates_in sets (list_at L 1)) t) ≡ false = ap is_lent gate ∙ inside in
-      gates-eq (gates_of sets M size) (releasing (gates_of sets L size) t) refl
+      gates-eq (gates_of sets M size) (without_hold (gates_of sets L size) t) refl
       (ap (gates_in sets) move.left ∙ gates-without sets (list_at L 1) n t (owner-of sets L size 1 n t old (omega arith) among has))
       (rw kept (ap (tickets_in sets) (move.others 2 (λ is. omega arith) (λ is. omega (arith, none)))))
       (rw kept (ap length (ap (list_at M) (sym none) ∙ move.there ∙ ap (λ c. list_at L c ++ n ∷ []) none) ∙ append-long (list_at L 0) n))

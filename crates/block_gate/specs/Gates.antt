@@ -45,8 +45,8 @@ unfoldable pub without_ticket : ℕ → List Gate → List Gate
 without_ticket t held = filter (λ g. not (eqb t g.ticket)) held
 
 -- the gates, with the work of ticket t out or in
-unfoldable pub turned : ℕ → Bool → List Gate → List Gate
-turned t out held = map (λ g. cond (eqb t g.ticket) (record g { out = out }) g) held
+unfoldable pub with_out : ℕ → Bool → List Gate → List Gate
+with_out t out held = map (λ g. cond (eqb t g.ticket) (record g { out = out }) g) held
 
 -- whether the work of a gate is out
 unfoldable pub is_lent : Option Gate → Bool
@@ -70,8 +70,8 @@ unfoldable pub idle_gates : ℕ → ℕ → Gates
 idle_gates sets size = record { size = size; held = []; gone = []; free = sets }
 
 -- a block is held by a ticket, with this copy
-unfoldable pub holding : Gates → ℕ → ℕ → List ℕ → Gates
-holding s block ticket copy = record {
+unfoldable pub with_gate : Gates → ℕ → ℕ → List ℕ → Gates
+with_gate s block ticket copy = record {
   size = s.size;
   held = s.held ++ record { ticket = ticket; block = block; out = false; copy = copy } ∷ [];
   gone = s.gone;
@@ -79,12 +79,12 @@ holding s block ticket copy = record {
 }
 
 -- the work of a ticket goes out
-unfoldable pub lending : Gates → ℕ → Gates
-lending s t = record { size = s.size; held = turned t true s.held; gone = s.gone; free = s.free }
+unfoldable pub with_work_out : Gates → ℕ → Gates
+with_work_out s t = record { size = s.size; held = with_out t true s.held; gone = s.gone; free = s.free }
 
 -- a ticket holds no gate any more: its set is free, or the ticket is revoked while its work is out
-unfoldable pub releasing : Gates → ℕ → Gates
-releasing s t = record {
+unfoldable pub without_hold : Gates → ℕ → Gates
+without_hold s t = record {
   size = s.size;
   held = without_ticket t s.held;
   gone = cond (is_lent (gate_of s.held t)) (s.gone ++ t ∷ []) s.gone;
@@ -92,21 +92,21 @@ releasing s t = record {
 }
 
 -- a work comes back: the set of a revoked ticket is free, and a gate's work is in
-unfoldable pub taking : Gates → ℕ → Gates
-taking s t = record {
+unfoldable pub with_work_back : Gates → ℕ → Gates
+with_work_back s t = record {
   size = s.size;
-  held = cond (is_among s.gone t) s.held (turned t false s.held);
+  held = cond (is_among s.gone t) s.held (with_out t false s.held);
   gone = without t s.gone;
   free = cond (is_among s.gone t) (s.free + 1) s.free;
 }
 
 -- the first so many revoked tickets are forgotten, and their sets free
-unfoldable pub refitted : Gates → ℕ → Gates
-refitted s count = record { size = s.size; held = s.held; gone = drop count s.gone; free = s.free + count }
+unfoldable pub with_new_sets : Gates → ℕ → Gates
+with_new_sets s count = record { size = s.size; held = s.held; gone = drop count s.gone; free = s.free + count }
 
 -- a gate with its copy filled
-unfoldable pub filled : Gate → List ℕ → Gate
-filled g bytes = record { ticket = g.ticket; block = g.block; out = g.out; copy = refill (length g.copy) g.copy bytes }
+unfoldable pub with_copy : Gate → List ℕ → Gate
+with_copy g bytes = record { ticket = g.ticket; block = g.block; out = g.out; copy = refill (length g.copy) g.copy bytes }
 
 -- no two gates hold one block, each ticket is out or holds once, and each copy is a whole block
 pub record AreSound (s : Gates) : Type 0 where

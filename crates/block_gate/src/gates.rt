@@ -2,7 +2,7 @@ ghost use Rattle.std.specs.Prelude.{◌≡◌, ℕ, ◌+◌, ◌-◌, ◌<◌, �
 ghost use Rattle.std.specs.List.{refill};
 ghost use Rattle.std.specs.Borrow.{Lends, Array, sem, u8 as byte};
 ghost use Rattle.index_links.specs.Lists.{is_among};
-ghost use Rattle.block_gate.specs.Gates.{Gate, gate_of, is_block_held, is_range_held, least_ticket, is_lent, outs, idle_gates, holding, lending, releasing, refitted, AreSound};
+ghost use Rattle.block_gate.specs.Gates.{Gate, gate_of, is_block_held, is_range_held, least_ticket, is_lent, outs, idle_gates, with_gate, with_work_out, without_hold, with_new_sets, AreSound};
 ghost use Rattle.block_gate.specs.Back.{IsGivenBack};
 
 use crate::back::Back;
@@ -59,7 +59,7 @@ impl Gates {
         requires free { 0 < self.old.free }
         requires fresh { gate_of self.old.held ticket ≡ None }
         requires unknown { is_among self.old.gone ticket ≡ false }
-        ensures* writes_back { sem 𝓛 (Lends the_row (Array byte 0) self.entry result (λ w. holding self.entry.now block ticket (refill (length result.now) result.now w))) }
+        ensures* writes_back { sem 𝓛 (Lends the_row (Array byte 0) self.entry result (λ w. with_gate self.entry.now block ticket (refill (length result.now) result.now w))) }
         ensures long { length result.now ≡ self.old.size }
     {
         let node = first_of(&self.links, FREE);
@@ -73,7 +73,7 @@ impl Gates {
         requires held { is_some (gate_of self.old.held ticket) ≡ true }
         requires inside { is_lent (gate_of self.old.held ticket) ≡ false }
         requires fits { from + length patch.now ≤ self.old.size }
-        ensures gates { self.new ≡ lending self.old ticket }
+        ensures gates { self.new ≡ with_work_out self.old ticket }
         ensures work { (g : Gate) → gate_of self.old.held ticket ≡ Some g → result ≡ record { ticket = ticket; block = g.block; from = from; bytes = g.copy; patch = patch.now } }
         ensures sound { AreSound self.new }
     {
@@ -144,7 +144,7 @@ impl Gates {
     /// Ends the gate of a ticket that holds one. The block is no longer held, and the set is free where its work is in.
     pub fn release(&mut self, ticket: u64)
         requires { is_some (gate_of self.old.held ticket) ≡ true }
-        ensures value { self.new ≡ releasing self.old ticket }
+        ensures value { self.new ≡ without_hold self.old ticket }
         ensures sound { AreSound self.new }
     {
         let node = holder(&self.sets, &self.links, ticket);
@@ -155,7 +155,7 @@ impl Gates {
     /// Releases the gate of a ticket, if it holds one, and says whether it does.
     pub fn revoke(&mut self, ticket: u64) -> bool
         ensures held { result ≡ is_some (gate_of self.old.held ticket) }
-        ensures released { result ≡ true → self.new ≡ releasing self.old ticket }
+        ensures released { result ≡ true → self.new ≡ without_hold self.old ticket }
         ensures unchanged { result ≡ false → self.new ≡ self.old }
         ensures sound { AreSound self.new }
     {
@@ -195,8 +195,8 @@ impl Gates {
     /// number. The error is want of memory, and some of them were then refitted, the first ones first.
     pub fn refit(&mut self) -> Result<u32, AllocError>
         ensures all { IfOk result (λ count. count ≡ length self.old.gone) }
-        ensures ok { IfOk result (λ count. self.new ≡ refitted self.old count) }
-        ensures err { OnErr result (self.new ≡ refitted self.old (length self.old.gone - length self.new.gone)) }
+        ensures ok { IfOk result (λ count. self.new ≡ with_new_sets self.old count) }
+        ensures err { OnErr result (self.new ≡ with_new_sets self.old (length self.old.gone - length self.new.gone)) }
         ensures sound { AreSound self.new }
     {
         let mut count: u32 = 0;

@@ -1,5 +1,5 @@
 ghost use Rattle.std.specs.Prelude.{◌≡◌, ℕ, ◌+◌, ◌<◌, ◌≤◌, [], Some, true, false, length, slice_get, IfOk};
-ghost use Rattle.index_links.specs.Lists.{list_at, pushed, unlinked, AreApart};
+ghost use Rattle.index_links.specs.Lists.{list_at, with_node_at_end, without_node, AreApart};
 
 use index_links::Links;
 use std::alloc::{AllocError, Global};
@@ -15,7 +15,7 @@ pub const GONE: u32 = 2;
 pub fn relink(links: &mut Links, node: u32, list: u32)
     requires node { node < links.old.nodes }
     requires list { list < length links.old.lists }
-    ensures value { links.new ≡ pushed (unlinked links.old node) list node }
+    ensures value { links.new ≡ with_node_at_end (without_node links.old node) list node }
     ensures apart { AreApart links.new }
 {
     links.unlink(node);

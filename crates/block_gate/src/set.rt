@@ -1,6 +1,6 @@
 ghost use Rattle.std.specs.Prelude.{◌≡◌, ◌+◌, ◌≤◌, true, false, cond, replicate, length, IfOk, OnOk, OnErr};
 ghost use Rattle.std.specs.Borrow.{Lends, Array, sem, u8 as byte};
-ghost use Rattle.block_gate.specs.Gates.{filled};
+ghost use Rattle.block_gate.specs.Gates.{with_copy};
 
 use crate::relinking::{FREE, GONE};
 use crate::work::Work;
@@ -137,7 +137,7 @@ impl Set {
 
     /// The copy buffer, for filling.
     pub fn copy_mut(&mut self) -> &mut [u8]
-        ensures* writes_back { sem 𝓛 (Lends the_row (Array byte 0) self.entry result (filled self.entry.now)) }
+        ensures* writes_back { sem 𝓛 (Lends the_row (Array byte 0) self.entry result (with_copy self.entry.now)) }
         ensures value { result.now ≡ self.old.copy }
     {
         &mut self.copy

@@ -1,5 +1,5 @@
 //! The worked rows, with values that were worked out by hand.
-#![tactic(auto, unfolding(crate::specs::Gates::gate_of, crate::specs::Gates::is_block_held, crate::specs::Gates::is_lent, crate::specs::Gates::idle_gates, crate::specs::Gates::holding, crate::specs::Gates::lending, crate::specs::Gates::releasing, crate::specs::Gates::turned, crate::specs::Gates::without_ticket, index_links::specs::Lists::is_among))]
+#![tactic(auto, unfolding(crate::specs::Gates::gate_of, crate::specs::Gates::is_block_held, crate::specs::Gates::is_lent, crate::specs::Gates::idle_gates, crate::specs::Gates::with_gate, crate::specs::Gates::with_work_out, crate::specs::Gates::without_hold, crate::specs::Gates::with_out, crate::specs::Gates::without_ticket, index_links::specs::Lists::is_among))]
 
 use crate::{Back, Gates, Work};
 use std::test::Fail;

@@ -11,8 +11,8 @@ abbrev pub is_in : List Entry → View → Bool
 is_in H view = is_present H && nat_eq view.media_id (media_id_of H)
 
 -- the last block of a view, and 0 for one that is shorter than a block
-abbrev pub last_of : Setup → View → ℕ
-last_of S view = view.length / size_of S - 1
+abbrev pub last_block_of : Setup → View → ℕ
+last_block_of S view = view.length / size_of S - 1
 
 -- a partition is logical, and its physical blocks are not told
 unfoldable pub media_for : Setup → List Entry → View → Media
@@ -25,7 +25,7 @@ media_for S H view = record {
   write_caching = S.cached;
   block_size = size_of S;
   io_align = 0;
-  last_block = last_of S view;
+  last_block = last_block_of S view;
   lowest_aligned_lba = 0;
   blocks_per_physical = if nat_eq view.index 0 then per_of S else 0;
 }

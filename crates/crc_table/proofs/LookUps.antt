@@ -13,7 +13,7 @@ use Rattle.std.proofs.lemmas.Nat.{xor_shr, xor_mod, xor_comm, xor_block, shr_spl
 use Rattle.crc_table.specs.Division.{add}
 use Rattle.crc_table.specs.declared.tables.TheConstants.{TABLES}
 use Rattle.crc_table.specs.Crc32.{polynomial}
-use Rattle.crc_table.specs.Registers.{shifted, shifted_by, register_after}
+use Rattle.crc_table.specs.Registers.{next_register, shifted_by, register_after}
 use Rattle.crc_table.proofs.Registers.{odd-xor, after-append}
 
 -- ---- a sum of registers
@@ -32,7 +32,7 @@ xor_turned a b c d =
     ∙ ap (bit_xor a) (sym (xor_assoc b c d) ∙ ap (λ n. bit_xor n d) (xor_comm b c) ∙ xor_assoc c b d)
     ∙ sym (xor_assoc a c (bit_xor b d))
 
-shifted-xor : (a b : ℕ) → shifted (bit_xor a b) ≡ bit_xor (shifted a) (shifted b)
+shifted-xor : (a b : ℕ) → next_register (bit_xor a b) ≡ bit_xor (next_register a) (next_register b)
 shifted-xor a b =
     let odd : (bit_xor a b % 2 == 1) ≡ add (a % 2 == 1) (b % 2 == 1) =
     ap (λ k. k == 1) (xor_mod a b 1) ∙ odd-xor (a % 2) (b % 2) (omega arith) (omega arith) in
@@ -44,7 +44,7 @@ shifted-xor a b =
 shifted_by-xor : (k a b : ℕ) → shifted_by k (bit_xor a b) ≡ bit_xor (shifted_by k a) (shifted_by k b)
 unfolding shifted_by
 shifted_by-xor zero a b = refl
-shifted_by-xor (suc k) a b = ap (shifted_by k) (shifted-xor a b) ∙ shifted_by-xor k (shifted a) (shifted b)
+shifted_by-xor (suc k) a b = ap (shifted_by k) (shifted-xor a b) ∙ shifted_by-xor k (next_register a) (next_register b)
 
 -- coefficients of 0 only move the register down
 shifted_by-high : (k c : ℕ) → shifted_by k (c * 2 ^ k) ≡ c
@@ -62,7 +62,7 @@ shifted_by-high (suc k) c =
 shifted_by-add : (j k c : ℕ) → shifted_by (j + k) c ≡ shifted_by k (shifted_by j c)
 unfolding shifted_by
 shifted_by-add zero k c = ap (λ n. shifted_by n c) (zero-add k)
-shifted_by-add (suc j) k c = ap (λ n. shifted_by n c) (suc-add j k) ∙ shifted_by-add j k (shifted c)
+shifted_by-add (suc j) k c = ap (λ n. shifted_by n c) (suc-add j k) ∙ shifted_by-add j k (next_register c)
 
 -- a number is the sum of its k low bits and of the others
 xor_parts : (k low high : ℕ) → low < 2 ^ k → bit_xor low (high * 2 ^ k) ≡ high * 2 ^ k + low

@@ -5,9 +5,9 @@ use Rattle.std.proofs.Math.Numerals.{suc-eq-add-one}
 use Rattle.std.proofs.Math.Pow.{mod-mod-pow}
 use Rattle.std.proofs.Math.Nat.{pow-suc, zero-add, suc-add}
 use Rattle.std.proofs.lemmas.Nat.{xor_shr, xor_mod, xor_lt, field_of}
-use Rattle.crc_table.specs.Division.{add, plus, scaled, zero_bits, divided, HasOneRest}
+use Rattle.crc_table.specs.Division.{add, plus, multiple_of, zero_bits, rest_of_division, HasOneRest}
 use Rattle.crc_table.specs.Crc32.{bits_of, bits_number, message_bits, dividend, polynomial, divisor_tail, divisor, remainder_of, crc32_of, HasTaken}
-use Rattle.crc_table.specs.Registers.{shifted, shifted_by, register_after}
+use Rattle.crc_table.specs.Registers.{next_register, shifted_by, register_after}
 use Rattle.crc_table.proofs.Rests.{plus_comm, plus_assoc, plus-zeros, length-plus, divided-HasOneRest}
 
 -- ---- the bits of a number
@@ -48,15 +48,15 @@ bits_of-mod (suc n) c =
     let others : bits_of n (c % 2 ^ suc n / 2) ≡ bits_of n (c / 2) = ap (bits_of n) high ∙ bits_of-mod n (c / 2) in
     cc
 
-scaled-true : (l : List Bool) → scaled true l ≡ l
+scaled-true : (l : List Bool) → multiple_of true l ≡ l
 scaled-true [] = refl
 scaled-true (x ∷ xs) = ap (λ l. x ∷ l) (scaled-true xs)
 
-scaled-false : (l : List Bool) → scaled false l ≡ zero_bits (length l)
+scaled-false : (l : List Bool) → multiple_of false l ≡ zero_bits (length l)
 scaled-false [] = refl
 scaled-false (x ∷ xs) = ap (λ l. false ∷ l) (scaled-false xs)
 
-bits_of-if : (n c : ℕ) (x : Bool) → bits_of n (if x then c else 0) ≡ scaled x (bits_of n c)
+bits_of-if : (n c : ℕ) (x : Bool) → bits_of n (if x then c else 0) ≡ multiple_of x (bits_of n c)
 bits_of-if n c true = sym (scaled-true (bits_of n c))
 bits_of-if n c false = bits_of-zero n ∙ ap zero_bits (sym (length-bits_of n c)) ∙ sym (scaled-false (bits_of n c))
 
@@ -81,24 +81,24 @@ add_false false = refl
 add_false true = refl
 
 divided_shift : (w n c : ℕ) (l : List Bool) → c < 2 ^ suc w → suc w ≤ length l
-    → divided (suc n) (bits_of (suc w) polynomial) (plus (bits_of (suc w) c) (false ∷ l))
-    ≡ divided n (bits_of (suc w) polynomial) (plus (bits_of (suc w) (shifted c)) l)
-unfolding plus divided bits_of
+    → rest_of_division (suc n) (bits_of (suc w) polynomial) (plus (bits_of (suc w) c) (false ∷ l))
+    ≡ rest_of_division n (bits_of (suc w) polynomial) (plus (bits_of (suc w) (next_register c)) l)
+unfolding plus rest_of_division bits_of
 divided_shift w n c l small within =
     let tail = bits_of (suc w) polynomial in
     let odd = c % 2 == 1 in
-    let taken = scaled odd tail in
+    let taken = multiple_of odd tail in
     let half = bits_of (suc w) (c / 2) in
     let rest : plus (bits_of w (c / 2)) l ≡ plus half l =
     sym (plus-bits_of w (suc w) (c / 2) l (halves w c small) (omega arith) within) in
-    let register : bits_of (suc w) (shifted c) ≡ plus half taken =
+    let register : bits_of (suc w) (next_register c) ≡ plus half taken =
     bits_of-xor (suc w) (c / 2) (if odd then polynomial else 0) ∙ ap (plus half) (bits_of-if (suc w) polynomial odd) in
     let turned : plus (plus half l) taken ≡ plus (plus half taken) l =
     plus_assoc half l taken ∙ ap (plus half) (plus_comm l taken) ∙ sym (plus_assoc half taken l) in
-    ap (λ b. divided n tail (plus (plus (bits_of w (c / 2)) l) (scaled b tail))) (add_false odd)
-    ∙ ap (divided n tail) (ap (λ r. plus r taken) rest ∙ turned ∙ ap (λ r. plus r l) (sym register))
+    ap (λ b. rest_of_division n tail (plus (plus (bits_of w (c / 2)) l) (multiple_of b tail))) (add_false odd)
+    ∙ ap (rest_of_division n tail) (ap (λ r. plus r taken) rest ∙ turned ∙ ap (λ r. plus r l) (sym register))
 
-shifted_lt : (c : ℕ) → c < 2 ^ 32 → shifted c < 2 ^ 32
+shifted_lt : (c : ℕ) → c < 2 ^ 32 → next_register c < 2 ^ 32
 shifted_lt c small = xor_lt 32 (c / 2) (if c % 2 == 1 then polynomial else 0) (omega arith) (at_most (c % 2 == 1))
   where
     at_most : (x : Bool) → (if x then polynomial else 0) < 2 ^ 32
@@ -108,19 +108,19 @@ shifted_lt c small = xor_lt 32 (c / 2) (if c % 2 == 1 then polynomial else 0) (o
 pub shifted_by_lt : (k c : ℕ) → c < 2 ^ 32 → shifted_by k c < 2 ^ 32
 unfolding shifted_by
 shifted_by_lt zero c small = small
-shifted_by_lt (suc k) c small = shifted_by_lt k (shifted c) (shifted_lt c small)
+shifted_by_lt (suc k) c small = shifted_by_lt k (next_register c) (shifted_lt c small)
 
 length-wide : (k : ℕ) (l : List Bool) → length l ≤ length (zero_bits k ++ l)
 length-wide k l = omega (arith, length-append (zero_bits k) l)
 
 divided_shifts : (k n c : ℕ) (l : List Bool) → c < 2 ^ 32 → 32 ≤ length l
-    → divided (k + n) divisor_tail (plus (bits_of 32 c) (zero_bits k ++ l)) ≡ divided n divisor_tail (plus (bits_of 32 (shifted_by k c)) l)
+    → rest_of_division (k + n) divisor_tail (plus (bits_of 32 c) (zero_bits k ++ l)) ≡ rest_of_division n divisor_tail (plus (bits_of 32 (shifted_by k c)) l)
 unfolding divisor_tail shifted_by
-divided_shifts zero n c l small within = ap (λ j. divided j divisor_tail (plus (bits_of 32 c) l)) (zero-add n)
+divided_shifts zero n c l small within = ap (λ j. rest_of_division j divisor_tail (plus (bits_of 32 c) l)) (zero-add n)
 divided_shifts (suc k) n c l small within =
-    ap (λ j. divided j divisor_tail (plus (bits_of 32 c) (false ∷ (zero_bits k ++ l)))) (suc-add k n)
+    ap (λ j. rest_of_division j divisor_tail (plus (bits_of 32 c) (false ∷ (zero_bits k ++ l)))) (suc-add k n)
     ∙ divided_shift 31 (k + n) c (zero_bits k ++ l) small (omega (arith, length-wide k l))
-    ∙ divided_shifts k n (shifted c) l (shifted_lt c small) within
+    ∙ divided_shifts k n (next_register c) l (shifted_lt c small) within
 
 plus-padded : (a l : List Bool) → plus a (zero_bits (length a) ++ l) ≡ a ++ l
 unfolding plus
@@ -149,8 +149,8 @@ after_lt [] c small = small
 after_lt (byte ∷ bytes) c small = after_lt bytes _ (shifted_by_lt 8 _ (xor-byte_lt c byte small))
 
 divided_message : (bytes : List ℕ) (c : ℕ) → c < 2 ^ 32
-    → divided (length (message_bits bytes)) divisor_tail (plus (bits_of 32 c) (message_bits bytes ++ zero_bits 32)) ≡ bits_of 32 (register_after c bytes)
-unfolding divided message_bits register_after
+    → rest_of_division (length (message_bits bytes)) divisor_tail (plus (bits_of 32 c) (message_bits bytes ++ zero_bits 32)) ≡ bits_of 32 (register_after c bytes)
+unfolding rest_of_division message_bits register_after
 divided_message [] c small = plus_comm (bits_of 32 c) (zero_bits 32) ∙ plus-zeros 32 (bits_of 32 c) (omega (arith, length-bits_of 32 c))
 divided_message (byte ∷ bytes) c small =
     let later = message_bits bytes in
@@ -160,8 +160,8 @@ divided_message (byte ∷ bytes) c small =
     length-append (bits_of 8 byte) later ∙ ap (λ k. k + length later) (length-bits_of 8 byte) in
     let left : plus (bits_of 32 c) ((bits_of 8 byte ++ later) ++ zero_bits 32) ≡ plus (bits_of 32 next) (zero_bits 8 ++ (later ++ zero_bits 32)) =
     ap (plus (bits_of 32 c)) (append_assoc (bits_of 8 byte) later (zero_bits 32)) ∙ plus-byte c byte (later ++ zero_bits 32) within in
-    ap (λ k. divided k divisor_tail (plus (bits_of 32 c) ((bits_of 8 byte ++ later) ++ zero_bits 32))) count
-    ∙ ap (divided (8 + length later) divisor_tail) left
+    ap (λ k. rest_of_division k divisor_tail (plus (bits_of 32 c) ((bits_of 8 byte ++ later) ++ zero_bits 32))) count
+    ∙ ap (rest_of_division (8 + length later) divisor_tail) left
     ∙ divided_shifts 8 (length later) next (later ++ zero_bits 32) (xor-byte_lt c byte small) within
     ∙ divided_message bytes (shifted_by 8 next) (shifted_by_lt 8 next (xor-byte_lt c byte small))
 
@@ -186,7 +186,7 @@ dividend-plus bytes =
 rest_of-after : (bytes : List ℕ) → remainder_of bytes ≡ bits_of 32 (register_after 0xFFFFFFFF bytes)
 unfolding remainder_of
 rest_of-after bytes =
-    ap (divided (length (message_bits bytes)) divisor_tail) (dividend-plus bytes) ∙ divided_message bytes 0xFFFFFFFF (omega arith)
+    ap (rest_of_division (length (message_bits bytes)) divisor_tail) (dividend-plus bytes) ∙ divided_message bytes 0xFFFFFFFF (omega arith)
 
 -- `rest_of` is the rest of the division, and the only one
 pub rest_of-HasOneRest : (bytes : List ℕ) → HasOneRest (dividend bytes) divisor (remainder_of bytes)

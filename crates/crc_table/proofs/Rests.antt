@@ -1,7 +1,7 @@
 -- Sums of polynomials, and the rest of a division: long division finds one, and there is no other.
 use Rattle.std.proofs.Common.{◌≡◌, ℕ, zero, suc, ◌+◌, ◌≤◌, Bool, true, false, ◌&&◌, List, [], ◌∷◌, ◌++◌, length, refl, sym, ap, ◌∙◌, arith, length-append}
 use Rattle.std.proofs.lemmas.List.{length-map, length-replicate}
-use Rattle.crc_table.specs.Division.{add, plus, scaled, zero_bits, times, IsRest, HasOneRest, divided}
+use Rattle.crc_table.specs.Division.{add, plus, multiple_of, zero_bits, times, IsRest, HasOneRest, rest_of_division}
 
 add_comm : (x y : Bool) → add x y ≡ add y x
 add_comm false false = refl
@@ -66,7 +66,7 @@ length-times : (q t : List Bool) → length (times q (true ∷ t)) ≡ length q 
 unfolding times
 length-times [] t = length-replicate _ false ∙ omega arith
 length-times (x ∷ q) t =
-    length-plus (scaled x (true ∷ t)) (false ∷ times q (true ∷ t)) (omega (arith, length-map (true ∷ t) (λ y. x && y), length-times q t))
+    length-plus (multiple_of x (true ∷ t)) (false ∷ times q (true ∷ t)) (omega (arith, length-map (true ∷ t) (λ y. x && y), length-times q t))
     ∙ omega (arith, length-times q t)
 
 -- the quotient times x^k + t, where t has k coefficients, plus the rest
@@ -79,36 +79,36 @@ length-value q t r short =
     ∙ omega (arith, length-padded (length q) r)
 
 -- one more coefficient of the quotient
-value-cons : (x : Bool) (q t r : List Bool) → value (x ∷ q) t r ≡ x ∷ plus (value q t r) (scaled x t)
+value-cons : (x : Bool) (q t r : List Bool) → value (x ∷ q) t r ≡ x ∷ plus (value q t r) (multiple_of x t)
 unfolding plus times
 value-cons x q t r =
     let product = times q (true ∷ t) in
     let padded = zero_bits (length q) ++ r in
-    cc (add_product x, plus_assoc (scaled x t) product padded, plus_comm (scaled x t) (plus product padded))
+    cc (add_product x, plus_assoc (multiple_of x t) product padded, plus_comm (multiple_of x t) (plus product padded))
 
-length-scaled : (x : Bool) (t : List Bool) → length (scaled x t) ≡ length t
+length-scaled : (x : Bool) (t : List Bool) → length (multiple_of x t) ≡ length t
 length-scaled x t = length-map t (λ y. x && y)
 
-divided-value : (q t r : List Bool) → length r ≡ length t → divided (length q) t (value q t r) ≡ r
-unfolding times divided
+divided-value : (q t r : List Bool) → length r ≡ length t → rest_of_division (length q) t (value q t r) ≡ r
+unfolding times rest_of_division
 divided-value [] t r short = plus-zeros _ r (omega arith)
 divided-value (x ∷ q) t r short =
-    ap (divided (suc (length q)) t) (value-cons x q t r)
-    ∙ ap (divided (length q) t) (plus_twice (value q t r) (scaled x t) (omega (arith, length-value q t r short, length-scaled x t)))
+    ap (rest_of_division (suc (length q)) t) (value-cons x q t r)
+    ∙ ap (rest_of_division (length q) t) (plus_twice (value q t r) (multiple_of x t) (omega (arith, length-value q t r short, length-scaled x t)))
     ∙ divided-value q t r short
 
-value-from : (x : Bool) (q t r m : List Bool) → length t ≤ length m → plus m (scaled x t) ≡ value q t r → x ∷ m ≡ value (x ∷ q) t r
+value-from : (x : Bool) (q t r m : List Bool) → length t ≤ length m → plus m (multiple_of x t) ≡ value q t r → x ∷ m ≡ value (x ∷ q) t r
 value-from x q t r m within is =
-    sym (value-cons x q t r ∙ ap (λ l. x ∷ plus l (scaled x t)) (sym is)
-    ∙ ap (λ l. x ∷ l) (plus_twice m (scaled x t) (omega (arith, length-scaled x t))))
+    sym (value-cons x q t r ∙ ap (λ l. x ∷ plus l (multiple_of x t)) (sym is)
+    ∙ ap (λ l. x ∷ l) (plus_twice m (multiple_of x t) (omega (arith, length-scaled x t))))
 
 record Divides (n : ℕ) (t m : List Bool) : Type 0 where
   pub quotient : List Bool
-  pub short : length (divided n t m) ≡ length t
-  pub sum : m ≡ value quotient t (divided n t m)
+  pub short : length (rest_of_division n t m) ≡ length t
+  pub sum : m ≡ value quotient t (rest_of_division n t m)
 
 divided-Divides : (n : ℕ) (t m : List Bool) → length m ≡ n + length t → Divides n t m
-unfolding times divided
+unfolding times rest_of_division
 divided-Divides zero t m long = record {
   quotient = [];
   short = omega arith;
@@ -116,25 +116,25 @@ divided-Divides zero t m long = record {
 }
 divided-Divides (suc n) t [] long = absurd (omega arith)
 divided-Divides (suc n) t (x ∷ m) long =
-    let kept : length (plus m (scaled x t)) ≡ length m =
-    ap length (plus_comm m (scaled x t)) ∙ length-plus (scaled x t) m (omega (arith, length-scaled x t)) in
-    let next = divided-Divides n t (plus m (scaled x t)) (omega arith) in
+    let kept : length (plus m (multiple_of x t)) ≡ length m =
+    ap length (plus_comm m (multiple_of x t)) ∙ length-plus (multiple_of x t) m (omega (arith, length-scaled x t)) in
+    let next = divided-Divides n t (plus m (multiple_of x t)) (omega arith) in
     record {
       quotient = x ∷ next.quotient;
       short = next.short;
       sum = value-from x next.quotient t _ m (omega arith) next.sum;
     }
 
-pub divided-HasOneRest : (n : ℕ) (t m : List Bool) → length m ≡ n + length t → HasOneRest m (true ∷ t) (divided n t m)
+pub divided-HasOneRest : (n : ℕ) (t m : List Bool) → length m ≡ n + length t → HasOneRest m (true ∷ t) (rest_of_division n t m)
 divided-HasOneRest n t m long r = (only, found)
   where
-    only : IsRest m (true ∷ t) r → r ≡ divided n t m
+    only : IsRest m (true ∷ t) r → r ≡ rest_of_division n t m
     only rest =
         let short : length r ≡ length t = omega (arith, rest.short) in
         let same : n ≡ length rest.quotient = omega (arith, ap length rest.sum ∙ length-value rest.quotient t r short) in
-        sym (ap (λ k. divided k t m) same ∙ ap (divided (length rest.quotient) t) rest.sum ∙ divided-value rest.quotient t r short)
+        sym (ap (λ k. rest_of_division k t m) same ∙ ap (rest_of_division (length rest.quotient) t) rest.sum ∙ divided-value rest.quotient t r short)
 
-    found : r ≡ divided n t m → IsRest m (true ∷ t) r
+    found : r ≡ rest_of_division n t m → IsRest m (true ∷ t) r
     found is =
         let division = divided-Divides n t m long in
         record {

@@ -1,7 +1,7 @@
 -- CRC32 as the rest of a division. UEFI 2.10 names the polynomial, 04C11DB7, in section 4.2, and the fields that hold a
 -- CRC32 in section 5.3.2. The order of the bits and the two inversions are written out here as this project's own profile.
 use Rattle.std.specs.Prelude.{◌≡◌, ℕ, zero, suc, ◌+◌, ◌*◌, ◌/◌, ◌%◌, Bool, true, ◌==◌, if◌then◌else◌, not, List, [], ◌∷◌, ◌++◌, length, map, take, drop}
-use Rattle.crc_table.specs.Division.{zero_bits, divided}
+use Rattle.crc_table.specs.Division.{zero_bits, rest_of_division}
 
 -- the `count` lowest bits of a number, the least one first
 unfoldable pub bits_of : ℕ → ℕ → List Bool
@@ -36,7 +36,7 @@ divisor = true ∷ divisor_tail
 
 -- the rest of the division
 unfoldable pub remainder_of : List ℕ → List Bool
-remainder_of bytes = divided (length (message_bits bytes)) divisor_tail (dividend bytes)
+remainder_of bytes = rest_of_division (length (message_bits bytes)) divisor_tail (dividend bytes)
 
 -- the CRC32 of the bytes: bit i is the coefficient of x^(31-i) of the rest, and all 32 bits are inverted
 unfoldable pub crc32_of : List ℕ → ℕ

@@ -14,8 +14,8 @@ plus (x ∷ xs) [] = x ∷ xs
 plus (x ∷ xs) (y ∷ ys) = add x y ∷ plus xs ys
 
 -- a coefficient times a polynomial
-abbrev pub scaled : Bool → List Bool → List Bool
-scaled x ys = map (λ y. x && y) ys
+abbrev pub multiple_of : Bool → List Bool → List Bool
+multiple_of x ys = map (λ y. x && y) ys
 
 abbrev pub zero_bits : ℕ → List Bool
 zero_bits n = replicate n false
@@ -23,7 +23,7 @@ zero_bits n = replicate n false
 -- the product of two polynomials: the sum of each coefficient of the first, in its place, times the second
 unfoldable pub times : List Bool → List Bool → List Bool
 times [] ys = zero_bits (length ys - 1)
-times (x ∷ xs) ys = plus (scaled x ys) (false ∷ times xs ys)
+times (x ∷ xs) ys = plus (multiple_of x ys) (false ∷ times xs ys)
 
 -- `rest` is a rest of the division: the dividend is a quotient times the divisor, plus the rest, and the rest has one
 -- coefficient fewer than the divisor
@@ -39,7 +39,7 @@ HasOneRest dividend divisor rest = (r : List Bool) → IsRest dividend divisor r
 -- Long division by x^k + `tail`, where `tail` has k coefficients, until `count` coefficients of the quotient are found.
 -- The next one is the first coefficient left: so many times the divisor is taken away, which is to add it, and the first
 -- coefficient, which is then 0, is dropped.
-unfoldable pub divided : ℕ → List Bool → List Bool → List Bool
-divided zero tail left = left
-divided (suc count) tail [] = []
-divided (suc count) tail (x ∷ left) = divided count tail (plus left (scaled x tail))
+unfoldable pub rest_of_division : ℕ → List Bool → List Bool → List Bool
+rest_of_division zero tail left = left
+rest_of_division (suc count) tail [] = []
+rest_of_division (suc count) tail (x ∷ left) = rest_of_division count tail (plus left (multiple_of x tail))

@@ -4,13 +4,13 @@ use Rattle.std.specs.Prelude.{ℕ, zero, suc, ◌/◌, ◌%◌, ◌==◌, if◌t
 use Rattle.crc_table.specs.Crc32.{polynomial}
 
 -- after one coefficient of the quotient
-abbrev pub shifted : ℕ → ℕ
-shifted register = bit_xor (register / 2) (if register % 2 == 1 then polynomial else 0)
+abbrev pub next_register : ℕ → ℕ
+next_register register = bit_xor (register / 2) (if register % 2 == 1 then polynomial else 0)
 
 -- after `count` coefficients of the quotient
 unfoldable pub shifted_by : ℕ → ℕ → ℕ
 shifted_by zero register = register
-shifted_by (suc count) register = shifted_by count (shifted register)
+shifted_by (suc count) register = shifted_by count (next_register register)
 
 -- after these bytes, of each of which the eight lowest bits count
 unfoldable pub register_after : ℕ → List ℕ → ℕ

@@ -14,7 +14,7 @@ use Rattle.device_path.specs.declared.hard_drive.Format.TheVariants as formats
 use Rattle.device_path.specs.declared.hard_drive.Sign.{Sign}
 use Rattle.device_path.specs.declared.hard_drive.Sign.TheVariants as signs
 use Rattle.device_path.specs.declared.hard_drive.HardDrive.{HardDrive}
-use Rattle.device_path.specs.Node.{node_bytes, IsHardDrive, IsSign, IsNodeOf, PassesAll, fault_of, fields_of, format_code, sign_code, sign_bytes, sign_of, node_fields, has_length, has_kind, has_format, has_sign_type, has_signature}
+use Rattle.device_path.specs.Node.{node_bytes, IsHardDrive, IsSign, IsNodeOf, PassesAll, node_fault, drive_fields, format_code, sign_code, sign_bytes, node_sign, node_fields, has_length, has_kind, has_format, has_sign_type, has_signature}
 use Rattle.device_path.proofs.Parts.{parts, concat-parts, get_or-part, part-one, part-two, length-part, zeros}
 
 -- the fields put into 42 zero bytes, one after another
@@ -35,8 +35,8 @@ put node = go node.sign where
 abbrev with : ℕ → ℕ → ℕ → Format → Sign → HardDrive
 with number start size format sign = record { number = number; start = start; size = size; format = format; sign = sign }
 
-passes-with : (number start size : ℕ) (format : Format) (sign : Sign) → fault_of (concat (node_fields (with number start size format sign))) ≡ None
-unfolding fault_of has_length has_kind has_format has_sign_type has_signature
+passes-with : (number start size : ℕ) (format : Format) (sign : Sign) → node_fault (concat (node_fields (with number start size format sign))) ≡ None
+unfolding node_fault has_length has_kind has_format has_sign_type has_signature
 passes-with number start size formats.Mbr signs.None = refl
 passes-with number start size formats.Mbr (signs.Mbr signature) = refl
 passes-with number start size formats.Mbr (signs.Guid guid) = refl
@@ -44,7 +44,7 @@ passes-with number start size formats.Gpt signs.None = refl
 passes-with number start size formats.Gpt (signs.Mbr signature) = refl
 passes-with number start size formats.Gpt (signs.Guid guid) = refl
 
-pub fault_of-node : (node : HardDrive) → fault_of (concat (node_fields node)) ≡ None
+pub fault_of-node : (node : HardDrive) → node_fault (concat (node_fields node)) ≡ None
 fault_of-node node = passes-with node.number node.start node.size node.format node.sign
 
 format-back : (number start size : ℕ) (format : Format) (sign : Sign) → (if slice_index (concat (node_fields (with number start size format sign))) 40 == 1 then formats.Mbr else formats.Gpt) ≡ format
@@ -55,14 +55,14 @@ format-back number start size formats.Gpt signs.None = refl
 format-back number start size formats.Gpt (signs.Mbr signature) = refl
 format-back number start size formats.Gpt (signs.Guid guid) = refl
 
-sign-back : (number start size : ℕ) (format : Format) (sign : Sign) → IsSign sign → sign_of (concat (node_fields (with number start size format sign))) ≡ sign
+sign-back : (number start size : ℕ) (format : Format) (sign : Sign) → IsSign sign → node_sign (concat (node_fields (with number start size format sign))) ≡ sign
 sign-back number start size format signs.None can = refl
 sign-back number start size format (signs.Mbr signature) can = ap signs.Mbr (from_le_bytes-to_le_bytes_4 signature can)
 sign-back number start size format (signs.Guid guid) can = ap signs.Guid (swap_twice guid can.0)
 
 fields-with : (number start size : ℕ) (format : Format) (sign : Sign) → number < 2 ^ 32 → start < 2 ^ 64 → size < 2 ^ 64 → IsSign sign
-    → fields_of (concat (node_fields (with number start size format sign))) ≡ with number start size format sign
-unfolding fields_of
+    → drive_fields (concat (node_fields (with number start size format sign))) ≡ with number start size format sign
+unfolding drive_fields
 fields-with number start size format sign few low small can = λ i. record {
   number = from_le_bytes-to_le_bytes_4 number few i;
   start = from_le_bytes-to_le_bytes_8 start low i;
@@ -71,7 +71,7 @@ fields-with number start size format sign few low small can = λ i. record {
   sign = sign-back number start size format sign can i;
 }
 
-pub fields_of-node : (node : HardDrive) → IsHardDrive node → fields_of (concat (node_fields node)) ≡ node
+pub fields_of-node : (node : HardDrive) → IsHardDrive node → drive_fields (concat (node_fields node)) ≡ node
 fields_of-node node can = fields-with node.number node.start node.size node.format node.sign can.number can.start can.size can.sign
 
 -- the fields of bytes that passed every test, field by field
@@ -112,7 +112,7 @@ same-length bytes small long holds = le_bytes_2 (take 2 (drop 2 bytes)) 42 (leng
 same-byte : (at byte : ℕ) (bytes : List ℕ) → at < length bytes → byte ≡ slice_index bytes at → (byte ∷ []) ≡ take 1 (drop at bytes)
 same-byte at byte bytes within is = ap (λ b. b ∷ []) is ∙ sym (part-one at bytes within)
 
-sign-code-is : (bytes : List ℕ) → has_sign_type bytes ≡ true → sign_code (sign_of bytes) ≡ slice_index bytes 41
+sign-code-is : (bytes : List ℕ) → has_sign_type bytes ≡ true → sign_code (node_sign bytes) ≡ slice_index bytes 41
 sign-code-is bytes known =
     elim (sign-type-is bytes known) [ inl e ↦ rw e refl | inr more ↦ elim more [ inl e ↦ rw e refl | inr e ↦ rw e refl ] ]
 
@@ -134,7 +134,7 @@ same-mbr bytes small long mbr holds =
     let front = same-number 24 bytes small (omega arith) in
     (λ i. front i ++ behind i) ∙ sym (part-two 24 4 12 bytes)
 
-same-sign : (bytes : List ℕ) → ((i : ℕ) → get_or bytes i 0 < 256) → length bytes ≡ 42 → has_sign_type bytes ≡ true → has_signature bytes ≡ true → sign_bytes (sign_of bytes) ≡ take 16 (drop 24 bytes)
+same-sign : (bytes : List ℕ) → ((i : ℕ) → get_or bytes i 0 < 256) → length bytes ≡ 42 → has_sign_type bytes ≡ true → has_signature bytes ≡ true → sign_bytes (node_sign bytes) ≡ take 16 (drop 24 bytes)
 same-sign bytes small long known holds =
     elim (sign-type-is bytes known) [
       | inl e ↦ rw e (same-none bytes long e holds)
@@ -145,12 +145,12 @@ same-sign bytes small long known holds =
     ]
 
 -- bytes that passed every test are the node of their fields
-pub IsNodeOf-fields_of : (bytes : List ℕ) → ((i : ℕ) → get_or bytes i 0 < 256) → length bytes ≡ 42 → PassesAll bytes → IsNodeOf (fields_of bytes) bytes
-unfolding IsNodeOf node_bytes fields_of
+pub IsNodeOf-fields_of : (bytes : List ℕ) → ((i : ℕ) → get_or bytes i 0 < 256) → length bytes ≡ 42 → PassesAll bytes → IsNodeOf (drive_fields bytes) bytes
+unfolding IsNodeOf node_bytes drive_fields
 IsNodeOf-fields_of bytes small long passes =
     let counts : List ℕ = 1 ∷ 1 ∷ 2 ∷ 4 ∷ 8 ∷ 8 ∷ 16 ∷ 1 ∷ 1 ∷ [] in
     let kind = kind-is bytes passes.kind_holds in
-    let fields : concat (node_fields (fields_of bytes)) ≡ concat (parts 0 counts bytes) = λ i. concat (
+    let fields : concat (node_fields (drive_fields bytes)) ≡ concat (parts 0 counts bytes) = λ i. concat (
     same-byte 0 4 bytes (omega arith) kind.0 i
     ∷ same-byte 1 1 bytes (omega arith) kind.1 i
     ∷ same-length bytes small long passes.length_holds i

@@ -89,8 +89,8 @@ unfoldable pub has_signature : List ℕ → Bool
 has_signature bytes = list_all (λ b. b == 0) (slice_range bytes (first_unused bytes) 40)
 
 -- the tests in their order, each with the fault where it fails
-abbrev pub tests_of : List ℕ → List (NodeFault × Bool)
-tests_of bytes =
+abbrev pub node_tests : List ℕ → List (NodeFault × Bool)
+node_tests bytes =
     (Length, has_length bytes)
     ∷ (Kind, has_kind bytes)
     ∷ (Formatted, has_format bytes)
@@ -99,8 +99,8 @@ tests_of bytes =
     ∷ []
 
 -- the fault of the first test that fails, and none where every test holds
-unfoldable pub fault_of : List ℕ → Option NodeFault
-fault_of bytes = option_map (λ t. t.0) (find (λ t. not t.1) (tests_of bytes))
+unfoldable pub node_fault : List ℕ → Option NodeFault
+node_fault bytes = option_map (λ t. t.0) (find (λ t. not t.1) (node_tests bytes))
 
 -- every test holds
 pub record PassesAll (bytes : List ℕ) : Type 0 where
@@ -111,18 +111,18 @@ pub record PassesAll (bytes : List ℕ) : Type 0 where
   pub signature_holds : has_signature bytes ≡ true
 
 -- the signature that the fields tell
-abbrev pub sign_of : List ℕ → Sign
-sign_of bytes =
+abbrev pub node_sign : List ℕ → Sign
+node_sign bytes =
     if slice_index bytes 41 == 0 then signs.None
     else if slice_index bytes 41 == 1 then signs.Mbr (from_le_bytes w32 (slice_range bytes 24 28))
     else signs.Guid (swap_fields (slice_range bytes 24 40))
 
 -- the hard drive that the fields tell, of bytes that passed every test
-unfoldable pub fields_of : List ℕ → HardDrive
-fields_of bytes = record {
+unfoldable pub drive_fields : List ℕ → HardDrive
+drive_fields bytes = record {
   number = from_le_bytes w32 (slice_range bytes 4 8);
   start = from_le_bytes w64 (slice_range bytes 8 16);
   size = from_le_bytes w64 (slice_range bytes 16 24);
   format = if slice_index bytes 40 == 1 then formats.Mbr else formats.Gpt;
-  sign = sign_of bytes;
+  sign = node_sign bytes;
 }

@@ -3,7 +3,7 @@ ghost use Rattle.std.specs.Int.{w16, w32, w64, from_le_bytes};
 ghost use Rattle.std.specs.Result.{result_err};
 ghost use Rattle.uuid.specs.Parts.{swap_fields};
 ghost use Rattle.device_path.specs.declared.hard_drive.HardDrive.{HardDrive};
-ghost use Rattle.device_path.specs.Node.{IsHardDrive, IsNodeOf, PassesAll, fault_of, fields_of, first_unused, format_code, has_format, has_kind, has_length, has_sign_type, has_signature, sign_bytes, sign_code, sign_of};
+ghost use Rattle.device_path.specs.Node.{IsHardDrive, IsNodeOf, PassesAll, node_fault, drive_fields, first_unused, format_code, has_format, has_kind, has_length, has_sign_type, has_signature, sign_bytes, sign_code, node_sign};
 
 use crate::hard_drive::{Format, HardDrive, Sign};
 use byte_lists::{copy_part, patch_into};
@@ -88,7 +88,7 @@ fn mbr_bytes(signature: u32) -> [u8; 16]
 pub fn read_node(b: &[u8]) -> Result<HardDrive, NodeFault>
     ensures node { IfOk result (λ node. IsNodeOf node b.now) }
     ensures each { (node : HardDrive) → IsHardDrive node → IsNodeOf node b.now → result ≡ Ok node }
-    ensures fault { result_err result ≡ fault_of b.now }
+    ensures fault { result_err result ≡ node_fault b.now }
 {
     match first_fault(b) {
         Some(fault) => Err(fault),
@@ -97,9 +97,9 @@ pub fn read_node(b: &[u8]) -> Result<HardDrive, NodeFault>
 }
 
 /// The fault of the first test that fails.
-#[tactic(auto, unfolding(crate::specs::Node::fault_of))]
+#[tactic(auto, unfolding(crate::specs::Node::node_fault))]
 fn first_fault(b: &[u8]) -> Option<NodeFault>
-    ensures exact { result ≡ fault_of b.now }
+    ensures exact { result ≡ node_fault b.now }
     ensures length { IfNone result (length b.now ≡ 42) }
     ensures passes { IfNone result (PassesAll b.now) }
 {
@@ -177,10 +177,10 @@ fn has_signature(b: &[u8]) -> bool
 }
 
 /// The hard drive that the fields tell.
-#[tactic(auto, unfolding(crate::specs::Node::fields_of))]
+#[tactic(auto, unfolding(crate::specs::Node::drive_fields))]
 fn fields(b: &[u8]) -> HardDrive
     requires { length b.now ≡ 42 }
-    ensures { result ≡ fields_of b.now }
+    ensures { result ≡ drive_fields b.now }
 {
     HardDrive {
         number: word_at(b, 4),
@@ -201,7 +201,7 @@ fn format_of(code: u8) -> Format
 /// The signature that the fields tell.
 fn sign_of(b: &[u8]) -> Sign
     requires { length b.now ≡ 42 }
-    ensures { result ≡ sign_of b.now }
+    ensures { result ≡ node_sign b.now }
 {
     match b[41] {
         0 => Sign::None,

@@ -12,16 +12,16 @@ use Rattle.history.specs.Setup.{Setup, IsSetup}
 use Rattle.history.specs.Tokens.{Request, is_accept, accepted, request, was_collected}
 use Rattle.history.specs.Rules.{IsLegal, refusal_of}
 use Rattle.history.specs.Next.{first_open, Turn, next_turn, Outcome, entry_of}
-use Rattle.history_laws.specs.Told.{is_done}
+use Rattle.history_laws.specs.Told.{has_no_order}
 use Rattle.history_laws.proofs.CountLemmas.{accepted-same}
 use Rattle.history_laws.proofs.PlainLemmas.{first-open-collect, turn-request, turn-collected}
 use Rattle.history_laws.proofs.TokenLemmas.{request-same, request-some, collected-collect}
 use Rattle.disk_core.specs.Calls.{is_fetched}
 use Rattle.shared_disk.specs.declared.clients.Stand.{Stand}
 use Rattle.shared_disk.proofs.OpeningLemmas.{collected-stays}
-use Rattle.shared_disk.specs.Lines.{Role, view_of, payload_bytes, answer_of, is_view_open, is_insertable, entry_if, line_entry, with_entry, first_own_open}
+use Rattle.shared_disk.specs.Lines.{Role, view_of, payload_bytes, answer_of, is_view_open, is_insertable, entry_if, line_entry, with_line_entry, first_own_open}
 use Rattle.shared_disk.specs.Script.{IsOpening}
-use Rattle.device_workers.specs.Plain.{Progress, progress, collect_one, with_collect, collects, last_collected, is_wait, after_wait, after_lines, taken_of, taken_by, taken_by_first, next_outcome, after_turn, after_turn_if, after_command, after_follow, after_step_if, after_step, a_round, is_done as is_role_done, is_over, after_rounds, rounds, plain_history}
+use Rattle.device_workers.specs.Plain.{Progress, progress, collect_one, with_collect, collects, with_last_collects, is_wait, after_wait, after_lines, taken_of, taken_by, taken_by_first, next_outcome, after_turn, after_turn_if, after_command, after_follow, after_step_if, after_step, a_round, has_no_order as is_role_done, is_over, after_rounds, rounds, plain_history}
 use Rattle.device_workers.specs.Laws.{IsAllDone}
 use Rattle.device_workers.proofs.Clients.{IsClients, uncollected-before, clients-none, clients-same, clients-line, opening-open}
 use Rattle.device_workers.proofs.Collecting.{own-keep, last-keep, collects-keep}
@@ -36,14 +36,14 @@ record IsSound (S : Setup) (H : List Entry) : Type 0 where
   tidy : IsTidy S H
   clients : IsClients H
 
-sound-quiet : (S : Setup) (H : List Entry) (e : Entry) → is_accept e ≡ false → is_done e ≡ false → IsSound S H → IsSound S (e ∷ H)
+sound-quiet : (S : Setup) (H : List Entry) (e : Entry) → is_accept e ≡ false → has_no_order e ≡ false → IsSound S H → IsSound S (e ∷ H)
 sound-quiet S H e other quiet sound = record { tidy = tidy-quiet S H e other quiet sound.tidy; clients = clients-same H e other sound.clients }
 
-tidy-if : (S : Setup) (H : List Entry) (b : Bool) (e : Entry) → is_accept e ≡ false → is_done e ≡ false → IsTidy S H → IsTidy S (with_entry (entry_if b e) H)
+tidy-if : (S : Setup) (H : List Entry) (b : Bool) (e : Entry) → is_accept e ≡ false → has_no_order e ≡ false → IsTidy S H → IsTidy S (with_line_entry (entry_if b e) H)
 tidy-if S H true e other quiet tidy = tidy-quiet S H e other quiet tidy
 tidy-if S H false e other quiet tidy = tidy
 
-tidy-line : (S : Setup) (H : List Entry) (tag : ℕ) (stand : Stand) (line : Order) → IsTidy S H → IsTidy S (with_entry (line_entry S H tag stand line) H)
+tidy-line : (S : Setup) (H : List Entry) (tag : ℕ) (stand : Stand) (line : Order) → IsTidy S H → IsTidy S (with_line_entry (line_entry S H tag stand line) H)
 unfolding line_entry
 tidy-line S H tag stand (order.Request asked payload k) tidy = by (refusal_of S H (view_of S stand k) asked k)
   where
@@ -66,7 +66,7 @@ sound-lines S H i stand (line ∷ rest) sound = by (is_wait line)
     waits (Some t) = sound
     waits None = own-keep (IsSound S) (λ G tag t kept. sound-quiet S G (entry.Collect tag t) refl refl kept) H (i + 1) sound
 
-    by : (b : Bool) → IsSound S (if b then after_wait (first_own_open S H (i + 1)) H (i + 1) line rest else record { history = with_entry (line_entry S H (i + 1) stand line) H; left = rest }).history
+    by : (b : Bool) → IsSound S (if b then after_wait (first_own_open S H (i + 1)) H (i + 1) line rest else record { history = with_line_entry (line_entry S H (i + 1) stand line) H; left = rest }).history
     by true = waits (first_own_open S H (i + 1))
     by false = record { tidy = tidy-line S H (i + 1) stand line sound.tidy; clients = clients-line S H i stand line sound.clients }
 
@@ -192,16 +192,16 @@ collects-each test H a (suc n) t q from until named passes = elim (cases_eq a t)
       collects-each test (with_collect test H a) (a + 1) n t q (omega (arith, from, other)) (omega (arith, until)) (one-request test H a t ∙ named) (λ was. passes (one-uncollected test H a t was))
 ]
 
-last-each : (H : List Entry) (t : ℕ) → IsClients H → t < accepted H → was_collected (last_collected H) t ≡ true
-unfolding last_collected
+last-each : (H : List Entry) (t : ℕ) → IsClients H → t < accepted H → was_collected (with_last_collects H) t ≡ true
+unfolding with_last_collects
 last-each H t clients less =
     let (q, named) = request-some H t less in
     collects-each (λ tag. not (nat_eq tag 0)) H 0 (accepted H) t q (omega arith) (omega (arith, less)) named (λ was. ap not (ne_eqb q.tag 0 (clients t q named was)))
 
-last-accepted : (H : List Entry) → accepted (last_collected H) ≡ accepted H
+last-accepted : (H : List Entry) → accepted (with_last_collects H) ≡ accepted H
 last-accepted H = last-keep (λ G. accepted G ≡ accepted H) (λ G tag t same. accepted-same G (entry.Collect tag t) refl ∙ same) H refl
 
-last-open : (S : Setup) (H : List Entry) → first_open S (last_collected H) ≡ first_open S H
+last-open : (S : Setup) (H : List Entry) → first_open S (with_last_collects H) ≡ first_open S H
 last-open S H = last-keep (λ G. first_open S G ≡ first_open S H) (λ G tag t same. first-open-collect S G tag t ∙ same) H refl
 
 -- whatever the lines and the outcomes are

@@ -17,8 +17,8 @@ use Rattle.history_laws.proofs.NextLemmas.{first-open-none}
 use Rattle.history_laws.proofs.OwingLemmas.{open-kept}
 use Rattle.history_laws.proofs.TokenLemmas.{request-accept, request-kept, request-same, request-accepted}
 use Rattle.shared_disk.specs.declared.clients.Stand.{Stand}
-use Rattle.shared_disk.specs.Lines.{view_of, payload_bytes, answer_of, is_view_open, is_insertable, entry_if, line_entry, with_entry}
-use Rattle.shared_disk.specs.Script.{Script, Deed, Enters, Does, IsOpening, entries_by, MayEnter, done_by, Follows, KeepsScript}
+use Rattle.shared_disk.specs.Lines.{view_of, payload_bytes, answer_of, is_view_open, is_insertable, entry_if, line_entry, with_line_entry}
+use Rattle.shared_disk.specs.Script.{Script, Deed, Enters, Does, IsOpening, entries_by, MayComeNext, line_count_by, Follows, KeepsScript}
 
 follows-opening : (S : Setup) (d : Script) (log : List Deed) → Follows S d log → IsOpening d.opening
 unfolding Follows
@@ -67,7 +67,7 @@ uncollected-before H e t not_it = by (was_collected H t) refl
 pub clients-same : (H : List Entry) (e : Entry) → is_accept e ≡ false → IsClients H → IsClients (e ∷ H)
 clients-same H e other clients t q named not_it = clients t q (sym (request-same H e t other) ∙ named) (uncollected-before H e t not_it)
 
-clients-if : (H : List Entry) (b : Bool) (e : Entry) → is_accept e ≡ false → IsClients H → IsClients (with_entry (entry_if b e) H)
+clients-if : (H : List Entry) (b : Bool) (e : Entry) → is_accept e ≡ false → IsClients H → IsClients (with_line_entry (entry_if b e) H)
 clients-if H true e other clients = clients-same H e other clients
 clients-if H false e other clients = clients
 
@@ -87,7 +87,7 @@ clients-accept H i view asked bytes clients t q named not_it = elim (cases_eq t 
     tag is zero_ = let e : i + 1 ≡ q.tag = ap (λ (r : Request). r.tag) (own is) in absurd (omega (arith, e, zero_))
 
 -- and with the entry of a client's line
-pub clients-line : (S : Setup) (H : List Entry) (i : ℕ) (stand : Stand) (line : Order) → IsClients H → IsClients (with_entry (line_entry S H (i + 1) stand line) H)
+pub clients-line : (S : Setup) (H : List Entry) (i : ℕ) (stand : Stand) (line : Order) → IsClients H → IsClients (with_line_entry (line_entry S H (i + 1) stand line) H)
 unfolding line_entry
 clients-line S H i stand (order.Request asked payload k) clients = by (refusal_of S H (view_of S stand k) asked k)
   where
@@ -101,7 +101,7 @@ clients-line S H i stand order.Eject clients = clients-if H (is_present H) (entr
 clients-line S H i stand order.Insert clients = clients-if H (is_insertable S H) (entry.Insert (i + 1) (media_id_of H + 1)) refl clients
 clients-line S H i stand (order.Protect on) clients = clients-same H (entry.Protect (i + 1) on) refl clients
 
-clients-enter : (S : Setup) (d : Script) (H : List Entry) (done : ℕ → ℕ) (e : Entry) → MayEnter S d H done e → IsClients H → IsClients (e ∷ H)
+clients-enter : (S : Setup) (d : Script) (H : List Entry) (done : ℕ → ℕ) (e : Entry) → MayComeNext S d H done e → IsClients H → IsClients (e ∷ H)
 clients-enter S d H done (entry.Done t c) may clients = clients-same H (entry.Done t c) refl clients
 clients-enter S d H done (entry.Fault t c n) may clients = clients-same H (entry.Fault t c n) refl clients
 clients-enter S d H done (entry.Collect tag t) may clients = clients-same H (entry.Collect tag t) refl clients
@@ -123,9 +123,9 @@ clients-none H opening t q named not_it = absurd (clash (was_collected H t) (ope
 clients-by : (S : Setup) (d : Script) (log : List Deed) → Follows S d log → IsClients (entries_by d.opening log)
 unfolding Follows entries_by
 clients-by S d [] opening = clients-none d.opening opening
-clients-by S d (Enters e ∷ log) (follows, may) = clients-enter S d (entries_by d.opening log) (done_by d.opening log) e may (clients-by S d log follows)
+clients-by S d (Enters e ∷ log) (follows, may) = clients-enter S d (entries_by d.opening log) (line_count_by d.opening log) e may (clients-by S d log follows)
 clients-by S d (Does i o ∷ log) (follows, does) =
-    subst (λ o'. IsClients (with_entry o' (entries_by d.opening log))) (sym does.entry) (clients-line S (entries_by d.opening log) i does.role.stand does.order (clients-by S d log follows))
+    subst (λ o'. IsClients (with_line_entry o' (entries_by d.opening log))) (sym does.entry) (clients-line S (entries_by d.opening log) i does.role.stand does.order (clients-by S d log follows))
 
 pub clients-own : (S : Setup) (d : Script) (places : List (List ℕ)) (H : List Entry) → KeepsScript S d places H → (t : ℕ) (q : Request) → request H t ≡ Some q → was_collected H t ≡ false → q.tag ≢ 0
 clients-own S d places H keeps t q named not_it = subst IsClients keeps.history (clients-by S d keeps.log keeps.follows) t q named not_it

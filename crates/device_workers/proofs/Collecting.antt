@@ -6,7 +6,7 @@ use Rattle.history.specs.Setup.{Setup}
 use Rattle.history.specs.Tokens.{Request, accepted, request, was_collected}
 use Rattle.history.specs.Next.{Outcome}
 use Rattle.history_laws.proofs.WeightLemmas.{weight, weight-collect}
-use Rattle.device_workers.specs.Plain.{outcomes_onto, collect_one, with_collect, collects, own_collected, last_collected}
+use Rattle.device_workers.specs.Plain.{outcomes_onto, collect_one, with_collect, collects, with_own_collects, with_last_collects}
 
 -- what holds of a history, and of it with one more collect, holds after all collects
 pub collects-keep : (P : List Entry → Type 0) → ((G : List Entry) (tag t : ℕ) → P G → P (Collect tag t ∷ G)) → (test : ℕ → Bool) (H : List Entry) (a n : ℕ) → P H → P (collects test H a n)
@@ -24,24 +24,24 @@ collects-keep P more test H a (suc n) holds = collects-keep P more test (with_co
         tested false = holds
 
 -- the same of a client's own collects
-pub own-keep : (P : List Entry → Type 0) → ((G : List Entry) (tag t : ℕ) → P G → P (Collect tag t ∷ G)) → (H : List Entry) (tag : ℕ) → P H → P (own_collected H tag)
-unfolding own_collected
+pub own-keep : (P : List Entry → Type 0) → ((G : List Entry) (tag t : ℕ) → P G → P (Collect tag t ∷ G)) → (H : List Entry) (tag : ℕ) → P H → P (with_own_collects H tag)
+unfolding with_own_collects
 own-keep P more H tag holds = collects-keep P more (λ owner. nat_eq owner tag) H 0 (accepted H) holds
 
 -- and of the last
-pub last-keep : (P : List Entry → Type 0) → ((G : List Entry) (tag t : ℕ) → P G → P (Collect tag t ∷ G)) → (H : List Entry) → P H → P (last_collected H)
-unfolding last_collected
+pub last-keep : (P : List Entry → Type 0) → ((G : List Entry) (tag t : ℕ) → P G → P (Collect tag t ∷ G)) → (H : List Entry) → P H → P (with_last_collects H)
+unfolding with_last_collects
 last-keep P more H holds = collects-keep P more (λ tag. not (nat_eq tag 0)) H 0 (accepted H) holds
 
 -- they make nothing lighter
-pub own-weight : (S : Setup) (H : List Entry) (tag : ℕ) → weight S (own_collected H tag) ≡ weight S H
+pub own-weight : (S : Setup) (H : List Entry) (tag : ℕ) → weight S (with_own_collects H tag) ≡ weight S H
 own-weight S H tag = own-keep (λ G. weight S G ≡ weight S H) (λ G tag' t same. weight-collect S G tag' t ∙ same) H tag refl
 
 -- and are no commands
-pub own-outcomes : (H : List Entry) (tag : ℕ) (more : List Outcome) → outcomes_onto (own_collected H tag) more ≡ outcomes_onto H more
+pub own-outcomes : (H : List Entry) (tag : ℕ) (more : List Outcome) → outcomes_onto (with_own_collects H tag) more ≡ outcomes_onto H more
 unfolding outcomes_onto
 own-outcomes H tag more = own-keep (λ G. outcomes_onto G more ≡ outcomes_onto H more) (λ G tag' t same. same) H tag refl
 
-pub last-outcomes : (H : List Entry) (more : List Outcome) → outcomes_onto (last_collected H) more ≡ outcomes_onto H more
+pub last-outcomes : (H : List Entry) (more : List Outcome) → outcomes_onto (with_last_collects H) more ≡ outcomes_onto H more
 unfolding outcomes_onto
 last-outcomes H more = last-keep (λ G. outcomes_onto G more ≡ outcomes_onto H more) (λ G tag t same. same) H refl

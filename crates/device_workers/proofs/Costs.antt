@@ -13,8 +13,8 @@ use Rattle.history.specs.Next.{first_open, Turn, next_turn}
 use Rattle.history_laws.proofs.WeightLemmas.{weight, weight-accept, weight-later, turn-falls}
 use Rattle.disk_core.specs.Calls.{is_fetched}
 use Rattle.shared_disk.specs.declared.clients.Stand.{Stand}
-use Rattle.shared_disk.specs.Lines.{Role, view_of, payload_bytes, answer_of, is_view_open, is_insertable, entry_if, line_entry, with_entry, first_own_open}
-use Rattle.device_workers.specs.Plain.{Progress, Taken, taken, own_collected, is_wait, after_wait, after_line, after_lines, put_left, taken_of, taken_by, taken_by_first, next_outcome, after_turn, after_turn_if, after_command, after_follow, after_step, a_round, line_rounds, lines_rounds, rounds}
+use Rattle.shared_disk.specs.Lines.{Role, view_of, payload_bytes, answer_of, is_view_open, is_insertable, entry_if, line_entry, with_line_entry, first_own_open}
+use Rattle.device_workers.specs.Plain.{Progress, Taken, after_taking, with_own_collects, is_wait, after_wait, after_line, after_lines, put_left, taken_of, taken_by, taken_by_first, next_outcome, after_turn, after_turn_if, after_command, after_follow, after_step, a_round, line_rounds, lines_rounds, rounds}
 use Rattle.device_workers.proofs.Collecting.{own-weight}
 
 -- what a stand can still need
@@ -62,12 +62,12 @@ after_step-lightens S some s = by (next_turn S s.history) refl
     by None next = inl (step-none S s next)
     by (Some turn) next = inr (turned-lightens S some s turn next)
 
-lightens-if : (S : Setup) (H : List Entry) (b : Bool) (e : Entry) → is_accept e ≡ false → weight S (with_entry (entry_if b e) H) + 1 ≤ weight S H + 1
+lightens-if : (S : Setup) (H : List Entry) (b : Bool) (e : Entry) → is_accept e ≡ false → weight S (with_line_entry (entry_if b e) H) + 1 ≤ weight S H + 1
 lightens-if S H true e other = omega (arith, weight-later S H e other)
 lightens-if S H false e other = omega arith
 
 -- the entry of a line
-entry-lightens : (S : Setup) (H : List Entry) (tag : ℕ) (stand : Stand) (line : Order) → weight S (with_entry (line_entry S H tag stand line) H) + 1 ≤ weight S H + line_rounds line
+entry-lightens : (S : Setup) (H : List Entry) (tag : ℕ) (stand : Stand) (line : Order) → weight S (with_line_entry (line_entry S H tag stand line) H) + 1 ≤ weight S H + line_rounds line
 unfolding line_entry
 entry-lightens S H tag stand (order.Request asked payload k) = by (refusal_of S H (view_of S stand k) asked k)
   where
@@ -96,7 +96,7 @@ lines_cost S H orders = weight S H + lines_rounds orders
 
 -- a client's line changes nothing, or makes the entries and its lines lighter
 abbrev LightensLines : Setup → List Entry → List Order → Taken → Type 0
-LightensLines S H orders made = (made ≡ taken H orders) ⊎ (lines_cost S made.history made.left + 1 ≤ lines_cost S H orders)
+LightensLines S H orders made = (made ≡ after_taking H orders) ⊎ (lines_cost S made.history made.left + 1 ≤ lines_cost S H orders)
 
 after_lines-lightens : (S : Setup) (H : List Entry) (tag : ℕ) (stand : Stand) (orders : List Order) → LightensLines S H orders (after_lines S H tag stand orders)
 unfolding lines_rounds
@@ -107,7 +107,7 @@ after_lines-lightens S H tag stand (line ∷ rest) = by (is_wait line)
     waits (Some t) = inl refl
     waits None = inr (omega (arith, own-weight S H tag, line-rounds-some line))
 
-    by : (b : Bool) → LightensLines S H (line ∷ rest) (if b then after_wait (first_own_open S H tag) H tag line rest else taken (with_entry (line_entry S H tag stand line) H) rest)
+    by : (b : Bool) → LightensLines S H (line ∷ rest) (if b then after_wait (first_own_open S H tag) H tag line rest else after_taking (with_line_entry (line_entry S H tag stand line) H) rest)
     by true = waits (first_own_open S H tag)
     by false = inr (omega (arith, entry-lightens S H tag stand line))
 
@@ -117,7 +117,7 @@ pub line-falls : (S : Setup) (H : List Entry) (tag : ℕ) (stand : Stand) (line 
 unfolding lines_rounds
 line-falls S H tag stand line rest none = rw none (by (is_wait line))
   where
-    by : (b : Bool) → lines_cost S (if b then taken (own_collected H tag) rest else taken (with_entry (line_entry S H tag stand line) H) rest).history (if b then taken (own_collected H tag) rest else taken (with_entry (line_entry S H tag stand line) H) rest).left + 1 ≤ weight S H + (line_rounds line + lines_rounds rest)
+    by : (b : Bool) → lines_cost S (if b then after_taking (with_own_collects H tag) rest else after_taking (with_line_entry (line_entry S H tag stand line) H) rest).history (if b then after_taking (with_own_collects H tag) rest else after_taking (with_line_entry (line_entry S H tag stand line) H) rest).left + 1 ≤ weight S H + (line_rounds line + lines_rounds rest)
     by true = omega (arith, own-weight S H tag, line-rounds-some line)
     by false = omega (arith, entry-lightens S H tag stand line)
 
@@ -134,7 +134,7 @@ set-same (y ∷ xs) zero x there = let same : y ≡ x = cc in ap (λ z. z ∷ xs
 set-same (y ∷ xs) (suc i) x there = ap (λ zs. y ∷ zs) (set-same xs i x there)
 
 -- a client that did nothing
-pub put-same : (s : Progress) (i : ℕ) (role : Role) → slice_get s.lefts i ≡ Some role → put_left s i role (taken s.history role.orders) ≡ s
+pub put-same : (s : Progress) (i : ℕ) (role : Role) → slice_get s.lefts i ≡ Some role → put_left s i role (after_taking s.history role.orders) ≡ s
 put-same s i role there = ap (λ (lefts : List Role). record s { lefts = lefts }) (set-same s.lefts i role there)
 
 -- a client whose line made the entries and its lines lighter

@@ -14,9 +14,9 @@ use Rattle.history_laws.proofs.PlainLemmas.{first-open-collect}
 use Rattle.shared_disk.specs.Lines.{Role, has_tag, first_left}
 use Rattle.shared_disk.specs.Script.{AreOver, places_at, KeepsScript, RunsWholeScript}
 use Rattle.shared_disk.specs.Desk.{DeskState, done_of, next_of, HasNoLine, HasNoLast, Keeps, LastSays}
-use Rattle.device_workers.specs.Plain.{Progress, progress, outcomes_onto, outcomes_after, last_collected, is_done, is_over, after_rounds, rounds, plain_history}
+use Rattle.device_workers.specs.Plain.{Progress, progress, outcomes_onto, outcomes_after, with_last_collects, has_no_order, is_over, after_rounds, rounds, plain_history}
 use Rattle.device_workers.specs.Leading.{LeadsFor, Leads}
-use Rattle.device_workers.specs.Serving.{lefts_of, IsAtOpening, Stays, RunsRounds, StopsAfter, CollectsRest, IsPlain, IsFaultlessPlain, IsPlainFront}
+use Rattle.device_workers.specs.Serving.{lefts_of, IsAtOpening, KeepsScriptAndGates, RunsRounds, StopsAfter, CollectsRest, IsPlain, IsFaultlessPlain, IsPlainFront}
 use Rattle.device_workers.proofs.Clients.{opening-drained, begins, clients-own}
 use Rattle.device_workers.proofs.Collecting.{last-outcomes}
 use Rattle.device_workers.proofs.Enough.{enough-from, cost-begins}
@@ -30,10 +30,10 @@ use Rattle.device_workers.proofs.Taking.{stays-on, takes-stays, takes-entries, t
 
 -- the first of the last collects were made
 pub record HasCollected (old new : DeskState) : Type 0 where
-  pub stays : Stays old new
+  pub stays : KeepsScriptAndGates old new
   pub places : new.places ≡ old.places
   pub keeps : Keeps new
-  pub rest : last_collected new.disk.entries ≡ last_collected old.disk.entries
+  pub rest : with_last_collects new.disk.entries ≡ with_last_collects old.disk.entries
   pub drained : first_open new.disk.setup new.disk.entries ≡ None
 
 pub collected-none : (old : DeskState) → Keeps old → first_open old.disk.setup old.disk.entries ≡ None → HasCollected old old
@@ -52,15 +52,15 @@ pub collected-more : (old mid new : DeskState) (t : ℕ) → HasCollected old mi
 unfolding LastSays
 collected-more old mid new t collected keeps (tag, at, takes) =
     let (q, named, own) = tagged mid.disk.entries tag t at.own in
-    let stays : Stays mid new = takes-stays mid new tag t takes in
-    let next : last_collected (entry.Collect tag t ∷ mid.disk.entries) ≡ last_collected mid.disk.entries =
-    subst (λ k. last_collected (entry.Collect k t ∷ mid.disk.entries) ≡ last_collected mid.disk.entries) own
+    let stays : KeepsScriptAndGates mid new = takes-stays mid new tag t takes in
+    let next : with_last_collects (entry.Collect tag t ∷ mid.disk.entries) ≡ with_last_collects mid.disk.entries =
+    subst (λ k. with_last_collects (entry.Collect k t ∷ mid.disk.entries) ≡ with_last_collects mid.disk.entries) own
     (last-next mid.disk.entries t q at.least named (clients-own mid.disk.setup mid.script mid.places mid.disk.entries collected.keeps.script t q named takes.collects.uncollected)) in
     record {
       stays = stays-on old mid new collected.stays stays;
       places = takes.places ∙ collected.places;
       keeps = keeps;
-      rest = ap last_collected (takes-entries mid new tag t takes) ∙ (next ∙ collected.rest);
+      rest = ap with_last_collects (takes-entries mid new tag t takes) ∙ (next ∙ collected.rest);
       drained = rw (stays.disk.setup, takes-entries mid new tag t takes) (first-open-collect mid.disk.setup mid.disk.entries tag t ∙ collected.drained);
     }
 
@@ -73,7 +73,7 @@ none-some None none is = cc
 none-some (Some x) none is = cc
 
 -- all were made
-pub collected-over : (old mid new : DeskState) → HasNoLine old → HasCollected old mid → LastSays mid None new → Stays old new × CollectsRest old new
+pub collected-over : (old mid new : DeskState) → HasNoLine old → HasCollected old mid → LastSays mid None new → KeepsScriptAndGates old new × CollectsRest old new
 unfolding LastSays
 collected-over old mid new over collected (none, same) = (rw same collected.stays, by none)
   where
@@ -127,7 +127,7 @@ after-is opening fresh given same = onto-same opening given (outcomes_onto fresh
 
 -- where rounds from the opening lead to an end, what is collected then is the plain history of its own outcomes
 plain-ends : (S : Setup) (opening fresh H : List Entry) (roles lefts : List Role) → IsSetup S → first_open S opening ≡ None → Leads S opening roles H lefts → is_over S (progress H lefts []) ≡ true
-    → last_collected H ≡ fresh ++ opening → fresh ++ opening ≡ plain_history S opening roles (outcomes_after opening (fresh ++ opening))
+    → with_last_collects H ≡ fresh ++ opening → fresh ++ opening ≡ plain_history S opening roles (outcomes_after opening (fresh ++ opening))
 unfolding plain_history
 plain-ends S opening fresh H roles lefts is none leads over collected =
     let on : LeadsFor S leads.k opening roles H lefts (rounds roles) [] = leads.on (rounds roles) [] in
@@ -135,10 +135,10 @@ plain-ends S opening fresh H roles lefts is none leads over collected =
     sym (enough-from S is (rounds roles) (progress opening roles on.given) leads.k (cost-begins S opening roles on.given none)) ∙ (on.goes ∙ over-stays S (rounds roles) (progress H lefts []) over) in
     let given : on.given ≡ outcomes_after opening (fresh ++ opening) =
     after-is opening fresh on.given (ap (λ G. outcomes_onto G []) (sym collected) ∙ (last-outcomes H [] ∙ on.same)) in
-    sym collected ∙ (ap (λ (s : Progress). last_collected s.history) (sym ran) ∙ ap (plain_history S opening roles) given)
+    sym collected ∙ (ap (λ (s : Progress). with_last_collects s.history) (sym ran) ∙ ap (plain_history S opening roles) given)
 
 -- the plain run of a desk at its opening
-module _ (old mid new : DeskState) (keeps : Keeps new) (is : IsSetup old.disk.setup) (legal : IsLegal old.disk.setup old.disk.entries) (stays : Stays old mid) (later : Stays mid new) (rounds_ : RunsRounds old mid) (rest : CollectsRest mid new)
+module _ (old mid new : DeskState) (keeps : Keeps new) (is : IsSetup old.disk.setup) (legal : IsLegal old.disk.setup old.disk.entries) (stays : KeepsScriptAndGates old mid) (later : KeepsScriptAndGates mid new) (rounds_ : RunsRounds old mid) (rest : CollectsRest mid new)
     (at : IsAtOpening old) where
   kept : KeepsScript old.disk.setup old.script new.places new.disk.entries
   kept = rw (later.disk.setup, stays.disk.setup, later.script, stays.script) at keeps.script
@@ -153,9 +153,9 @@ module _ (old mid new : DeskState) (keeps : Keeps new) (is : IsSetup old.disk.se
 
   over : is_over old.disk.setup (progress mid.disk.entries (lefts_of mid) []) ≡ true
   over =
-      let all : list_all is_done (lefts_of mid) ≡ true = lefts-over (done_of mid) 0 mid.script.roles (λ i. let e : 0 + i ≡ i = omega arith in rw e (rounds_.over i)) in
+      let all : list_all has_no_order (lefts_of mid) ≡ true = lefts-over (done_of mid) 0 mid.script.roles (λ i. let e : 0 + i ≡ i = omega arith in rw e (rounds_.over i)) in
       let drained : first_open old.disk.setup mid.disk.entries ≡ None = rw stays.disk.setup at rounds_.drained in
-      and_from (list_all is_done (lefts_of mid)) (is_none (first_open old.disk.setup mid.disk.entries)) all (ap is_none drained)
+      and_from (list_all has_no_order (lefts_of mid)) (is_none (first_open old.disk.setup mid.disk.entries)) all (ap is_none drained)
 
   plain-by : (fresh : List Entry) → new.disk.entries ≡ fresh ++ old.script.opening → fresh ++ old.script.opening ≡ plain_history old.disk.setup old.script.opening old.script.roles (outcomes_after old.script.opening (fresh ++ old.script.opening))
   plain-by fresh begun = plain-ends old.disk.setup old.script.opening fresh mid.disk.entries old.script.roles (lefts_of mid) is none leads over (sym rest.entries ∙ begun)
@@ -169,7 +169,7 @@ module _ (old mid new : DeskState) (keeps : Keeps new) (is : IsSetup old.disk.se
       subst (IsFaultlessPlain old.disk.setup old.script) (sym begun) (faultless old.disk.setup old.script.opening fresh old.script.roles (after-front old.script.opening fresh) (plain-by fresh begun))
 
 -- the whole script was run
-pub is-whole : (old mid new : DeskState) → Keeps new → Stays old mid → Stays mid new → RunsRounds old mid → CollectsRest mid new → RunsWholeScript old.disk.setup old.script new.disk.entries
+pub is-whole : (old mid new : DeskState) → Keeps new → KeepsScriptAndGates old mid → KeepsScriptAndGates mid new → RunsRounds old mid → CollectsRest mid new → RunsWholeScript old.disk.setup old.script new.disk.entries
 is-whole old mid new keeps stays later rounds_ rest = record {
   places = new.places;
   keeps = rw (later.disk.setup, stays.disk.setup, later.script, stays.script) at keeps.script;

@@ -5,7 +5,7 @@ use Rattle.history.specs.Setup.{Setup, IsSetup}
 use Rattle.history.specs.Next.{first_open, Outcome}
 use Rattle.history_laws.proofs.WeightLemmas.{weight-drained}
 use Rattle.shared_disk.specs.Lines.{Role}
-use Rattle.device_workers.specs.Plain.{Progress, progress, last_collected, a_round, is_over, after_rounds, plain_from, rounds, plain_history}
+use Rattle.device_workers.specs.Plain.{Progress, progress, with_last_collects, a_round, is_over, after_rounds, plain_from, rounds, plain_history}
 use Rattle.device_workers.proofs.Costs.{cost, Lightens, round-lightens}
 
 -- where a round changes nothing, no number of rounds does
@@ -43,4 +43,4 @@ pub enough : (S : Setup) (opening : List Entry) (roles : List Role) (outcomes : 
     → plain_from (rounds roles + more) S (progress opening roles outcomes) ≡ plain_history S opening roles outcomes
 unfolding plain_history
 enough S opening roles outcomes more some none =
-    ap (λ (s : Progress). last_collected s.history) (enough-from S some (rounds roles) (progress opening roles outcomes) more (cost-begins S opening roles outcomes none))
+    ap (λ (s : Progress). with_last_collects s.history) (enough-from S some (rounds roles) (progress opening roles outcomes) more (cost-begins S opening roles outcomes none))

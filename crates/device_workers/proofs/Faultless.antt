@@ -9,7 +9,7 @@ use Rattle.history.specs.Room.{faults}
 use Rattle.history_laws.proofs.CountLemmas.{faults-more, faults-same}
 use Rattle.disk_core.specs.Calls.{is_fetched}
 use Rattle.shared_disk.specs.Lines.{Role}
-use Rattle.device_workers.specs.Plain.{outcomes_onto, outcomes_after, Progress, progress, last_collected, taken_of, taken_by, taken_by_first, next_outcome, later_outcomes, after_turn, after_turn_if, after_command, after_follow, after_step_if, after_step, a_round, is_over, after_rounds, rounds, plain_history}
+use Rattle.device_workers.specs.Plain.{outcomes_onto, outcomes_after, Progress, progress, with_last_collects, taken_of, taken_by, taken_by_first, next_outcome, later_outcomes, after_turn, after_turn_if, after_command, after_follow, after_step_if, after_step, a_round, is_over, after_rounds, rounds, plain_history}
 
 AreMade : List Outcome → Type 0
 AreMade [] = Unit {0}
@@ -134,4 +134,4 @@ pub faultless : (S : Setup) (opening fresh : List Entry) (roles : List Role) →
 unfolding plain_history AreMade
 faultless S opening fresh roles after plain few =
     let none : faults fresh ≡ 0 = omega (arith, few, faults-both fresh opening) in
-    plain ∙ (ap (plain_history S opening roles) after ∙ ap last_collected (rounds-alike S (rounds roles) (progress opening roles (outcomes_onto fresh [])) (made-onto fresh [] none tt)))
+    plain ∙ (ap (plain_history S opening roles) after ∙ ap with_last_collects (rounds-alike S (rounds roles) (progress opening roles (outcomes_onto fresh [])) (made-onto fresh [] none tt)))

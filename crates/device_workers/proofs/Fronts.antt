@@ -8,9 +8,9 @@ use Rattle.history.specs.Setup.{Setup, IsSetup}
 use Rattle.history.specs.Next.{first_open, Turn, next_turn, entry_of}
 use Rattle.disk_core.specs.Calls.{is_fetched}
 use Rattle.shared_disk.specs.declared.clients.Stand.{Stand}
-use Rattle.shared_disk.specs.Lines.{Role, line_entry, with_entry, first_own_open}
+use Rattle.shared_disk.specs.Lines.{Role, line_entry, with_line_entry, first_own_open}
 use Rattle.shared_disk.specs.Script.{Script}
-use Rattle.device_workers.specs.Plain.{Progress, progress, own_collected, last_collected, is_wait, after_wait, after_lines, taken, taken_of, taken_by, taken_by_first, next_outcome, after_turn, after_turn_if, after_command, after_follow, after_step_if, after_step, a_round, is_over, after_rounds, rounds, plain_history}
+use Rattle.device_workers.specs.Plain.{Progress, progress, with_own_collects, with_last_collects, is_wait, after_wait, after_lines, after_taking, taken_of, taken_by, taken_by_first, next_outcome, after_turn, after_turn_if, after_command, after_follow, after_step_if, after_step, a_round, is_over, after_rounds, rounds, plain_history}
 use Rattle.device_workers.specs.Leading.{TakesFirst, LeadsFor, Leads}
 use Rattle.device_workers.specs.Serving.{IsPlainFront}
 use Rattle.device_workers.proofs.Collecting.{own-keep, last-keep}
@@ -30,14 +30,14 @@ on-entry H H' e (more, is) = (e ∷ more, ap (λ G. e ∷ G) is)
 on-on : (H G H' : List Entry) → Extends H G → Extends G H' → Extends H H'
 on-on H G H' (few, is) (more, is') = (more ++ few, is' ∙ (ap (λ K. more ++ K) is ∙ sym (append_assoc more few H)))
 
-on-line : (H : List Entry) (o : Option Entry) → Extends H (with_entry o H)
+on-line : (H : List Entry) (o : Option Entry) → Extends H (with_line_entry o H)
 on-line H None = on-same H
 on-line H (Some e) = on-entry H H e (on-same H)
 
-on-own : (H : List Entry) (tag : ℕ) → Extends H (own_collected H tag)
+on-own : (H : List Entry) (tag : ℕ) → Extends H (with_own_collects H tag)
 on-own H tag = own-keep (Extends H) (λ G owner t on. on-entry H G (entry.Collect owner t) on) H tag (on-same H)
 
-on-last : (H : List Entry) → Extends H (last_collected H)
+on-last : (H : List Entry) → Extends H (with_last_collects H)
 on-last H = last-keep (Extends H) (λ G owner t on. on-entry H G (entry.Collect owner t) on) H (on-same H)
 
 on-lines : (S : Setup) (H : List Entry) (tag : ℕ) (stand : Stand) (orders : List Order) → Extends H (after_lines S H tag stand orders).history
@@ -48,7 +48,7 @@ on-lines S H tag stand (line ∷ rest) = by (is_wait line)
     waits (Some t) = on-same H
     waits None = on-own H tag
 
-    by : (b : Bool) → Extends H (if b then after_wait (first_own_open S H tag) H tag line rest else taken (with_entry (line_entry S H tag stand line) H) rest).history
+    by : (b : Bool) → Extends H (if b then after_wait (first_own_open S H tag) H tag line rest else after_taking (with_line_entry (line_entry S H tag stand line) H) rest).history
     by true = waits (first_own_open S H tag)
     by false = on-line H (line_entry S H tag stand line)
 
@@ -124,5 +124,5 @@ is-front S d between lefts H lefts' n is none leads within takes =
     sym (enough-from S is (rounds d.roles) begin (1 + leads.k) (cost-begins S d.opening d.roles on.given none)) ∙ (ap (λ k. after_rounds k S begin) (sym count) ∙ (on.goes ∙ round-on S (rounds d.roles) here)) in
     let front : Extends H (a_round S here).history = subst (λ (p : Progress). Extends p.history (a_round S here).history) (takes.goes []) (on-round S n here within) in
     let whole : Extends H (after_rounds (rounds d.roles) S (a_round S here)).history = on-on H (a_round S here).history (after_rounds (rounds d.roles) S (a_round S here)).history front (on-rounds S (rounds d.roles) (a_round S here)) in
-    let (more, made) = on-on H (after_rounds (rounds d.roles) S (a_round S here)).history (last_collected (after_rounds (rounds d.roles) S (a_round S here)).history) whole (on-last (after_rounds (rounds d.roles) S (a_round S here)).history) in
-    record { outcomes = on.given; more = more; front = ap (λ (p : Progress). last_collected p.history) ran ∙ made }
+    let (more, made) = on-on H (after_rounds (rounds d.roles) S (a_round S here)).history (with_last_collects (after_rounds (rounds d.roles) S (a_round S here)).history) whole (on-last (after_rounds (rounds d.roles) S (a_round S here)).history) in
+    record { outcomes = on.given; more = more; front = ap (λ (p : Progress). with_last_collects p.history) ran ∙ made }

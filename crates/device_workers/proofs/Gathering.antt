@@ -11,7 +11,7 @@ use Rattle.history_laws.proofs.PlainLemmas.{mark-collect}
 use Rattle.history_laws.proofs.ScanLemmas.{first_from-some, first_from-fails}
 use Rattle.history_laws.proofs.TokenLemmas.{request-same, request-accepted, collected-collect, collected-same}
 use Rattle.shared_disk.specs.Lines.{has_tag, first_own_open, first_own_left, first_left}
-use Rattle.device_workers.specs.Plain.{collect_one, with_collect, collects, own_collected, last_collected}
+use Rattle.device_workers.specs.Plain.{collect_one, with_collect, collects, with_own_collects, with_last_collects}
 
 -- tokens that are passed over
 past : (test : ℕ → Bool) (H : List Entry) (a k m : ℕ) → ((u : ℕ) → a ≤ u → u < a + k → with_collect test H u ≡ H) → collects test H a (k + m) ≡ collects test H (a + k) m
@@ -85,8 +85,8 @@ own-found H tag t is =
     by (Some q) named own = (q, named, eqb-true q.tag tag own)
 
 -- a client's least token is handed back
-pub own-next : (H : List Entry) (tag t : ℕ) → first_own_left H tag ≡ Some t → own_collected (Collect tag t ∷ H) tag ≡ own_collected H tag
-unfolding own_collected first_own_left
+pub own-next : (H : List Entry) (tag t : ℕ) → first_own_left H tag ≡ Some t → with_own_collects (Collect tag t ∷ H) tag ≡ with_own_collects H tag
+unfolding with_own_collects first_own_left
 own-next H tag t least =
     let (lo, hi, here, before) = first_from-some (λ u. not (was_collected H u) && has_tag tag (request H u)) 0 (accepted H) t least in
     let (uncollected, (q, named, own)) = own-found H tag t here in
@@ -95,8 +95,8 @@ own-next H tag t least =
     sym (rw own at next)
 
 -- it has none left
-pub own-over : (H : List Entry) (tag : ℕ) → first_own_left H tag ≡ None → own_collected H tag ≡ H
-unfolding own_collected first_own_left
+pub own-over : (H : List Entry) (tag : ℕ) → first_own_left H tag ≡ None → with_own_collects H tag ≡ H
+unfolding with_own_collects first_own_left
 own-over H tag none =
     gathered (λ owner. nat_eq owner tag) H (λ u less. own-passed H tag u (first_from-fails (λ v. not (was_collected H v) && has_tag tag (request H v)) 0 (accepted H) u none (omega arith) (omega (arith, less))))
 
@@ -109,15 +109,15 @@ unfolding IsPassed
 left-passed test H u fails r named uncollected = let was : was_collected H u ≡ true = not-false (was_collected H u) fails in cc
 
 -- the least token of all is handed back, which is a client's
-pub last-next : (H : List Entry) (t : ℕ) (q : Request) → first_left H ≡ Some t → request H t ≡ Some q → q.tag ≢ 0 → last_collected (Collect q.tag t ∷ H) ≡ last_collected H
-unfolding last_collected first_left
+pub last-next : (H : List Entry) (t : ℕ) (q : Request) → first_left H ≡ Some t → request H t ≡ Some q → q.tag ≢ 0 → with_last_collects (Collect q.tag t ∷ H) ≡ with_last_collects H
+unfolding with_last_collects first_left
 last-next H t q least named own =
     let (lo, hi, here, before) = first_from-some (λ u. not (was_collected H u)) 0 (accepted H) t least in
     sym (gather (λ tag. not (nat_eq tag 0)) H t q named (not-true (was_collected H t) here) (ap not (ne_eqb q.tag 0 own)) (λ u less. left-passed (λ tag. not (nat_eq tag 0)) H u (before u (omega arith) less)))
 
 -- none is left
-pub last-over : (H : List Entry) → first_left H ≡ None → last_collected H ≡ H
-unfolding last_collected first_left
+pub last-over : (H : List Entry) → first_left H ≡ None → with_last_collects H ≡ H
+unfolding with_last_collects first_left
 last-over H none =
     gathered (λ tag. not (nat_eq tag 0)) H (λ u less. left-passed (λ tag. not (nat_eq tag 0)) H u (first_from-fails (λ v. not (was_collected H v)) 0 (accepted H) u none (omega arith) (omega (arith, less))))
 

@@ -7,8 +7,8 @@ use Rattle.history.specs.Setup.{Setup}
 use Rattle.history.specs.Next.{first_open, Turn, next_turn, Outcome, Made, Failed, entry_of}
 use Rattle.history_laws.proofs.TurnNoneLemmas.{drained-turn}
 use Rattle.std.specs.List.{list_all}
-use Rattle.shared_disk.specs.Lines.{Role, line_entry, with_entry, first_own_open}
-use Rattle.device_workers.specs.Plain.{Progress, progress, outcomes_onto, own_collected, is_wait, taken, put_left, taken_by, taken_by_first, after_step, after_command, a_round, has_none, is_done, is_over, after_rounds}
+use Rattle.shared_disk.specs.Lines.{Role, line_entry, with_line_entry, first_own_open}
+use Rattle.device_workers.specs.Plain.{Progress, progress, outcomes_onto, with_own_collects, is_wait, after_taking, put_left, taken_by, taken_by_first, after_step, after_command, a_round, has_none, has_no_order, is_over, after_rounds}
 use Rattle.device_workers.specs.Leading.{TakesBy, TakesFirst, StepsOn, IsStep, IsTurned, LeadsFor, Leads}
 use Rattle.device_workers.proofs.Collecting.{own-outcomes}
 use Rattle.device_workers.proofs.Costs.{put-same, step-none}
@@ -47,7 +47,7 @@ step-fetched S H G H' fetched t u lefts more =
 pub takes-none : (S : Setup) (i : ℕ) (H : List Entry) (lefts : List Role) (role : Role) → slice_get lefts i ≡ Some role → role.orders ≡ [] → TakesBy S i H lefts H lefts
 unfolding taken_by
 takes-none S i H lefts role there none = record {
-  goes = λ outcomes. rw (there, none) (ap (λ left. put_left (progress H lefts outcomes) i role (taken H left)) (sym none) ∙ put-same (progress H lefts outcomes) i role there);
+  goes = λ outcomes. rw (there, none) (ap (λ left. put_left (progress H lefts outcomes) i role (after_taking H left)) (sym none) ∙ put-same (progress H lefts outcomes) i role there);
   same = λ more. refl;
 }
 
@@ -56,13 +56,13 @@ pub takes-stay : (S : Setup) (i : ℕ) (H : List Entry) (lefts : List Role) (rol
     → first_own_open S H (i + 1) ≡ Some t → TakesBy S i H lefts H lefts
 unfolding taken_by
 takes-stay S i H lefts role line rest t there next wait open_ = record {
-  goes = λ outcomes. rw (there, next, wait, open_) (ap (λ left. put_left (progress H lefts outcomes) i role (taken H left)) (sym next) ∙ put-same (progress H lefts outcomes) i role there);
+  goes = λ outcomes. rw (there, next, wait, open_) (ap (λ left. put_left (progress H lefts outcomes) i role (after_taking H left)) (sym next) ∙ put-same (progress H lefts outcomes) i role there);
   same = λ more. refl;
 }
 
 -- a wait with none
 pub takes-wait : (S : Setup) (i : ℕ) (H : List Entry) (lefts : List Role) (role : Role) (line : Order) (rest : List Order) → slice_get lefts i ≡ Some role → role.orders ≡ line ∷ rest → is_wait line ≡ true
-    → first_own_open S H (i + 1) ≡ None → TakesBy S i H lefts (own_collected H (i + 1)) (slice_set lefts i (record role { orders = rest }))
+    → first_own_open S H (i + 1) ≡ None → TakesBy S i H lefts (with_own_collects H (i + 1)) (slice_set lefts i (record role { orders = rest }))
 unfolding taken_by
 takes-wait S i H lefts role line rest there next wait none = record {
   goes = λ outcomes. rw (there, next, wait, none) refl;
@@ -71,8 +71,8 @@ takes-wait S i H lefts role line rest there next wait none = record {
 
 -- another line
 pub takes-line : (S : Setup) (i : ℕ) (H : List Entry) (lefts : List Role) (role : Role) (line : Order) (rest : List Order) → slice_get lefts i ≡ Some role → role.orders ≡ line ∷ rest → is_wait line ≡ false
-    → ((more : List Outcome) → outcomes_onto (with_entry (line_entry S H (i + 1) role.stand line) H) more ≡ outcomes_onto H more)
-    → TakesBy S i H lefts (with_entry (line_entry S H (i + 1) role.stand line) H) (slice_set lefts i (record role { orders = rest }))
+    → ((more : List Outcome) → outcomes_onto (with_line_entry (line_entry S H (i + 1) role.stand line) H) more ≡ outcomes_onto H more)
+    → TakesBy S i H lefts (with_line_entry (line_entry S H (i + 1) role.stand line) H) (slice_set lefts i (record role { orders = rest }))
 unfolding taken_by
 takes-line S i H lefts role line rest there next other quiet = record {
   goes = λ outcomes. rw (there, next, other) refl;
@@ -97,12 +97,12 @@ none-left : (orders : List Order) → has_none orders ≡ true → orders ≡ []
 none-left [] is = refl
 none-left (line ∷ rest) is = cc
 
-all-at : (lefts : List Role) (i : ℕ) (role : Role) → list_all is_done lefts ≡ true → slice_get lefts i ≡ Some role → role.orders ≡ []
+all-at : (lefts : List Role) (i : ℕ) (role : Role) → list_all has_no_order lefts ≡ true → slice_get lefts i ≡ Some role → role.orders ≡ []
 all-at [] i role all there = cc
-all-at (r ∷ lefts) zero role all there = let same : r ≡ role = cc in rw (← same) (none-left r.orders (and_parts (is_done r) (list_all is_done lefts) all).0)
-all-at (r ∷ lefts) (suc i) role all there = all-at lefts i role (and_parts (is_done r) (list_all is_done lefts) all).1 there
+all-at (r ∷ lefts) zero role all there = let same : r ≡ role = cc in rw (← same) (none-left r.orders (and_parts (has_no_order r) (list_all has_no_order lefts) all).0)
+all-at (r ∷ lefts) (suc i) role all there = all-at lefts i role (and_parts (has_no_order r) (list_all has_no_order lefts) all).1 there
 
-over-first : (S : Setup) (n : ℕ) (H : List Entry) (lefts : List Role) (outcomes : List Outcome) → list_all is_done lefts ≡ true → taken_by_first S n (progress H lefts outcomes) ≡ progress H lefts outcomes
+over-first : (S : Setup) (n : ℕ) (H : List Entry) (lefts : List Role) (outcomes : List Outcome) → list_all has_no_order lefts ≡ true → taken_by_first S n (progress H lefts outcomes) ≡ progress H lefts outcomes
 unfolding taken_by_first taken_by
 over-first S zero H lefts outcomes all = refl
 over-first S (suc n) H lefts outcomes all = rw (over-first S n H lefts outcomes all) (by (slice_get lefts n) refl)
@@ -115,9 +115,9 @@ none-is : (o : Option ℕ) → is_none o ≡ true → o ≡ None
 none-is None is = refl
 none-is (Some t) is = cc
 
-pub over-parts : (S : Setup) (s : Progress) → is_over S s ≡ true → (list_all is_done s.lefts ≡ true) × (first_open S s.history ≡ None)
+pub over-parts : (S : Setup) (s : Progress) → is_over S s ≡ true → (list_all has_no_order s.lefts ≡ true) × (first_open S s.history ≡ None)
 over-parts S s over =
-    let parts : (list_all is_done s.lefts ≡ true) × (is_none (first_open S s.history) ≡ true) = and_parts (list_all is_done s.lefts) (is_none (first_open S s.history)) over in
+    let parts : (list_all has_no_order s.lefts ≡ true) × (is_none (first_open S s.history) ≡ true) = and_parts (list_all has_no_order s.lefts) (is_none (first_open S s.history)) over in
     (parts.0, none-is (first_open S s.history) parts.1)
 
 over-round : (S : Setup) (s : Progress) → is_over S s ≡ true → a_round S s ≡ s

@@ -5,7 +5,7 @@ use Rattle.std.specs.List.{list_all}
 use Rattle.history.specs.declared.order.Order.{Order}
 use Rattle.shared_disk.specs.Lines.{Role}
 use Rattle.shared_disk.specs.Script.{next_order}
-use Rattle.device_workers.specs.Plain.{has_none, is_done}
+use Rattle.device_workers.specs.Plain.{has_none, has_no_order}
 use Rattle.device_workers.specs.Serving.{lefts_from}
 
 -- a role of which so many lines are done
@@ -66,13 +66,13 @@ drop-none (y ∷ xs) zero is = cc
 drop-none (y ∷ xs) (suc i) is = drop-none xs i is
 
 -- no client has a line left
-pub lefts-over : (done : ℕ → ℕ) (a : ℕ) (roles : List Role) → ((i : ℕ) → next_order roles i (done (a + i)) ≡ None) → list_all is_done (lefts_from done a roles) ≡ true
+pub lefts-over : (done : ℕ → ℕ) (a : ℕ) (roles : List Role) → ((i : ℕ) → next_order roles i (done (a + i)) ≡ None) → list_all has_no_order (lefts_from done a roles) ≡ true
 unfolding lefts_from
 lefts-over done a [] over = refl
 lefts-over done a (role ∷ more) over =
     let e : a + 0 ≡ a = omega arith in
     let none : drop (done a) role.orders ≡ [] = drop-none role.orders (done a) (rw e at (over 0)) in
-    and_from (has_none (drop (done a) role.orders)) (list_all is_done (lefts_from done (a + 1) more)) (rw none refl)
+    and_from (has_none (drop (done a) role.orders)) (list_all has_no_order (lefts_from done (a + 1) more)) (rw none refl)
     (lefts-over done (a + 1) more (λ i. let f : a + suc i ≡ a + 1 + i = omega arith in rw f at (over (suc i))))
 
 -- some client has a line left, where not all have none
@@ -85,19 +85,19 @@ nothing : (orders : List Order) → has_none orders ≡ true → orders ≡ []
 nothing [] is = refl
 nothing (line ∷ rest) is = cc
 
-lefts-back : (done : ℕ → ℕ) (a : ℕ) (roles : List Role) → list_all is_done (lefts_from done a roles) ≡ true → (i : ℕ) → next_order roles i (done (a + i)) ≡ None
+lefts-back : (done : ℕ → ℕ) (a : ℕ) (roles : List Role) → list_all has_no_order (lefts_from done a roles) ≡ true → (i : ℕ) → next_order roles i (done (a + i)) ≡ None
 unfolding lefts_from
 lefts-back done a [] all i = refl
 lefts-back done a (role ∷ more) all zero =
     let e : a + 0 ≡ a = omega arith in
-    rw e (none-there role.orders (done a) (nothing (drop (done a) role.orders) (and_parts (has_none (drop (done a) role.orders)) (list_all is_done (lefts_from done (a + 1) more)) all).0))
+    rw e (none-there role.orders (done a) (nothing (drop (done a) role.orders) (and_parts (has_none (drop (done a) role.orders)) (list_all has_no_order (lefts_from done (a + 1) more)) all).0))
 lefts-back done a (role ∷ more) all (suc i) =
     let e : a + suc i ≡ a + 1 + i = omega arith in
-    rw e (lefts-back done (a + 1) more (and_parts (has_none (drop (done a) role.orders)) (list_all is_done (lefts_from done (a + 1) more)) all).1 i)
+    rw e (lefts-back done (a + 1) more (and_parts (has_none (drop (done a) role.orders)) (list_all has_no_order (lefts_from done (a + 1) more)) all).1 i)
 
-pub lefts-none : (done : ℕ → ℕ) (a : ℕ) (roles : List Role) → (((i : ℕ) → next_order roles i (done (a + i)) ≡ None) → ⊥) → list_all is_done (lefts_from done a roles) ≡ false
-lefts-none done a roles left = by (list_all is_done (lefts_from done a roles)) refl
+pub lefts-none : (done : ℕ → ℕ) (a : ℕ) (roles : List Role) → (((i : ℕ) → next_order roles i (done (a + i)) ≡ None) → ⊥) → list_all has_no_order (lefts_from done a roles) ≡ false
+lefts-none done a roles left = by (list_all has_no_order (lefts_from done a roles)) refl
   where
-    by : (b : Bool) → list_all is_done (lefts_from done a roles) ≡ b → b ≡ false
+    by : (b : Bool) → list_all has_no_order (lefts_from done a roles) ≡ b → b ≡ false
     by true all = absurd (left (lefts-back done a roles all))
     by false all = refl

@@ -6,7 +6,7 @@ use Rattle.disk_core.specs.Turns.{IsIdle}
 use Rattle.shared_disk.specs.Desk.{DeskState, done_of, next_of, HasNoLine, HasLine, Keeps}
 use Rattle.device_workers.specs.Plain.{progress}
 use Rattle.device_workers.specs.Leading.{TakesFirst, TakesBy, Leads}
-use Rattle.device_workers.specs.Serving.{lefts_of, Stays, TakesLine, TakesLines, Untaken, StopsIn, Steps, StepsOnce, RunsRound, RunsRounds, StopsAfter}
+use Rattle.device_workers.specs.Serving.{lefts_of, KeepsScriptAndGates, TakesLine, TakesLines, Untaken, StopsIn, Steps, StepsOnce, RunsRound, RunsRounds, StopsAfter}
 use Rattle.device_workers.proofs.Costs.{cost}
 use Rattle.device_workers.proofs.Leading.{first-none, first-more, leads-same, leads-on, leads-round}
 use Rattle.device_workers.proofs.Lefts.{lefts-length, lefts-none}
@@ -14,23 +14,23 @@ use Rattle.device_workers.proofs.Stepping.{steps-fall}
 use Rattle.device_workers.proofs.Stills.{round-falls, lines-later}
 use Rattle.device_workers.proofs.Taking.{stays-on, same-lefts}
 
-pub stays-same : (d : DeskState) → Stays d d
+pub stays-same : (d : DeskState) → KeepsScriptAndGates d d
 stays-same d = record { disk = record { setup = refl; gates = refl }; script = refl }
 
 -- gates are idle after it as before
-pub idle-on : (old new : DeskState) → Stays old new → IsIdle old.disk.gates → IsIdle new.disk.gates
+pub idle-on : (old new : DeskState) → KeepsScriptAndGates old new → IsIdle old.disk.gates → IsIdle new.disk.gates
 idle-on old new stays idle = subst IsIdle (sym stays.disk.gates) idle
 
 -- the first n clients took their lines
 pub record HasTaken (old : DeskState) (n : ℕ) (new : DeskState) : Type 0 where
-  pub stays : Stays old new
+  pub stays : KeepsScriptAndGates old new
   pub keeps : Keeps new
   pub takes : TakesLines old n new
 
 pub taken-none : (old : DeskState) → Keeps old → HasTaken old 0 old
 taken-none old keeps = record { stays = stays-same old; keeps = keeps; takes = first-none old.disk.setup old.disk.entries (lefts_of old) }
 
-pub taken-more : (old mid new : DeskState) (i : ℕ) → HasTaken old i mid → Stays mid new → Keeps new → TakesLine mid (i + 1 - 1) new → HasTaken old (i + 1) new
+pub taken-more : (old mid new : DeskState) (i : ℕ) → HasTaken old i mid → KeepsScriptAndGates mid new → Keeps new → TakesLine mid (i + 1 - 1) new → HasTaken old (i + 1) new
 taken-more old mid new i taken stays keeps takes =
     let e : i + 1 - 1 ≡ i = omega arith in
     let by : TakesBy old.disk.setup i mid.disk.entries (lefts_of mid) new.disk.entries (lefts_of new) =
@@ -42,7 +42,7 @@ taken-more old mid new i taken stays keeps takes =
     }
 
 -- the next client did not take its line
-pub stops-in : (old mid new : DeskState) (i : ℕ) → i < length old.script.roles → HasTaken old i mid → Stays mid new → Untaken mid new → StopsIn old new
+pub stops-in : (old mid new : DeskState) (i : ℕ) → i < length old.script.roles → HasTaken old i mid → KeepsScriptAndGates mid new → Untaken mid new → StopsIn old new
 stops-in old mid new i within taken stays none =
     let lefts : lefts_of new ≡ lefts_of mid = same-lefts mid new stays.script none.places in
     record {
@@ -53,7 +53,7 @@ stops-in old mid new i within taken stays none =
     }
 
 -- the lines and a step are a round
-pub a-round : (old mid new : DeskState) (some : Bool) → Stays old mid → TakesLines old (length old.script.roles) mid → StepsOnce mid some new → RunsRound old some new
+pub a-round : (old mid new : DeskState) (some : Bool) → KeepsScriptAndGates old mid → TakesLines old (length old.script.roles) mid → StepsOnce mid some new → RunsRound old some new
 a-round old mid new some stays takes steps =
     let lefts : lefts_of new ≡ lefts_of mid = same-lefts mid new steps.stays.script steps.places in
     let count : length (lefts_of old) ≡ length old.script.roles = lefts-length (done_of old) 0 old.script.roles in
@@ -70,14 +70,14 @@ desk_cost d = cost d.disk.setup (progress d.disk.entries (lefts_of d) [])
 
 -- rounds that lead from one desk to another
 pub record HasRun (old new : DeskState) : Type 0 where
-  pub stays : Stays old new
+  pub stays : KeepsScriptAndGates old new
   pub keeps : Keeps new
   pub leads : Leads old.disk.setup old.disk.entries (lefts_of old) new.disk.entries (lefts_of new)
 
 pub run-none : (old : DeskState) → Keeps old → HasRun old old
 run-none old keeps = record { stays = stays-same old; keeps = keeps; leads = leads-same old.disk.setup old.disk.entries (lefts_of old) }
 
-pub run-more : (old mid new : DeskState) (some : Bool) → HasRun old mid → Stays mid new → Keeps new → RunsRound mid some new → HasRun old new
+pub run-more : (old mid new : DeskState) (some : Bool) → HasRun old mid → KeepsScriptAndGates mid new → Keeps new → RunsRound mid some new → HasRun old new
 run-more old mid new some run stays keeps round =
     let leads : Leads mid.disk.setup mid.disk.entries (lefts_of mid) new.disk.entries (lefts_of new) =
     leads-round mid.disk.setup mid.disk.entries (lefts_of mid) round.lined (lefts_of new) new.disk.entries round.takes round.steps.step in
@@ -100,7 +100,7 @@ stops-after old mid new run stops = record {
 }
 
 -- a round with a command lowers what can be needed
-pub round-going : (old new : DeskState) → IsSetup old.disk.setup → Stays old new → RunsRound old true new → desk_cost new + 1 ≤ desk_cost old
+pub round-going : (old new : DeskState) → IsSetup old.disk.setup → KeepsScriptAndGates old new → RunsRound old true new → desk_cost new + 1 ≤ desk_cost old
 unfolding desk_cost
 round-going old new is stays round =
     rw stays.disk.setup (omega (
@@ -110,7 +110,7 @@ round-going old new is stays round =
     ))
 
 -- so does one that leaves a line
-pub round-leaving : (old new : DeskState) → Stays old new → RunsRound old false new → (HasNoLine new → ⊥) → desk_cost new + 1 ≤ desk_cost old
+pub round-leaving : (old new : DeskState) → KeepsScriptAndGates old new → RunsRound old false new → (HasNoLine new → ⊥) → desk_cost new + 1 ≤ desk_cost old
 unfolding desk_cost
 round-leaving old new stays round left =
     let (none, same) = round.steps.over refl in
@@ -118,7 +118,7 @@ round-leaving old new stays round left =
     (round-falls old.disk.setup old.disk.entries (lefts_of old) round.lined (lefts_of new) round.takes none (lefts-none (done_of new) 0 new.script.roles (λ over. left (λ i. let e : 0 + i ≡ i = omega arith in rw e at (over i)))))
 
 -- the last round
-pub run-over : (old new : DeskState) (mid : DeskState) → HasRun old new → Stays mid new → RunsRound mid false new → HasNoLine new → RunsRounds old new
+pub run-over : (old new : DeskState) (mid : DeskState) → HasRun old new → KeepsScriptAndGates mid new → RunsRound mid false new → HasNoLine new → RunsRounds old new
 run-over old new mid run stays round over =
     let (none, same) = round.steps.over refl in
     record {
@@ -128,7 +128,7 @@ run-over old new mid run stays round over =
     }
 
 -- the setup stays one that a disk may have
-pub going-on : (old new : DeskState) → Stays old new → IsSetup old.disk.setup → IsSetup new.disk.setup
+pub going-on : (old new : DeskState) → KeepsScriptAndGates old new → IsSetup old.disk.setup → IsSetup new.disk.setup
 going-on old new stays is = rw stays.disk.setup is
 
 -- a line is left

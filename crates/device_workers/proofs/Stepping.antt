@@ -11,7 +11,7 @@ use Rattle.disk_core.specs.declared.answers.Stored.TheVariants as stored
 use Rattle.disk_core.specs.State.{State}
 use Rattle.disk_core.specs.Facts.{AreFacts}
 use Rattle.disk_core.specs.Calls.{is_fetched, StepSays, StoreSays}
-use Rattle.disk_core.specs.Turns.{IsIdle, KeepsGates, TakesTurn, StepTurns, merged, StoresAtOnce}
+use Rattle.disk_core.specs.Turns.{IsIdle, KeepsGates, TakesTurn, StepTurns, merge_of, StoresAtOnce}
 use Rattle.disk_core.proofs.TurnLemmas.{steps-turn}
 use Rattle.disk_core.proofs.AtOnceLemmas.{stores-merged}
 use Rattle.disk_core.proofs.IdleLemmas.{idle-stays}
@@ -54,11 +54,11 @@ module _ (old : State) (is : IsSetup old.setup) (facts : AreFacts old) (idle : I
       }
 
   -- a store of a merged work has no other answer
-  answered-disk : (mid new : State) (w w' : Lent) (answer : Stored) → StepSays old (step.Lent w) mid → w' ≡ merged w → StoreSays mid w' answer new → StoresAtOnce old mid answer new
+  answered-disk : (mid new : State) (w w' : Lent) (answer : Stored) → StepSays old (step.Lent w) mid → w' ≡ merge_of w → StoreSays mid w' answer new → StoresAtOnce old mid answer new
   answered-disk mid new w w' answer says merges stores = stores-merged old mid new w answer is facts idle says (subst (λ v. StoreSays mid v answer new) merges stores)
 
   -- a done fetch, and its store
-  stored-disk : (mid new : State) (w w' : Lent) → StepSays old (step.Lent w) mid → w' ≡ merged w → StoreSays mid w' stored.Did new → StepsDisk old true new
+  stored-disk : (mid new : State) (w w' : Lent) → StepSays old (step.Lent w) mid → w' ≡ merge_of w → StoreSays mid w' stored.Did new → StepsDisk old true new
   stored-disk mid new w w' says merges stores = by (steps-turn old mid (step.Lent w) is facts idle.held idle.free says) (answered-disk mid new w w' stored.Did says merges stores)
     where
       by : StepTurns old (step.Lent w) mid → StoresAtOnce old mid stored.Did new → StepsDisk old true new
@@ -98,11 +98,11 @@ module _ (old : DeskState) (is : IsSetup old.disk.setup) (facts : AreFacts old.d
       let steps : StepsDisk old.disk true new.disk = did-disk old.disk is facts idle new.disk on.says in
       record { stays = record { disk = steps.keeps; script = on.script }; places = on.places; steps = steps.steps }
 
-  pub answered : (mid new : DeskState) (w w' : Lent) (answer : Stored) → OnDisk old mid (λ s t. StepSays s (step.Lent w) t) → w' ≡ merged w → OnDisk mid new (λ s t. StoreSays s w' answer t)
+  pub answered : (mid new : DeskState) (w w' : Lent) (answer : Stored) → OnDisk old mid (λ s t. StepSays s (step.Lent w) t) → w' ≡ merge_of w → OnDisk mid new (λ s t. StoreSays s w' answer t)
       → StoresAtOnce old.disk mid.disk answer new.disk
   answered mid new w w' answer on merges stores = answered-disk old.disk is facts idle mid.disk new.disk w w' answer on.says merges stores.says
 
-  pub stored-at-once : (mid new : DeskState) (w w' : Lent) → OnDisk old mid (λ s t. StepSays s (step.Lent w) t) → w' ≡ merged w → OnDisk mid new (λ s t. StoreSays s w' stored.Did t) → StepsOnce old true new
+  pub stored-at-once : (mid new : DeskState) (w w' : Lent) → OnDisk old mid (λ s t. StepSays s (step.Lent w) t) → w' ≡ merge_of w → OnDisk mid new (λ s t. StoreSays s w' stored.Did t) → StepsOnce old true new
   stored-at-once mid new w w' on merges stores =
       let steps : StepsDisk old.disk true new.disk = stored-disk old.disk is facts idle mid.disk new.disk w w' on.says merges stores.says in
       record { stays = record { disk = steps.keeps; script = stores.script ∙ on.script }; places = stores.places ∙ on.places; steps = steps.steps }

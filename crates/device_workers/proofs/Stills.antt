@@ -10,7 +10,7 @@ use Rattle.history.specs.Marks.{is_outstanding}
 use Rattle.history.specs.Next.{first_open}
 use Rattle.history_laws.proofs.ScanLemmas.{first_from-none, first_from-fails}
 use Rattle.shared_disk.specs.Lines.{Role, has_tag, first_own_open}
-use Rattle.device_workers.specs.Plain.{Progress, progress, after_line, taken_of, taken_by, taken_by_first, has_none, is_done}
+use Rattle.device_workers.specs.Plain.{Progress, progress, after_line, taken_of, taken_by, taken_by_first, has_none, has_no_order}
 use Rattle.device_workers.specs.Leading.{TakesFirst}
 use Rattle.device_workers.proofs.Costs.{cost, Lightens, line-falls, put-falls, taken_by-lightens, first-lightens}
 
@@ -68,20 +68,20 @@ still-first S (suc n) s none = by (still-first S n s none)
     by (inl (same, done)) = more same done (still-at S n s none) (taken_by-lightens S n s)
     by (inr falls) = inr (light falls (taken_by-lightens S n (taken_by_first S n s)))
 
-all-done : (lefts : List Role) → ((i : ℕ) → i < length lefts → IsDoneAt lefts i) → list_all is_done lefts ≡ true
+all-done : (lefts : List Role) → ((i : ℕ) → i < length lefts → IsDoneAt lefts i) → list_all has_no_order lefts ≡ true
 all-done [] done = refl
-all-done (role ∷ more) done = and_from (is_done role) (list_all is_done more) (done 0 (omega arith) role refl) (all-done more (λ i less other there. done (suc i) (omega (arith, less)) other there))
+all-done (role ∷ more) done = and_from (has_no_order role) (list_all has_no_order more) (done 0 (omega arith) role refl) (all-done more (λ i less other there. done (suc i) (omega (arith, less)) other there))
 
 -- a line is left: all clients together make the stand lighter
-pub lines-fall : (S : Setup) (s : Progress) → first_open S s.history ≡ None → list_all is_done s.lefts ≡ false → cost S (taken_by_first S (length s.lefts) s) + 1 ≤ cost S s
+pub lines-fall : (S : Setup) (s : Progress) → first_open S s.history ≡ None → list_all has_no_order s.lefts ≡ false → cost S (taken_by_first S (length s.lefts) s) + 1 ≤ cost S s
 lines-fall S s none left = by (still-first S (length s.lefts) s none)
   where
     by : IsStill S (length s.lefts) s → cost S (taken_by_first S (length s.lefts) s) + 1 ≤ cost S s
-    by (inl (same, done)) = let all : list_all is_done s.lefts ≡ true = all-done s.lefts done in cc
+    by (inl (same, done)) = let all : list_all has_no_order s.lefts ≡ true = all-done s.lefts done in cc
     by (inr falls) = falls
 
 -- a round with no command after its lines, which leaves some line
-pub round-falls : (S : Setup) (H : List Entry) (lefts : List Role) (G : List Entry) (lefts' : List Role) → TakesFirst S (length lefts) H lefts G lefts' → first_open S G ≡ None → list_all is_done lefts' ≡ false
+pub round-falls : (S : Setup) (H : List Entry) (lefts : List Role) (G : List Entry) (lefts' : List Role) → TakesFirst S (length lefts) H lefts G lefts' → first_open S G ≡ None → list_all has_no_order lefts' ≡ false
     → cost S (progress G lefts' []) + 1 ≤ cost S (progress H lefts [])
 round-falls S H lefts G lefts' takes none left = by (first-lightens S (length lefts) (progress H lefts []))
   where
@@ -90,7 +90,7 @@ round-falls S H lefts G lefts' takes none left = by (first-lightens S (length le
     by (inl same) =
         let is : progress G lefts' [] ≡ progress H lefts [] = sym (takes.goes []) ∙ same in
         let before : first_open S H ≡ None = ap (λ (s : Progress). first_open S s.history) (sym is) ∙ none in
-        let left_before : list_all is_done lefts ≡ false = ap (λ (s : Progress). list_all is_done s.lefts) (sym is) ∙ left in
+        let left_before : list_all has_no_order lefts ≡ false = ap (λ (s : Progress). list_all has_no_order s.lefts) (sym is) ∙ left in
         rw (takes.goes []) at (lines-fall S (progress H lefts []) before left_before)
 
 -- the lines of a round make nothing heavier

@@ -19,12 +19,12 @@ use Rattle.disk_core.specs.Turns.{IsIdle}
 use Rattle.disk_core.proofs.IdleLemmas.{idle-stays}
 use Rattle.shared_disk.specs.declared.clients.Stand.{Stand}
 use Rattle.shared_disk.specs.declared.answers.Line.TheVariants as answer
-use Rattle.shared_disk.specs.Lines.{Role, view_of, payload_bytes, answer_of, is_view_open, is_insertable, entry_if, line_entry, with_entry, first_own_open}
+use Rattle.shared_disk.specs.Lines.{Role, view_of, payload_bytes, answer_of, is_view_open, is_insertable, entry_if, line_entry, with_line_entry, first_own_open}
 use Rattle.shared_disk.specs.Script.{order_at, next_order, places_at, AreOwnOver, DoesNext}
-use Rattle.shared_disk.specs.Desk.{DeskState, done_of, next_of, Keeps, DoesLine, Takes, LineSays, wants_memory}
-use Rattle.device_workers.specs.Plain.{outcomes_onto, own_collected, is_wait}
+use Rattle.shared_disk.specs.Desk.{DeskState, done_of, next_of, Keeps, DoesLine, TakesBack, LineSays, wants_memory}
+use Rattle.device_workers.specs.Plain.{outcomes_onto, with_own_collects, is_wait}
 use Rattle.device_workers.specs.Leading.{TakesBy}
-use Rattle.device_workers.specs.Serving.{lefts_from, lefts_of, Stays, WantsMemory, TakesLine, Untaken}
+use Rattle.device_workers.specs.Serving.{lefts_from, lefts_of, KeepsScriptAndGates, WantsMemory, TakesLine, Untaken}
 use Rattle.device_workers.proofs.Gathering.{own-next, own-over, own-open-collect}
 use Rattle.device_workers.proofs.Leading.{takes-none, takes-stay, takes-wait, takes-line}
 use Rattle.device_workers.proofs.Lefts.{left_after, lefts-get, lefts-next, drop-at, drop-none}
@@ -39,7 +39,7 @@ wait-or-not order.Insert = inr refl
 wait-or-not (order.Protect on) = inr refl
 
 -- a line's entry is no command
-quiet : (S : Setup) (H : List Entry) (tag : ℕ) (stand : Stand) (line : Order) (more : List Outcome) → outcomes_onto (with_entry (line_entry S H tag stand line) H) more ≡ outcomes_onto H more
+quiet : (S : Setup) (H : List Entry) (tag : ℕ) (stand : Stand) (line : Order) (more : List Outcome) → outcomes_onto (with_line_entry (line_entry S H tag stand line) H) more ≡ outcomes_onto H more
 unfolding line_entry outcomes_onto
 quiet S H tag stand (order.Request asked payload k) more = by (refusal_of S H (view_of S stand k) asked k)
   where
@@ -49,22 +49,22 @@ quiet S H tag stand (order.Request asked payload k) more = by (refusal_of S H (v
 quiet S H tag stand order.Wait more = refl
 quiet S H tag stand (order.Cancel k) more = by (is_view_open S H (view_of S stand k))
   where
-    by : (b : Bool) → outcomes_onto (with_entry (entry_if b (entry.Cancel tag (view_of S stand k))) H) more ≡ outcomes_onto H more
+    by : (b : Bool) → outcomes_onto (with_line_entry (entry_if b (entry.Cancel tag (view_of S stand k))) H) more ≡ outcomes_onto H more
     by true = refl
     by false = refl
 quiet S H tag stand order.Reset more = by (first_open S H)
   where
-    by : (o : Option ℕ) → outcomes_onto (with_entry (entry_if (is_some o) (entry.Reset tag)) H) more ≡ outcomes_onto H more
+    by : (o : Option ℕ) → outcomes_onto (with_line_entry (entry_if (is_some o) (entry.Reset tag)) H) more ≡ outcomes_onto H more
     by None = refl
     by (Some t) = refl
 quiet S H tag stand order.Eject more = by (is_present H)
   where
-    by : (b : Bool) → outcomes_onto (with_entry (entry_if b (entry.Eject tag)) H) more ≡ outcomes_onto H more
+    by : (b : Bool) → outcomes_onto (with_line_entry (entry_if b (entry.Eject tag)) H) more ≡ outcomes_onto H more
     by true = refl
     by false = refl
 quiet S H tag stand order.Insert more = by (is_insertable S H)
   where
-    by : (b : Bool) → outcomes_onto (with_entry (entry_if b (entry.Insert tag (media_id_of H + 1))) H) more ≡ outcomes_onto H more
+    by : (b : Bool) → outcomes_onto (with_line_entry (entry_if b (entry.Insert tag (media_id_of H + 1))) H) more ≡ outcomes_onto H more
     by true = refl
     by false = refl
 quiet S H tag stand (order.Protect on) more = refl
@@ -89,9 +89,9 @@ pub record IsWaiting (S : Setup) (old : DeskState) (i : ℕ) (H : List Entry) : 
 
 -- client i has done nothing, or handed back some of its tokens at a wait
 pub record IsTaking (old : DeskState) (i : ℕ) (new : DeskState) : Type 0 where
-  pub stays : Stays old new
+  pub stays : KeepsScriptAndGates old new
   pub places : new.places ≡ old.places
-  pub own : own_collected new.disk.entries (i + 1) ≡ own_collected old.disk.entries (i + 1)
+  pub own : with_own_collects new.disk.entries (i + 1) ≡ with_own_collects old.disk.entries (i + 1)
   pub began : (new.disk.entries ≡ old.disk.entries) ⊎ IsWaiting old.disk.setup old i new.disk.entries
 
 pub taking-none : (old : DeskState) (i : ℕ) → IsTaking old i old
@@ -102,24 +102,24 @@ taking-none old i = record {
   began = inl refl;
 }
 
-pub stays-on : (old mid new : DeskState) → Stays old mid → Stays mid new → Stays old new
+pub stays-on : (old mid new : DeskState) → KeepsScriptAndGates old mid → KeepsScriptAndGates mid new → KeepsScriptAndGates old new
 stays-on old mid new first more = record {
   disk = record { setup = more.disk.setup ∙ first.disk.setup; gates = more.disk.gates ∙ first.disk.gates };
   script = more.script ∙ first.script;
 }
 
 -- a token was handed back
-pub takes-stays : (mid new : DeskState) (tag t : ℕ) → Takes mid tag t new → Stays mid new
+pub takes-stays : (mid new : DeskState) (tag t : ℕ) → TakesBack mid tag t new → KeepsScriptAndGates mid new
 takes-stays mid new tag t takes = record {
   disk = record { setup = ap (λ (s : State). s.setup) takes.collects.new_is; gates = ap (λ (s : State). s.gates) takes.collects.new_is };
   script = takes.script;
 }
 
-pub takes-entries : (mid new : DeskState) (tag t : ℕ) → Takes mid tag t new → new.disk.entries ≡ entry.Collect tag t ∷ mid.disk.entries
+pub takes-entries : (mid new : DeskState) (tag t : ℕ) → TakesBack mid tag t new → new.disk.entries ≡ entry.Collect tag t ∷ mid.disk.entries
 takes-entries mid new tag t takes = ap (λ (s : State). s.entries) takes.collects.new_is
 
 -- so less is owed
-pub takes-owed : (mid new : DeskState) (tag t : ℕ) → Takes mid tag t new → owed_entries new.disk.setup new.disk.entries + 1 ≤ owed_entries mid.disk.setup mid.disk.entries
+pub takes-owed : (mid new : DeskState) (tag t : ℕ) → TakesBack mid tag t new → owed_entries new.disk.setup new.disk.entries + 1 ≤ owed_entries mid.disk.setup mid.disk.entries
 unfolding IsLegal
 takes-owed mid new tag t takes =
     let setup : new.disk.setup ≡ mid.disk.setup = ap (λ (s : State). s.setup) takes.collects.new_is in
@@ -162,7 +162,7 @@ get-there (x ∷ xs) zero less out = cc
 get-there (x ∷ xs) (suc i) less out = get-there xs i (omega (arith, less)) out
 
 -- no line is left
-pub taken-ended : (old mid new : DeskState) (i : ℕ) → i < length old.script.roles → IsTaking old i mid → LineSays mid i answer.Ended new → Stays old new × TakesLine old i new
+pub taken-ended : (old mid new : DeskState) (i : ℕ) → i < length old.script.roles → IsTaking old i mid → LineSays mid i answer.Ended new → KeepsScriptAndGates old new × TakesLine old i new
 unfolding LineSays
 taken-ended old mid new i there taking (next, same) = (rw same taking.stays, by taking.began)
   where
@@ -185,7 +185,7 @@ some-none None none is = cc
 some-none (Some t) none is = cc
 
 -- a wait, and a token of the client is outstanding
-pub taken-stay : (old mid new : DeskState) (i : ℕ) → IsTaking old i mid → LineSays mid i answer.NotYet new → Stays old new × TakesLine old i new
+pub taken-stay : (old mid new : DeskState) (i : ℕ) → IsTaking old i mid → LineSays mid i answer.NotYet new → KeepsScriptAndGates old new × TakesLine old i new
 unfolding LineSays
 taken-stay old mid new i taking (next, open_, same) = (rw same taking.stays, by taking.began)
   where
@@ -211,11 +211,11 @@ taken-stay old mid new i taking (next, open_, same) = (rw same taking.stays, by 
     by (inr waiting) = absurd (some-none (first_own_open old.disk.setup mid.disk.entries (i + 1)) waiting.now opened)
 
 -- want of memory
-pub wants : (mid new : DeskState) (i : ℕ) → LineSays mid i answer.Memory new → Stays mid new × WantsMemory new
+pub wants : (mid new : DeskState) (i : ℕ) → LineSays mid i answer.Memory new → KeepsScriptAndGates mid new × WantsMemory new
 unfolding LineSays
 wants mid new i (line, next, wanting, same) = (rw same (stays-same mid), (i, line, rw same next, wanting))
   where
-    stays-same : (d : DeskState) → Stays d d
+    stays-same : (d : DeskState) → KeepsScriptAndGates d d
     stays-same d = record { disk = record { setup = refl; gates = refl }; script = refl }
 
 same-line : (one other : Order) → Some one ≡ Some other → one ≡ other
@@ -244,7 +244,7 @@ placed-other : (places : List (List ℕ)) (i n k : ℕ) → k ≢ i → length (
 placed-other places i n k other = ap length (get_or-set_other places i k (places_at places i ++ n ∷ []) [] other)
 
 -- a client has one line less
-next-lefts : (old mid new : DeskState) (i : ℕ) (role : Role) (line : Order) (place : ℕ) → Stays old mid → mid.places ≡ old.places → i < length mid.places → new.script ≡ mid.script
+next-lefts : (old mid new : DeskState) (i : ℕ) (role : Role) (line : Order) (place : ℕ) → KeepsScriptAndGates old mid → mid.places ≡ old.places → i < length mid.places → new.script ≡ mid.script
     → new.places ≡ slice_set mid.places i (places_at mid.places i ++ place ∷ []) → slice_get old.script.roles i ≡ Some role
     → lefts_of new ≡ slice_set (lefts_of old) i (left_after (done_of old i + 1) role)
 next-lefts old mid new i role line place stays places there script placed client =
@@ -287,9 +287,9 @@ module _ (old mid new : DeskState) (i : ℕ) (taking : IsTaking old i mid) (keep
   did-wait is =
       let over : AreOwnOver old.disk.setup mid.disk.entries (i + 1) = rw is at next.may in
       let none : e ≡ None = next.entry ∙ wait-entry next.role.stand next.order is in
-      let entries : new.disk.entries ≡ own_collected old.disk.entries (i + 1) = does.entries ∙ (ap (λ o. with_entry o mid.disk.entries) none ∙ (sym (own-over mid.disk.entries (i + 1) over.collected) ∙ taking.own)) in
+      let entries : new.disk.entries ≡ with_own_collects old.disk.entries (i + 1) = does.entries ∙ (ap (λ o. with_line_entry o mid.disk.entries) none ∙ (sym (own-over mid.disk.entries (i + 1) over.collected) ∙ taking.own)) in
       let ended : first_own_open old.disk.setup old.disk.entries (i + 1) ≡ None = before over.ended taking.began in
-      moved-to old.disk.setup i old.disk.entries (lefts_of old) (own_collected old.disk.entries (i + 1)) (slice_set (lefts_of old) i (left_after (done_of old i + 1) next.role)) new.disk.entries (lefts_of new) entries lefts
+      moved-to old.disk.setup i old.disk.entries (lefts_of old) (with_own_collects old.disk.entries (i + 1)) (slice_set (lefts_of old) i (left_after (done_of old i + 1) next.role)) new.disk.entries (lefts_of new) entries lefts
       (takes-wait old.disk.setup i old.disk.entries (lefts_of old) (left_after (done_of old i) next.role) next.order (drop (done_of old i + 1) next.role.orders) there rest (ap is_wait is) ended)
     where
       wait-entry : (stand : Stand) (line : Order) → line ≡ order.Wait → line_entry old.disk.setup mid.disk.entries (i + 1) stand line ≡ None
@@ -306,8 +306,8 @@ module _ (old mid new : DeskState) (i : ℕ) (taking : IsTaking old i mid) (keep
       by : (mid.disk.entries ≡ old.disk.entries) ⊎ IsWaiting old.disk.setup old i mid.disk.entries → TakesLine old i new
       by (inl same) =
           let made : e ≡ line_entry old.disk.setup old.disk.entries (i + 1) next.role.stand next.order = subst (λ H. e ≡ line_entry old.disk.setup H (i + 1) next.role.stand next.order) same next.entry in
-          let entries : new.disk.entries ≡ with_entry (line_entry old.disk.setup old.disk.entries (i + 1) next.role.stand next.order) old.disk.entries = does.entries ∙ (ap (with_entry e) same ∙ ap (λ o. with_entry o old.disk.entries) made) in
-          moved-to old.disk.setup i old.disk.entries (lefts_of old) (with_entry (line_entry old.disk.setup old.disk.entries (i + 1) next.role.stand next.order) old.disk.entries) (slice_set (lefts_of old) i (left_after (done_of old i + 1) next.role)) new.disk.entries (lefts_of new) entries lefts
+          let entries : new.disk.entries ≡ with_line_entry (line_entry old.disk.setup old.disk.entries (i + 1) next.role.stand next.order) old.disk.entries = does.entries ∙ (ap (with_line_entry e) same ∙ ap (λ o. with_line_entry o old.disk.entries) made) in
+          moved-to old.disk.setup i old.disk.entries (lefts_of old) (with_line_entry (line_entry old.disk.setup old.disk.entries (i + 1) next.role.stand next.order) old.disk.entries) (slice_set (lefts_of old) i (left_after (done_of old i + 1) next.role)) new.disk.entries (lefts_of new) entries lefts
           (takes-line old.disk.setup i old.disk.entries (lefts_of old) (left_after (done_of old i) next.role) next.order (drop (done_of old i + 1) next.role.orders) there rest other
           (quiet old.disk.setup old.disk.entries (i + 1) next.role.stand next.order))
       by (inr waiting) =
@@ -319,13 +319,13 @@ module _ (old mid new : DeskState) (i : ℕ) (taking : IsTaking old i mid) (keep
   taken-did-line : TakesLine old i new
   taken-did-line = elim (wait-or-not next.order) [ inl is ↦ did-wait is | inr other ↦ did-other other ]
 
-  taken-did-stays : IsIdle mid.disk.gates → Stays old new
+  taken-did-stays : IsIdle mid.disk.gates → KeepsScriptAndGates old new
   taken-did-stays idle = stays-on old mid new taking.stays (record {
     disk = record { setup = does.goes_on.setup; gates = idle-stays mid.disk.gates new.disk.gates idle does.gates };
     script = does.script;
   })
 
-pub taken-did : (old mid new : DeskState) (i : ℕ) (token : Option Token) → IsIdle old.disk.gates → IsTaking old i mid → Keeps mid → LineSays mid i (answer.Did token) new → Stays old new × TakesLine old i new
+pub taken-did : (old mid new : DeskState) (i : ℕ) (token : Option Token) → IsIdle old.disk.gates → IsTaking old i mid → Keeps mid → LineSays mid i (answer.Did token) new → KeepsScriptAndGates old new × TakesLine old i new
 unfolding LineSays
 taken-did old mid new i token idle taking keeps (e, does) =
     (taken-did-stays old mid new i taking keeps token e does (rw taking.stays.disk.gates idle), taken-did-line old mid new i taking keeps token e does)

@@ -8,7 +8,7 @@ use Rattle.history.specs.Rules.{IsLegal}
 use Rattle.history.specs.Next.{first_open, Outcome}
 use Rattle.shared_disk.specs.Lines.{Role}
 use Rattle.shared_disk.specs.Script.{IsOpening}
-use Rattle.device_workers.specs.Plain.{Progress, progress, is_done, after_rounds, plain_from, rounds, plain_history}
+use Rattle.device_workers.specs.Plain.{Progress, progress, has_no_order, after_rounds, plain_from, rounds, plain_history}
 
 -- more rounds than these change nothing, whatever the outcomes are
 abbrev pub RoundsAreEnough : Type 0
@@ -18,7 +18,7 @@ RoundsAreEnough =
 
 -- no line is left, and each token has ended and was collected
 pub record IsAllDone (S : Setup) (s : Progress) (H : List Entry) : Type 0 where
-  pub lines : list_all is_done s.lefts ≡ true
+  pub lines : list_all has_no_order s.lefts ≡ true
   pub ended : first_open S H ≡ None
   pub collected : (t : ℕ) → t < accepted H → was_collected H t ≡ true
 

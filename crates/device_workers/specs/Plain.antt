@@ -11,7 +11,7 @@ use Rattle.history.specs.Tokens.{Request, accepted, request, was_collected}
 use Rattle.history.specs.Next.{first_open, Turn, next_turn, Outcome, Made, Failed, entry_of}
 use Rattle.disk_core.specs.Calls.{is_fetched}
 use Rattle.shared_disk.specs.declared.clients.Stand.{Stand}
-use Rattle.shared_disk.specs.Lines.{Role, line_entry, with_entry, first_own_open}
+use Rattle.shared_disk.specs.Lines.{Role, line_entry, with_line_entry, first_own_open}
 
 -- how each command of a history ended, the oldest first, with these behind them
 unfoldable pub outcomes_onto : List Entry → List Outcome → List Outcome
@@ -48,12 +48,12 @@ collects test H a zero = H
 collects test H a (suc n) = collects test (with_collect test H a) (a + 1) n
 
 -- all uncollected tokens of the client with this tag
-unfoldable pub own_collected : List Entry → ℕ → List Entry
-own_collected H tag = collects (λ owner. nat_eq owner tag) H 0 (accepted H)
+unfoldable pub with_own_collects : List Entry → ℕ → List Entry
+with_own_collects H tag = collects (λ owner. nat_eq owner tag) H 0 (accepted H)
 
 -- all uncollected tokens whose tag is not 0
-unfoldable pub last_collected : List Entry → List Entry
-last_collected H = collects (λ tag. not (nat_eq tag 0)) H 0 (accepted H)
+unfoldable pub with_last_collects : List Entry → List Entry
+with_last_collects H = collects (λ tag. not (nat_eq tag 0)) H 0 (accepted H)
 
 abbrev pub is_wait : Order → Bool
 is_wait order.Wait = true
@@ -64,23 +64,23 @@ pub record Taken : Type 0 where
   pub history : List Entry
   pub left : List Order
 
-abbrev pub taken : List Entry → List Order → Taken
-taken H left = record { history = H; left = left }
+abbrev pub after_taking : List Entry → List Order → Taken
+after_taking H left = record { history = H; left = left }
 
 -- a wait stays while a token of its own client is outstanding; else it collects that client's tokens and is done
 abbrev pub after_wait : Option ℕ → List Entry → ℕ → Order → List Order → Taken
-after_wait (Some t) H tag line rest = taken H (line ∷ rest)
-after_wait None H tag line rest = taken (own_collected H tag) rest
+after_wait (Some t) H tag line rest = after_taking H (line ∷ rest)
+after_wait None H tag line rest = after_taking (with_own_collects H tag) rest
 
 -- each other line is done
 abbrev pub after_line : Setup → List Entry → ℕ → Stand → Order → List Order → Taken
 after_line S H tag stand line rest =
     if is_wait line
     then after_wait (first_own_open S H tag) H tag line rest
-    else taken (with_entry (line_entry S H tag stand line) H) rest
+    else after_taking (with_line_entry (line_entry S H tag stand line) H) rest
 
 abbrev pub after_lines : Setup → List Entry → ℕ → Stand → List Order → Taken
-after_lines S H tag stand [] = taken H []
+after_lines S H tag stand [] = after_taking H []
 after_lines S H tag stand (line ∷ rest) = after_line S H tag stand line rest
 
 abbrev pub put_left : Progress → ℕ → Role → Taken → Progress
@@ -139,12 +139,12 @@ abbrev pub has_none : List Order → Bool
 has_none [] = true
 has_none (line ∷ rest) = false
 
-abbrev pub is_done : Role → Bool
-is_done role = has_none role.orders
+abbrev pub has_no_order : Role → Bool
+has_no_order role = has_none role.orders
 
 -- no client has a line left and no token is outstanding
 abbrev pub is_over : Setup → Progress → Bool
-is_over S s = list_all is_done s.lefts && is_none (first_open S s.history)
+is_over S s = list_all has_no_order s.lefts && is_none (first_open S s.history)
 
 -- rounds until all is over; at most so many
 unfoldable pub after_rounds : ℕ → Setup → Progress → Progress
@@ -153,7 +153,7 @@ after_rounds (suc n) S s = if is_over S s then s else after_rounds n S (a_round 
 
 -- and then the last collects
 abbrev pub plain_from : ℕ → Setup → Progress → List Entry
-plain_from n S s = last_collected (after_rounds n S s).history
+plain_from n S s = with_last_collects (after_rounds n S s).history
 
 -- a line needs a round or two, and a byte that it asks for at most two commands
 abbrev pub line_rounds : Order → ℕ

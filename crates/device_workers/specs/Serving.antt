@@ -9,7 +9,7 @@ use Rattle.disk_core.specs.Turns.{KeepsGates}
 use Rattle.shared_disk.specs.Lines.{Role, first_left}
 use Rattle.shared_disk.specs.Script.{Script}
 use Rattle.shared_disk.specs.Desk.{DeskState, done_of, next_of, HasNoLine, wants_memory}
-use Rattle.device_workers.specs.Plain.{last_collected, outcomes_after, plain_history}
+use Rattle.device_workers.specs.Plain.{with_last_collects, outcomes_after, plain_history}
 use Rattle.device_workers.specs.Leading.{TakesBy, TakesFirst, IsStep, Leads}
 
 -- what each client has left, where client i has done so many lines
@@ -26,7 +26,7 @@ pub record IsAtOpening (s : DeskState) : Type 0 where
   pub lines : (i : ℕ) → done_of s i ≡ 0
 
 -- the script stays, and the setup and the gates of the disk
-pub record Stays (old new : DeskState) : Type 0 where
+pub record KeepsScriptAndGates (old new : DeskState) : Type 0 where
   pub disk : KeepsGates old.disk new.disk
   pub script : new.script ≡ old.script
 
@@ -61,7 +61,7 @@ pub record Steps (S : Setup) (H H' : List Entry) (some : Bool) : Type 0 where
 
 -- so on a desk
 pub record StepsOnce (old : DeskState) (some : Bool) (new : DeskState) : Type 0 where
-  pub stays : Stays old new
+  pub stays : KeepsScriptAndGates old new
   pub places : new.places ≡ old.places
   pub steps : Steps old.disk.setup old.disk.entries new.disk.entries some
 
@@ -88,7 +88,7 @@ pub record StopsAfter (old new : DeskState) : Type 0 where
 
 -- the last collects
 pub record CollectsRest (old new : DeskState) : Type 0 where
-  pub entries : new.disk.entries ≡ last_collected old.disk.entries
+  pub entries : new.disk.entries ≡ with_last_collects old.disk.entries
   pub none : first_left new.disk.entries ≡ None
   pub places : new.places ≡ old.places
 

@@ -3,7 +3,7 @@ ghost use Rattle.history.specs.Next.{first_open};
 ghost use Rattle.disk_core.specs.Turns.{IsIdle};
 ghost use Rattle.shared_disk.specs.Script.{RunsWholeScript};
 ghost use Rattle.shared_disk.specs.Desk.{HasNoLine, Keeps};
-ghost use Rattle.device_workers.specs.Serving.{IsAtOpening, Stays, WantsMemory, TakesLine, TakesLines, StepsOnce, RunsRound, RunsRounds, CollectsRest, IsPlain, IsFaultlessPlain, IsPlainFront, Untaken, StopsIn, StopsAfter};
+ghost use Rattle.device_workers.specs.Serving.{IsAtOpening, KeepsScriptAndGates, WantsMemory, TakesLine, TakesLines, StepsOnce, RunsRound, RunsRounds, CollectsRest, IsPlain, IsFaultlessPlain, IsPlainFront, Untaken, StopsIn, StopsAfter};
 
 use disk_core::{Step, Stored};
 use medium::Medium;
@@ -17,7 +17,7 @@ fn take_line<M: Medium>(desk: &mut Desk<M>, client: u32) -> Result<(), AllocErro
     requires there { client ≤ length desk.old.script.roles }
     requires keeps { Keeps desk.old }
     requires idle { IsIdle desk.old.disk.gates }
-    ensures stays { Stays desk.old desk.new }
+    ensures stays { KeepsScriptAndGates desk.old desk.new }
     ensures keeps { Keeps desk.new }
     ensures takes { OnOk result (TakesLine desk.old (client - 1) desk.new) }
     ensures memory { OnErr result (WantsMemory desk.new) }
@@ -38,7 +38,7 @@ fn take_line<M: Medium>(desk: &mut Desk<M>, client: u32) -> Result<(), AllocErro
 fn take_lines<M: Medium>(desk: &mut Desk<M>) -> Result<(), AllocError>
     requires keeps { Keeps desk.old }
     requires idle { IsIdle desk.old.disk.gates }
-    ensures stays { Stays desk.old desk.new }
+    ensures stays { KeepsScriptAndGates desk.old desk.new }
     ensures keeps { Keeps desk.new }
     ensures takes { OnOk result (TakesLines desk.old (length desk.old.script.roles) desk.new) }
     ensures memory { OnErr result (WantsMemory desk.new) }
@@ -86,7 +86,7 @@ fn step_once<M: Medium>(desk: &mut Desk<M>) -> bool
 fn run_round<M: Medium>(desk: &mut Desk<M>) -> Result<bool, AllocError>
     requires keeps { Keeps desk.old }
     requires idle { IsIdle desk.old.disk.gates }
-    ensures stays { Stays desk.old desk.new }
+    ensures stays { KeepsScriptAndGates desk.old desk.new }
     ensures keeps { Keeps desk.new }
     ensures round { IfOk result (λ some. RunsRound desk.old some desk.new) }
     ensures memory { OnErr result (WantsMemory desk.new) }
@@ -100,7 +100,7 @@ fn run_round<M: Medium>(desk: &mut Desk<M>) -> Result<bool, AllocError>
 fn run_rounds<M: Medium>(desk: &mut Desk<M>) -> Result<(), AllocError>
     requires keeps { Keeps desk.old }
     requires idle { IsIdle desk.old.disk.gates }
-    ensures stays { Stays desk.old desk.new }
+    ensures stays { KeepsScriptAndGates desk.old desk.new }
     ensures keeps { Keeps desk.new }
     ensures rounds { OnOk result (RunsRounds desk.old desk.new) }
     ensures memory { OnErr result (WantsMemory desk.new) }
@@ -120,7 +120,7 @@ fn collect_rest<M: Medium>(desk: &mut Desk<M>)
     requires keeps { Keeps desk.old }
     requires over { HasNoLine desk.old }
     requires drained { first_open desk.old.disk.setup desk.old.disk.entries ≡ None }
-    ensures stays { Stays desk.old desk.new }
+    ensures stays { KeepsScriptAndGates desk.old desk.new }
     ensures keeps { Keeps desk.new }
     ensures collects { CollectsRest desk.old desk.new }
 {
@@ -134,7 +134,7 @@ fn collect_rest<M: Medium>(desk: &mut Desk<M>)
 pub fn plain<M: Medium>(desk: &mut Desk<M>) -> Result<(), AllocError>
     requires keeps { Keeps desk.old }
     requires idle { IsIdle desk.old.disk.gates }
-    ensures stays { Stays desk.old desk.new }
+    ensures stays { KeepsScriptAndGates desk.old desk.new }
     ensures keeps { Keeps desk.new }
     ensures whole { OnOk result (RunsWholeScript desk.old.disk.setup desk.old.script desk.new.disk.entries) }
     ensures plain { OnOk result (IsAtOpening desk.old → IsPlain desk.old.disk.setup desk.old.script desk.new.disk.entries) }

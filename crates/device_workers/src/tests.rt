@@ -1,7 +1,7 @@
 ghost use Rattle.std.specs.Prelude.{◌≡◌, ◌%◌, ◌<◌, ◌≤◌, false, [], All, IfOk, length, vec_len};
 ghost use Rattle.medium.specs.Device.{IsFresh};
 ghost use Rattle.disk_core.specs.Turns.{IsIdle};
-ghost use Rattle.shared_disk.specs.Desk.{AreClients, IsOrder, Keeps};
+ghost use Rattle.shared_disk.specs.Desk.{AreDeskClients, IsDeskOrder, Keeps};
 
 use crate::plain;
 use disk_core::Disk;
@@ -30,7 +30,7 @@ struct Case {
 }
 
 fn order(act: &Act) -> Order
-    ensures { IsOrder result }
+    ensures { IsDeskOrder result }
 {
     match act {
         Act::Read(at) => Order::Request {
@@ -130,7 +130,7 @@ fn disk_of(alloc: Global) -> Result<Disk<MemMedium>, AllocError>
 
 // A desk over that disk.
 fn desk_of(alloc: Global, clients: Vec<Client>) -> Result<Desk<MemMedium>, AllocError>
-    requires clients { AreClients clients.items }
+    requires clients { AreDeskClients clients.items }
     ensures keeps { IfOk result Keeps }
     ensures idle { IfOk result (λ desk. IsIdle desk.disk.gates) }
 {
@@ -143,7 +143,7 @@ fn desk_of(alloc: Global, clients: Vec<Client>) -> Result<Desk<MemMedium>, Alloc
 // At most eight lines of a client.
 fn client_of(alloc: Global, acts: &[Act]) -> Result<Client, AllocError>
     ensures few { IfOk result (λ client. length client.orders.items ≤ 8) }
-    ensures orders { IfOk result (λ client. All IsOrder client.orders.items) }
+    ensures orders { IfOk result (λ client. All IsDeskOrder client.orders.items) }
 {
     if acts.len() > 8 {
         return Err(AllocError);
@@ -159,7 +159,7 @@ fn client_of(alloc: Global, acts: &[Act]) -> Result<Client, AllocError>
 }
 
 fn clients_of(alloc: Global, case: &Case) -> Result<Vec<Client>, AllocError>
-    ensures { IfOk result (λ clients. AreClients clients.items) }
+    ensures { IfOk result (λ clients. AreDeskClients clients.items) }
 {
     let [first, second, third] = case.clients;
     let first = client_of(alloc, first)?;
@@ -170,7 +170,7 @@ fn clients_of(alloc: Global, case: &Case) -> Result<Vec<Client>, AllocError>
 
 // What the entries of a plain run are, oldest first.
 fn run(alloc: Global, clients: Vec<Client>) -> Result<Vec<Seen>, AllocError>
-    requires clients { AreClients clients.items }
+    requires clients { AreDeskClients clients.items }
 {
     let mut desk = desk_of(alloc, clients)?;
     plain(&mut desk)?;

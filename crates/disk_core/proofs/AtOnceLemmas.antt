@@ -17,7 +17,7 @@ use Rattle.history.specs.Tasks.{Todo, first_runnable}
 use Rattle.history.specs.Next.{Turn, next_turn, Outcome, Made, Failed}
 use Rattle.history_laws.proofs.TokenLemmas.{request-same}
 use Rattle.block_gate.specs.Works.{Lent}
-use Rattle.block_gate.specs.Gates.{Gate, Gates, gate_of, is_out, is_ours, releasing, taking}
+use Rattle.block_gate.specs.Gates.{Gate, Gates, gate_of, is_out, is_ours, without_hold, with_work_back}
 use Rattle.disk_core.specs.declared.answers.Step.TheVariants as step
 use Rattle.disk_core.specs.declared.answers.Stored.{Stored}
 use Rattle.disk_core.specs.declared.answers.Stored.TheVariants as stored
@@ -25,7 +25,7 @@ use Rattle.disk_core.specs.State.{State}
 use Rattle.disk_core.specs.Facts.{AreFacts}
 use Rattle.disk_core.specs.Calls.{Revokes, LendsFirst, StepSays, IsHeldBy, expected_of, GatesStored, StoreSays}
 use Rattle.history_laws.specs.Ranges.{low_in, high_in}
-use Rattle.disk_core.specs.Turns.{IsIdle, merged, StoresAtOnce}
+use Rattle.disk_core.specs.Turns.{IsIdle, merge_of, StoresAtOnce}
 use Rattle.disk_core.proofs.TurnLemmas.{none-held, steps-turn}
 use Rattle.disk_core.proofs.IdleLemmas.{idle-stays, gate_for, lent-gate, lent-out, lent-size, back-again}
 use Rattle.history_laws.proofs.HoldingLemmas.{new-holder}
@@ -67,7 +67,7 @@ module _ (old mid : State) (w : Lent) (todo : Todo) (q : Request) (is : IsSetup 
       ∙ store-turn old.setup old.entries todo w.block is facts.legal legal-then (λ c. none-held old c facts idle.held) first-free lends.fetch)
 
   -- the work is one of this disk's
-  ours : is_ours mid.gates (merged w) ≡ true
+  ours : is_ours mid.gates (merge_of w) ≡ true
   unfolding is_ours
   ours =
       let size : length (patch w.bytes w.from w.patch) ≡ mid.gates.size =
@@ -100,7 +100,7 @@ module _ (old mid : State) (w : Lent) (todo : Todo) (q : Request) (is : IsSetup 
       record { gate = gate; token = token; request_is = same_Some _ _ (sym lends.work.named ∙ named) }
 
   -- the merged work is what is expected
-  expected : (g : Gate) (t : ℕ) (r : Request) → IsItsGate g t r → expected_of mid.setup r g ≡ (merged w).bytes
+  expected : (g : Gate) (t : ℕ) (r : Request) → IsItsGate g t r → expected_of mid.setup r g ≡ (merge_of w).bytes
   expected g t r its =
       ap (λ S. expected_of S r g) lends.makes.makes.setup ∙ (ap (λ v. expected_of old.setup v g) (sym its.request_is) ∙ (ap (expected_of old.setup q) its.gate
       ∙ (ap (λ n. patch w.bytes n (bytes_between old.setup q (low_in old.setup q w.block) (high_in old.setup q w.block (per_of old.setup)))) from-is
@@ -109,17 +109,17 @@ module _ (old mid : State) (w : Lent) (todo : Todo) (q : Request) (is : IsSetup 
       from-is : low_in old.setup q w.block - w.block * size_of old.setup ≡ w.from
       from-is = omega (arith, lends.work.begins)
 
-  gates-back : (outcome : Outcome) (new : Gates) → GatesStored outcome (taking mid.gates w.ticket) w.ticket new → new ≡ old.gates
+  gates-back : (outcome : Outcome) (new : Gates) → GatesStored outcome (with_work_back mid.gates w.ticket) w.ticket new → new ≡ old.gates
   gates-back outcome new stored = by outcome stored
     where
-      again : releasing (taking mid.gates w.ticket) w.ticket ≡ old.gates
-      again = ap (λ g. releasing (taking g w.ticket) w.ticket) lends.gates ∙ back-again old.gates w.block w.ticket w.bytes idle
+      again : without_hold (with_work_back mid.gates w.ticket) w.ticket ≡ old.gates
+      again = ap (λ g. without_hold (with_work_back g w.ticket) w.ticket) lends.gates ∙ back-again old.gates w.block w.ticket w.bytes idle
 
-      by : (outcome : Outcome) → GatesStored outcome (taking mid.gates w.ticket) w.ticket new → new ≡ old.gates
+      by : (outcome : Outcome) → GatesStored outcome (with_work_back mid.gates w.ticket) w.ticket new → new ≡ old.gates
       by Made stored = stored ∙ again
       by (Failed done) stored = idle-stays old.gates new idle (subst (λ g. Revokes g new) again stored)
 
-  pub stores : (new : State) (result : Stored) → StoreSays mid (merged w) result new → StoresAtOnce old mid result new
+  pub stores : (new : State) (result : Stored) → StoreSays mid (merge_of w) result new → StoresAtOnce old mid result new
   unfolding StoreSays
   stores new (stored.Foreign back) (isnt, same, still) = false≢true (sym isnt ∙ ours)
   stores new stored.Stale (ours_, none, is_) = clash (sym none ∙ held-here)
@@ -143,12 +143,12 @@ module _ (old mid : State) (w : Lent) (todo : Todo) (q : Request) (is : IsSetup 
       )
 
 -- a lent work that is merged is written at once
-pub stores-merged : (old mid new : State) (w : Lent) (result : Stored) → IsSetup old.setup → AreFacts old → IsIdle old.gates → StepSays old (step.Lent w) mid → StoreSays mid (merged w) result new → StoresAtOnce old mid result new
+pub stores-merged : (old mid new : State) (w : Lent) (result : Stored) → IsSetup old.setup → AreFacts old → IsIdle old.gates → StepSays old (step.Lent w) mid → StoreSays mid (merge_of w) result new → StoresAtOnce old mid result new
 unfolding StepSays
 stores-merged old mid new w result is facts idle (todo, q, lends) says = stores old mid w todo q is facts idle lends new result says
 
 -- and no other answer comes, whatever the merged work is called
-pub answered : (old : State) → IsSetup old.setup → AreFacts old → IsIdle old.gates → (mid new : State) (w w' : Lent) (result : Stored) → StepSays old (step.Lent w) mid → w' ≡ merged w → StoreSays mid w' result new → StoresAtOnce old mid result new
+pub answered : (old : State) → IsSetup old.setup → AreFacts old → IsIdle old.gates → (mid new : State) (w w' : Lent) (result : Stored) → StepSays old (step.Lent w) mid → w' ≡ merge_of w → StoreSays mid w' result new → StoresAtOnce old mid result new
 answered old is facts idle mid new w w' result says merges stores = stores-merged old mid new w result is facts idle says (subst (λ v. StoreSays mid v result new) merges stores)
 
 -- an idle step does not come

@@ -23,7 +23,7 @@ use Rattle.history_laws.proofs.CountLemmas.{accepted-same}
 use Rattle.history_laws.proofs.TokenLemmas.{request-stays, collected-same, bytes_read-other, bytes_read-get, bytes_read-kept, done-concerns}
 use Rattle.history_laws.proofs.UnitLemmas.{is_within, within-from, within-parts, lies-in-unit}
 use Rattle.token_table.specs.declared.record.Record.{Record}
-use Rattle.token_table.specs.Records.{Records, record_at, changed, IsShown}
+use Rattle.token_table.specs.Records.{Records, record_at, with_change, IsShown}
 use Rattle.disk_core.specs.State.{Kept, kept_at}
 use Rattle.disk_core.specs.Facts.{IsBuffer, KeptFollow, HasBytesRead}
 use Rattle.disk_core.specs.Parts.{kept_from, kept_of}
@@ -41,7 +41,7 @@ shown-put : (place : ℕ) (piece : List ℕ) (r : Record) → IsShown r → IsSh
 unfolding IsShown with_bytes_in
 shown-put place piece r is = is
 
-pub records-put : (S : Setup) (H : List Entry) (t place : ℕ) (piece : List ℕ) (records : Records) → RecordsFollow S H records → RecordsFollow S H (changed (with_bytes_in place piece) records t)
+pub records-put : (S : Setup) (H : List Entry) (t place : ℕ) (piece : List ℕ) (records : Records) → RecordsFollow S H records → RecordsFollow S H (with_change (with_bytes_in place piece) records t)
 records-put S H t place piece records follow = record {
   each = each-changed (with_bytes_in place piece) records t (λ u r. (q : Request) × Tracks S H u r q) (λ u r. (q : Request) × Tracks S H u r q) follow.each (λ u r other old. old)
       (λ r old. (old.0, tracks-put S H t place piece r old.0 old.1));
@@ -56,8 +56,8 @@ put-from place piece r = refl
 
 -- what callers see of it
 pub kept-put : (t place : ℕ) (piece : List ℕ) (records : Records) (own : Record) → record_at records t ≡ Some own
-    → kept_of (changed (with_bytes_in place piece) records t) ≡ slice_set (kept_of records) t (Some (record (kept_from own) { buffer = patch own.request.buffer place piece }))
-unfolding kept_of changed
+    → kept_of (with_change (with_bytes_in place piece) records t) ≡ slice_set (kept_of records) t (Some (record (kept_from own) { buffer = patch own.request.buffer place piece }))
+unfolding kept_of with_change
 kept-put t place piece records own there =
     map-set (option_map kept_from) records t (option_map (with_bytes_in place piece) (record_at records t))
     ∙ ap (λ o. slice_set (map (option_map kept_from) records) t (option_map kept_from (option_map (with_bytes_in place piece) o))) there

@@ -1,7 +1,7 @@
 -- The parts through the steps of a done fetch: the entry, the gate, and the loan.
 use Rattle.std.proofs.Common.{◌≡◌, ℕ, ◌+◌, List, [], ◌∷◌, ◌++◌, sym, ◌∙◌, ap, subst}
 use Rattle.std.specs.Prelude.{vec_capacity}
-use Rattle.block_gate.specs.Gates.{holding, lending, AreSound}
+use Rattle.block_gate.specs.Gates.{with_gate, with_work_out, AreSound}
 use Rattle.history.specs.declared.entry.Command.TheVariants.{Fetch}
 use Rattle.history.specs.declared.entry.Entry.TheVariants.{Done}
 use Rattle.disk_core.specs.declared.parts.Core.{Core}
@@ -21,7 +21,7 @@ module _ (c mid enter hold : Core) (t b k : ℕ) (group : List ℕ) (items : mid
   unfolding with_entry
   enter-group = ap (λ v. v.group.items) entering_ ∙ items
 
-  module _ (gates : hold.gates ≡ holding enter.gates b k enter.group.items) (rest : hold ≡ record enter { gates = hold.gates; holders = hold.holders }) where
+  module _ (gates : hold.gates ≡ with_gate enter.gates b k enter.group.items) (rest : hold ≡ record enter { gates = hold.gates; holders = hold.holders }) where
     pub hold-tokens : hold.tokens ≡ c.tokens
     unfolding with_entry
     hold-tokens = ap (λ v. v.tokens) rest ∙ ap (λ v. v.tokens) entering_
@@ -34,8 +34,8 @@ module _ (c mid enter hold : Core) (t b k : ℕ) (group : List ℕ) (items : mid
     unfolding with_entry
     hold-zeros = ap (λ v. v.zeros) rest ∙ ap (λ v. v.zeros) entering_
 
-    pub hold-gates : hold.gates ≡ holding c.gates b k group
-    hold-gates = gates ∙ ap (λ v. holding v b k enter.group.items) enter-gates ∙ ap (holding c.gates b k) enter-group
+    pub hold-gates : hold.gates ≡ with_gate c.gates b k group
+    hold-gates = gates ∙ ap (λ v. with_gate v b k enter.group.items) enter-gates ∙ ap (with_gate c.gates b k) enter-group
 
     -- what else the loan leaves
     pub record Beside (c' : Core) : Type 0 where
@@ -46,7 +46,7 @@ module _ (c mid enter hold : Core) (t b k : ℕ) (group : List ℕ) (items : mid
       pub kept_items : c'.group.items ≡ group
       pub zeros : c'.zeros ≡ c.zeros
 
-    pub lend-beside : (c' : Core) → c' ≡ record hold { gates = lending hold.gates k } → Beside c'
+    pub lend-beside : (c' : Core) → c' ≡ record hold { gates = with_work_out hold.gates k } → Beside c'
     unfolding with_entry
     lend-beside c' is = subst Beside (sym is) (record {
       protected_at_first = ap (λ v. v.protected_at_first) rest ∙ ap (λ v. v.protected_at_first) entering_;
@@ -57,7 +57,7 @@ module _ (c mid enter hold : Core) (t b k : ℕ) (group : List ℕ) (items : mid
       zeros = hold-zeros;
     })
 
-    pub lend-links : (c' : Core) → hold.holders.items ≡ enter.holders.items ++ record { ticket = k; token = t } ∷ [] → vec_capacity hold.holders ≡ vec_capacity enter.holders → c' ≡ record hold { gates = lending hold.gates k } → AreSound c'.gates
+    pub lend-links : (c' : Core) → hold.holders.items ≡ enter.holders.items ++ record { ticket = k; token = t } ∷ [] → vec_capacity hold.holders ≡ vec_capacity enter.holders → c' ≡ record hold { gates = with_work_out hold.gates k } → AreSound c'.gates
         → HasLent c.history.entries t b k group c c'
     unfolding with_entry
     lend-links c' holders places is sound = record {
@@ -66,7 +66,7 @@ module _ (c mid enter hold : Core) (t b k : ℕ) (group : List ℕ) (items : mid
       owed = ap (λ v. v.owed) is ∙ ap (λ v. v.owed) rest ∙ ap (λ v. v.owed) entering_;
       tokens = ap (λ v. v.tokens) is ∙ hold-tokens;
       queue = ap (λ v. v.queue) is ∙ ap (λ v. v.queue) rest ∙ ap (λ v. v.queue) entering_;
-      gates = ap (λ v. v.gates) is ∙ ap (λ v. lending v k) hold-gates;
+      gates = ap (λ v. v.gates) is ∙ ap (λ v. with_work_out v k) hold-gates;
       apart = sound;
       holders = ap (λ v. v.holders.items) is ∙ holders ∙ ap (λ v. v.items ++ record { ticket = k; token = t } ∷ []) enter-holders;
       places = ap (λ v. vec_capacity v.holders) is ∙ places ∙ ap vec_capacity enter-holders;

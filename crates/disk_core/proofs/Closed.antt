@@ -20,7 +20,7 @@ use Rattle.history_laws.proofs.TicketLemmas.{ticket-one}
 use Rattle.history_laws.proofs.OwedSoFarLemmas.{owed-some, owed-falls, owed-within, owed-all}
 use Rattle.token_table.specs.declared.record.Record.{Record}
 use Rattle.token_table.specs.declared.record.Mark.{Mark}
-use Rattle.token_table.specs.Records.{Records, record_at, changed, ended_record, mark_at, mark_of_record, mark_of_end}
+use Rattle.token_table.specs.Records.{Records, record_at, with_change, ended_record, mark_at, mark_of_record, mark_of_end}
 use Rattle.subtask_queue.specs.Subs.{is_of, sub_of, without_token}
 use Rattle.block_gate.specs.Gates.{Gate, gate_of}
 use Rattle.disk_core.specs.declared.parts.Core.{Core}
@@ -40,7 +40,7 @@ use Rattle.disk_core.proofs.Over.{records-step}
 -- ---- records
 
 -- an end keeps the buffer and the event word
-pub kept-ended : (status : Status) (records : Records) (t : ℕ) → kept_of (changed (ended_record status) records t) ≡ kept_of records
+pub kept-ended : (status : Status) (records : Records) (t : ℕ) → kept_of (with_change (ended_record status) records t) ≡ kept_of records
 unfolding ended_record
 kept-ended status records t = kept-changed (ended_record status) (λ r. refl) records t
 

@@ -5,7 +5,7 @@ use Rattle.efi_status.specs.declared.Status.TheVariants.{DeviceError}
 use Rattle.medium.specs.Device.{Device, IsShaped, IsWrite}
 use Rattle.medium.specs.declared.block_failed.BlockFailed.{BlockFailed}
 use Rattle.drive.specs.Drives.{DriveState}
-use Rattle.block_gate.specs.Gates.{Gate, Gates, releasing}
+use Rattle.block_gate.specs.Gates.{Gate, Gates, without_hold}
 use Rattle.history.specs.declared.entry.Command.TheVariants.{Store}
 use Rattle.history.specs.declared.entry.Entry.{Entry}
 use Rattle.history.specs.declared.entry.Entry.TheVariants.{Done, Fault}
@@ -53,7 +53,7 @@ use Rattle.history_laws.proofs.QuietLemmas.{done-entry, fault-entry}
 use Rattle.disk_core.proofs.Wrote.{lawful, opened, outstanding, may, told-whole-in, store-follows, stops-before, size-is, finishes, bytes-are}
 
 module _ {M : Type 0} (device : M → Device) (prepared : M → ℕ → Type 0) (drive : DriveState M) (shaped : (m : M) → IsShaped (device m)) (c : Core) (before : Gates) (part : Part) (g : Gate) (q : Request) (is : IsStoring device prepared drive c before part g q)
-    (drive' : DriveState M) (mid : Core) (gates_is : mid.gates ≡ releasing c.gates part.ticket) (left_is : mid.holders.items ≡ without_ticket_of part.ticket c.holders.items) (rest : mid ≡ record c { gates = mid.gates; holders = mid.holders })
+    (drive' : DriveState M) (mid : Core) (gates_is : mid.gates ≡ without_hold c.gates part.ticket) (left_is : mid.holders.items ≡ without_ticket_of part.ticket c.holders.items) (rest : mid ≡ record c { gates = mid.gates; holders = mid.holders })
     (places : vec_capacity mid.holders ≡ vec_capacity c.holders) where
   abbrev S : Setup
   S = setup_of device drive c.protected_at_first
@@ -72,7 +72,7 @@ module _ {M : Type 0} (device : M → Device) (prepared : M → ℕ → Type 0) 
   released =
       let same = same-but part.ticket before c.gates g is.sound.holders.apart is.held.gate is.lent in
       subst (λ s. IsReleased part.ticket before c.holders.items s mid.holders.items) (sym gates_is)
-      (subst (IsReleased part.ticket before c.holders.items (releasing c.gates part.ticket)) (sym left_is) (is-released part.ticket before c.gates c.holders.items same is.apart is.sound.holders.paired is.sound.holders.rising))
+      (subst (IsReleased part.ticket before c.holders.items (without_hold c.gates part.ticket)) (sym left_is) (is-released part.ticket before c.gates c.holders.items same is.apart is.sound.holders.paired is.sound.holders.rising))
 
   follows-on : (result : Result (Unit {0}) BlockFailed) → OnMedium device prepared drive drive' (λ d d'. IsWrite d part.block c.group.items result d') → OnMedium device prepared drive drive' (Follows S H (entry_for part.token (Store g.block) result) result)
   follows-on result on = record {
@@ -208,7 +208,7 @@ module _ {M : Type 0} (device : M → Device) (prepared : M → ℕ → Type 0) 
         (record { blocks = f.blocks; accepts = f.accepts ∙ sym (accepted-same H e refl); fetches_are = f.fetches_are ∙ sym (fetches-same H e refl); group = f.group; zeros = f.zeros }))
 
     -- the other gates of the token are revoked
-    revoked-now : Revokes (releasing c.gates part.ticket) c'.gates
+    revoked-now : Revokes (without_hold c.gates part.ticket) c'.gates
     unfolding with_entry state_of
     revoked-now =
         subst (λ s. Revokes s c'.gates) gates_is (subst (Revokes mid.gates) (sym ends.gates) (revokes part.token mid.holders.items mid.gates

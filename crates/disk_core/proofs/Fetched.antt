@@ -7,7 +7,7 @@ use Rattle.std.proofs.lemmas.List.{length-map}
 use Rattle.medium.specs.Device.{Device, IsShaped, IsTransfer, IsRead, AreToldAt}
 use Rattle.medium.specs.declared.block_failed.BlockFailed.{BlockFailed}
 use Rattle.drive.specs.Drives.{DriveState, medium_in}
-use Rattle.block_gate.specs.Gates.{Gate, gate_of, is_block_held, is_lent, holding}
+use Rattle.block_gate.specs.Gates.{Gate, gate_of, is_block_held, is_lent, with_gate}
 use Rattle.block_gate.specs.Works.{Lent as Work}
 use Rattle.block_gate.proofs.GatesLemmas.{gate-new}
 use Rattle.disk_split.specs.declared.span.Span.{Span}
@@ -226,8 +226,8 @@ module _ {M : Type 0} (device : M → Device) (prepared : M → ℕ → Type 0) 
         let bound : c.blocks.per * size_of S ≤ 64 * size_of S = mul-le-mul_right (size_of S) (omega arith) in omega arith);
   }
 
-  pub fetch-lend : ((m : M) → IsShaped (device m)) → (mid : Core) → (group : List ℕ) → mid.tokens ≡ c.tokens → mid.blocks ≡ c.blocks → mid.zeros ≡ c.zeros → mid.gates ≡ holding c.gates b c.fetched group → MayLend mid t b c.fetched own.request
-  unfolding holding is_lent
+  pub fetch-lend : ((m : M) → IsShaped (device m)) → (mid : Core) → (group : List ℕ) → mid.tokens ≡ c.tokens → mid.blocks ≡ c.blocks → mid.zeros ≡ c.zeros → mid.gates ≡ with_gate c.gates b c.fetched group → MayLend mid t b c.fetched own.request
+  unfolding with_gate is_lent
   fetch-lend shaped mid group tokens blocks zeros gates =
       let g : Gate = record { ticket = c.fetched; block = b; out = false; copy = group } in
       let none = ap (gate_of c.gates.held) sound.fitted.fetches_are ∙ ticket-new S H c.gates c.holders.items (vec_capacity c.holders) facts.geometry facts.legal facts.gates facts.holders in
@@ -256,9 +256,9 @@ module _ {M : Type 0} (device : M → Device) (prepared : M → ℕ → Type 0) 
       }
 
   -- the work that is lent
-  pub fetch-work : (mid : Core) (group : List ℕ) (w : Work) → mid.tokens ≡ c.tokens → mid.blocks ≡ c.blocks → mid.gates ≡ holding c.gates b c.fetched group
+  pub fetch-work : (mid : Core) (group : List ℕ) (w : Work) → mid.tokens ≡ c.tokens → mid.blocks ≡ c.blocks → mid.gates ≡ with_gate c.gates b c.fetched group
       → ((g : Gate) → gate_of mid.gates.held c.fetched ≡ Some g → IfSome (request_at mid.tokens t) (λ q. w ≡ lent_of q g b mid.blocks c.fetched)) → w ≡ lent_of own.request (record { ticket = c.fetched; block = b; out = false; copy = group }) b c.blocks c.fetched
-  unfolding holding
+  unfolding with_gate
   fetch-work mid group w tokens blocks gates all =
       let g : Gate = record { ticket = c.fetched; block = b; out = false; copy = group } in
       let none = ap (gate_of c.gates.held) sound.fitted.fetches_are ∙ ticket-new S H c.gates c.holders.items (vec_capacity c.holders) facts.geometry facts.legal facts.gates facts.holders in

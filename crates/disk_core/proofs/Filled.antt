@@ -7,7 +7,7 @@ use Rattle.index_links.specs.Lists.{is_among}
 use Rattle.block_gate.specs.Works.{Lent}
 use Rattle.block_gate.specs.Back.{IsGivenBack}
 use Rattle.block_gate.specs.declared.back.Back.TheVariants.{Foreign}
-use Rattle.block_gate.specs.Gates.{Gate, Gates, gate_of, is_lent, is_out, is_ours, taking, AreSound}
+use Rattle.block_gate.specs.Gates.{Gate, Gates, gate_of, is_lent, is_out, is_ours, with_work_back, AreSound}
 use Rattle.history.specs.Setup.{Setup}
 use Rattle.history.specs.Tokens.{Request}
 use Rattle.history.specs.Next.{Outcome}
@@ -135,16 +135,16 @@ module _ {M : Type 0} (device : M → Device) (prepared : M → ℕ → Type 0) 
 
 -- a work that came back is written
 module _ {M : Type 0} (device : M → Device) (prepared : M → ℕ → Type 0) (drive : DriveState M) (c : Core) (part : Part) (g : Gate) (q : Request) (is : IsStoring device prepared drive c c.gates part g q) (w : Lent) (ticket : part.ticket ≡ w.ticket) (ours_is : is_ours c.gates w ≡ true) (same : w.bytes ≡ c.group.items) where
-  pub storing-taken : (s : Gates) → s ≡ taking c.gates w.ticket → AreSound s → IsStoring device prepared drive (record c { gates = s }) c.gates part g q
+  pub storing-taken : (s : Gates) → s ≡ with_work_back c.gates w.ticket → AreSound s → IsStoring device prepared drive (record c { gates = s }) c.gates part g q
   storing-taken s taken apart = record {
     sound = is.sound;
     held = is.held;
-    lent = inr (taken ∙ ap (taking c.gates) (sym ticket));
+    lent = inr (taken ∙ ap (with_work_back c.gates) (sym ticket));
     apart = apart;
     group = is.group;
   }
 
-  pub work-stores : (s : Gates) (drive' : DriveState M) (new : Core) (outcome : Outcome) → s ≡ taking c.gates w.ticket → Reaches device prepared drive c drive' new (λ a b. Stores a s part.ticket g part.token q outcome b)
+  pub work-stores : (s : Gates) (drive' : DriveState M) (new : Core) (outcome : Outcome) → s ≡ with_work_back c.gates w.ticket → Reaches device prepared drive c drive' new (λ a b. Stores a s part.ticket g part.token q outcome b)
       → Reaches device prepared drive c drive' new (λ a b. StoreSays a w stored.Did b)
   unfolding state_of StoreSays
   work-stores s drive' new outcome taken reaches = record {
@@ -158,7 +158,7 @@ module _ {M : Type 0} (device : M → Device) (prepared : M → ℕ → Type 0) 
         outcome,
         record {
           same = same ∙ is.group;
-          stores = subst (λ k. Stores (state_of device drive c) (taking c.gates w.ticket) k g part.token q outcome (state_of device drive' new)) ticket
+          stores = subst (λ k. Stores (state_of device drive c) (with_work_back c.gates w.ticket) k g part.token q outcome (state_of device drive' new)) ticket
               (subst (λ x. Stores (state_of device drive c) x part.ticket g part.token q outcome (state_of device drive' new)) taken reaches.says);
         },
       ),

@@ -14,7 +14,7 @@ use Rattle.history_laws.specs.Told.{concerns}
 use Rattle.history_laws.proofs.CountLemmas.{accepted-same}
 use Rattle.history_laws.proofs.TokenLemmas.{request-stays, done-concerns, collected-same}
 use Rattle.token_table.specs.declared.record.Record.{Record}
-use Rattle.token_table.specs.Records.{Records, changed, lower_record, ended_record, IsShown}
+use Rattle.token_table.specs.Records.{Records, with_change, lower_record, ended_record, IsShown}
 use Rattle.disk_core.specs.State.{Kept}
 use Rattle.disk_core.specs.Facts.{KeptFollow}
 use Rattle.disk_core.specs.Parts.{kept_from}
@@ -59,7 +59,7 @@ far-lowered S H t c q task r p is finishes unmarked tracks =
 
 -- the records where the unit was finished; its token ends only later
 pub records-lowered : (S : Setup) (H : List Entry) (t : ℕ) (c : Command) (q : Request) (task : Task) (records : Records) → IsSetup S → FinishesTask S H t c q task → mark_of S H t ≡ None → RecordsFollow S H records
-    → RecordsBy S (Done t c ∷ H) (mark_of S H) (changed (lower_record (task_bytes task)) records t)
+    → RecordsBy S (Done t c ∷ H) (mark_of S H) (with_change (lower_record (task_bytes task)) records t)
 records-lowered S H t c q task records is finishes unmarked follow = record {
   each = each-changed change records t (λ u r. (p : Request) × Tracks S H u r p) (λ u r. (p : Request) × TracksBy S (Done t c ∷ H) (mark_of S H) u r p) follow.each
       (λ u r other old. (old.0, far-other S H (Done t c) u r old.0 (done-concerns H t u c other) old.1))

@@ -5,7 +5,7 @@ use Rattle.std.specs.List.{find, list_any}
 use Rattle.std.specs.Option.{option_map}
 use Rattle.std.proofs.lemmas.Bool.{cases_Bool, eq-eqb, ne_eqb, eqb-true, false_from_ne_true, or_left}
 use Rattle.index_links.specs.Lists.{is_among}
-use Rattle.block_gate.specs.Gates.{Gate, Gates, gate_of, is_block_held, is_out, is_lent, holding, lending}
+use Rattle.block_gate.specs.Gates.{Gate, Gates, gate_of, is_block_held, is_out, is_lent, with_gate, with_work_out}
 use Rattle.block_gate.proofs.GatesLemmas.{gate-new, gate-of-others, gate-turned, gate-turned-other}
 use Rattle.history.specs.declared.entry.Entry.{Entry}
 use Rattle.history.specs.Setup.{Setup, IsSetup}
@@ -96,14 +96,14 @@ module _ (S : Setup) (H : List Entry) (gates : Gates) (holders : List Holder) (p
   holders-below i h at = (let held = holding_.only h.ticket h.token (holder-at holders i h holding_.rising at) in holds-by-below S H h.token held.0 h.ticket held.1)
 
 -- a gate more
-pub new-gate : (s : Gates) (b k : ℕ) (copy : List ℕ) → gate_of s.held k ≡ None → gate_of (lending (holding s b k copy) k).held k ≡ Some (record { ticket = k; block = b; out = true; copy = copy })
-unfolding lending holding
+pub new-gate : (s : Gates) (b k : ℕ) (copy : List ℕ) → gate_of s.held k ≡ None → gate_of (with_work_out (with_gate s b k copy) k).held k ≡ Some (record { ticket = k; block = b; out = true; copy = copy })
+unfolding with_work_out with_gate
 new-gate s b k copy none =
     let g : Gate = record { ticket = k; block = b; out = false; copy = copy } in
     gate-turned (s.held ++ g ∷ []) k true ∙ ap (option_map (λ (h : Gate). record h { out = true })) (gate-new s.held k g none refl)
 
-pub other-gate : (s : Gates) (b k j : ℕ) (copy : List ℕ) → k ≢ j → gate_of (lending (holding s b k copy) k).held j ≡ gate_of s.held j
-unfolding lending holding
+pub other-gate : (s : Gates) (b k j : ℕ) (copy : List ℕ) → k ≢ j → gate_of (with_work_out (with_gate s b k copy) k).held j ≡ gate_of s.held j
+unfolding with_work_out with_gate
 other-gate s b k j copy other =
     let g : Gate = record { ticket = k; block = b; out = false; copy = copy } in
     gate-turned-other (s.held ++ g ∷ []) k j true other ∙ gate-of-others s.held j g other
@@ -113,27 +113,27 @@ map-push f [] x = refl
 map-push f (y ∷ xs) x = ap (λ rest. f y ∷ rest) (map-push f xs x)
 
 pub new-tickets : (s : Gates) (b k t : ℕ) (copy : List ℕ) (holders : List Holder) → map (λ h. h.ticket) holders ≡ map (λ g. g.ticket) s.held
-    → map (λ (h : Holder). h.ticket) (holders ++ record { ticket = k; token = t } ∷ []) ≡ map (λ (g : Gate). g.ticket) (lending (holding s b k copy) k).held
-unfolding lending holding
+    → map (λ (h : Holder). h.ticket) (holders ++ record { ticket = k; token = t } ∷ []) ≡ map (λ (g : Gate). g.ticket) (with_work_out (with_gate s b k copy) k).held
+unfolding with_work_out with_gate
 new-tickets s b k t copy holders paired =
     let g : Gate = record { ticket = k; block = b; out = false; copy = copy } in
     map-push (λ (h : Holder). h.ticket) holders (record { ticket = k; token = t }) ∙ ap (λ ks. ks ++ k ∷ []) paired ∙ sym (turned-tickets k true (s.held ++ g ∷ []) ∙ map-push (λ (h : Gate). h.ticket) s.held g)
 
-pub new-count : (s : Gates) (b k : ℕ) (copy : List ℕ) → length (lending (holding s b k copy) k).held ≡ length s.held + 1
-unfolding lending holding
+pub new-count : (s : Gates) (b k : ℕ) (copy : List ℕ) → length (with_work_out (with_gate s b k copy) k).held ≡ length s.held + 1
+unfolding with_work_out with_gate
 new-count s b k copy = (let g : Gate = record { ticket = k; block = b; out = false; copy = copy } in turned-long k true (s.held ++ g ∷ []) ∙ length-append s.held (g ∷ []))
 
-pub new-gone : (s : Gates) (b k : ℕ) (copy : List ℕ) → (lending (holding s b k copy) k).gone ≡ s.gone
-unfolding lending holding
+pub new-gone : (s : Gates) (b k : ℕ) (copy : List ℕ) → (with_work_out (with_gate s b k copy) k).gone ≡ s.gone
+unfolding with_work_out with_gate
 new-gone s b k copy = refl
 
-pub new-free : (s : Gates) (b k : ℕ) (copy : List ℕ) → ((lending (holding s b k copy) k).free ≡ s.free - 1) × ((lending (holding s b k copy) k).size ≡ s.size)
-unfolding lending holding
+pub new-free : (s : Gates) (b k : ℕ) (copy : List ℕ) → ((with_work_out (with_gate s b k copy) k).free ≡ s.free - 1) × ((with_work_out (with_gate s b k copy) k).size ≡ s.size)
+unfolding with_work_out with_gate
 new-free s b k copy = (refl, refl)
 
-pub new-out : (s : Gates) (b k j : ℕ) (copy : List ℕ) → k ≢ j → is_out (lending (holding s b k copy) k) j ≡ is_out s j
+pub new-out : (s : Gates) (b k j : ℕ) (copy : List ℕ) → k ≢ j → is_out (with_work_out (with_gate s b k copy) k) j ≡ is_out s j
 unfolding is_out
-new-out s b k j copy other = ap (λ o. is_among (lending (holding s b k copy) k).gone j || is_lent o) (other-gate s b k j copy other) ∙ ap (λ v. is_among v j || is_lent (gate_of s.held j)) (new-gone s b k copy)
+new-out s b k j copy other = ap (λ o. is_among (with_work_out (with_gate s b k copy) k).gone j || is_lent o) (other-gate s b k j copy other) ∙ ap (λ v. is_among v j || is_lent (gate_of s.held j)) (new-gone s b k copy)
 
 -- a holder more
 pub new-holder : (holders : List Holder) (k t : ℕ) → holder_of holders k ≡ None → holder_of (holders ++ record { ticket = k; token = t } ∷ []) k ≡ Some t

@@ -22,7 +22,7 @@ use Rattle.history_laws.specs.Units.{IsUnitCommand}
 use Rattle.history_laws.proofs.CountLemmas.{fetches-same}
 use Rattle.token_table.specs.declared.record.Record.{Record}
 use Rattle.token_table.specs.declared.record.Mark.{Mark}
-use Rattle.token_table.specs.Records.{record_at, request_at, changed, mark_at, mark_of_record}
+use Rattle.token_table.specs.Records.{record_at, request_at, with_change, mark_at, mark_of_record}
 use Rattle.token_table.specs.declared.record.Request.{Request as Asked}
 use Rattle.subtask_queue.specs.declared.sub.Sub.{Sub}
 use Rattle.subtask_queue.specs.Subs.{token_of, is_of}
@@ -156,8 +156,8 @@ module _ {M : Type 0} (device : M → Device) (prepared : M → ℕ → Type 0) 
         let at = u.low - from_of S r in
         let counted : length piece ≡ u.high - u.low = gets.long ∙ goes.count in
         let told = told-now target.range.low piece x gets.on goes.low in
-        let tokens : mid.tokens ≡ changed (with_bytes_in at piece) c.tokens t =
-        gets.tokens ∙ ap (λ n. changed (with_bytes_in n piece) c.tokens (token_of unit)) goes.place ∙ ap (changed (with_bytes_in at piece) c.tokens) token-is in
+        let tokens : mid.tokens ≡ with_change (with_bytes_in at piece) c.tokens t =
+        gets.tokens ∙ ap (λ n. with_change (with_bytes_in n piece) c.tokens (token_of unit)) goes.place ∙ ap (with_change (with_bytes_in at piece) c.tokens) token-is in
         let was = kept_from own in
         let there : kept_at (kept_of c.tokens) t ≡ Some was = kept-record c.tokens t ∙ ap (option_map kept_from) moving.there in
         let seen : kept_of mid.tokens ≡ slice_set (kept_of c.tokens) t (Some (record was { buffer = patch own.request.buffer at piece })) = ap kept_of tokens ∙ kept-put t at piece c.tokens own moving.there in
@@ -193,11 +193,11 @@ module _ {M : Type 0} (device : M → Device) (prepared : M → ℕ → Type 0) 
         (sound.fitted.fetches_are ∙ sym (fetches-same H (Fault todo.token get fault.done) refl)) (follows (Err fault) target.range.low gets.piece gets.on)
         (subst (λ v. EntersFault v c' todo.token get fault.done) same (subst (λ t. EntersFault mid c' t get fault.done) token-is failed))
 
-    mark-put : (at : ℕ) (piece : List ℕ) (t : ℕ) → record_at c.tokens t ≡ Some own → mark_at (changed (with_bytes_in at piece) c.tokens t) t ≡ mark_at c.tokens t
+    mark-put : (at : ℕ) (piece : List ℕ) (t : ℕ) → record_at c.tokens t ≡ Some own → mark_at (with_change (with_bytes_in at piece) c.tokens t) t ≡ mark_at c.tokens t
     unfolding mark_at with_bytes_in
     mark-put at piece t there = ap mark_of_record (changed-at (with_bytes_in at piece) c.tokens t ∙ ap (option_map (with_bytes_in at piece)) there) ∙ sym (ap mark_of_record there)
 
-    left-put : (at : ℕ) (piece : List ℕ) (t : ℕ) → record_at c.tokens t ≡ Some own → option_map (λ q. q.left) (request_at (changed (with_bytes_in at piece) c.tokens t) t) ≡ option_map (λ q. q.left) (request_at c.tokens t)
+    left-put : (at : ℕ) (piece : List ℕ) (t : ℕ) → record_at c.tokens t ≡ Some own → option_map (λ q. q.left) (request_at (with_change (with_bytes_in at piece) c.tokens t) t) ≡ option_map (λ q. q.left) (request_at c.tokens t)
     unfolding request_at with_bytes_in
     left-put at piece t there = ap (λ o. option_map (λ q. q.left) (option_map (λ x. x.request) o)) (changed-at (with_bytes_in at piece) c.tokens t ∙ ap (option_map (with_bytes_in at piece)) there) ∙ sym (ap (λ o. option_map (λ q. q.left) (option_map (λ x. x.request) o)) there)
 

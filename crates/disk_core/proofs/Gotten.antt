@@ -13,14 +13,14 @@ use Rattle.medium.specs.declared.block_failed.BlockFailed.{BlockFailed}
 use Rattle.drive.specs.Drives.{DriveState}
 use Rattle.token_table.specs.declared.record.Record.{Record}
 use Rattle.token_table.specs.declared.record.Request.{Request}
-use Rattle.token_table.specs.Records.{Records, record_at, request_at, changed, fill_record}
+use Rattle.token_table.specs.Records.{Records, record_at, request_at, with_change, fill_record}
 use Rattle.disk_core.specs.declared.parts.Core.{Core}
 use Rattle.disk_core.specs.Commands.{OnMedium, OfMedium}
 use Rattle.disk_core.specs.Moves.{IsGot, GetsInto, with_bytes_in}
 
 -- a change is seen at its own record alone
-changed-alike : (f g : Record → Record) (records : Records) (t : ℕ) → ((r : Record) → record_at records t ≡ Some r → f r ≡ g r) → changed f records t ≡ changed g records t
-unfolding changed record_at
+changed-alike : (f g : Record → Record) (records : Records) (t : ℕ) → ((r : Record) → record_at records t ≡ Some r → f r ≡ g r) → with_change f records t ≡ with_change g records t
+unfolding with_change record_at
 changed-alike f g [] t same = refl
 changed-alike f g (o ∷ records) zero same = ap (λ x. x ∷ records) (by o same)
   where
@@ -29,8 +29,8 @@ changed-alike f g (o ∷ records) zero same = ap (λ x. x ∷ records) (by o sam
     by (Some r) same = ap Some (same r refl)
 changed-alike f g (o ∷ records) (suc t) same = ap (λ rest. o ∷ rest) (changed-alike f g records t same)
 
-changed-still : (f : Record → Record) (records : Records) (t : ℕ) → ((r : Record) → record_at records t ≡ Some r → f r ≡ r) → changed f records t ≡ records
-unfolding changed record_at
+changed-still : (f : Record → Record) (records : Records) (t : ℕ) → ((r : Record) → record_at records t ≡ Some r → f r ≡ r) → with_change f records t ≡ records
+unfolding with_change record_at
 changed-still f [] t same = refl
 changed-still f (o ∷ records) zero same = ap (λ x. x ∷ records) (by o same)
   where
@@ -100,12 +100,12 @@ module _ (c : Core) (token place count : ℕ) (now buffer whole : List ℕ) (lon
   whole-is : whole ≡ take place buffer ++ (now ++ drop count (drop place buffer))
   whole-is = is ∙ ap (λ n. take place buffer ++ (now ++ drop n (drop place buffer))) (omega arith)
 
-  pub whole-tokens : changed (λ r. fill_record r whole) c.tokens token ≡ changed (with_bytes_in place now) c.tokens token
-  whole-tokens = ap (λ w. changed (λ r. fill_record r w) c.tokens token) whole-is
+  pub whole-tokens : with_change (λ r. fill_record r whole) c.tokens token ≡ with_change (with_bytes_in place now) c.tokens token
+  whole-tokens = ap (λ w. with_change (λ r. fill_record r w) c.tokens token) whole-is
       ∙ changed-alike (λ r. fill_record r (written place count buffer now long fits)) (with_bytes_in place now) c.tokens token (λ r there. filled-is place count buffer now long fits r (buffer-is c.tokens token buffer r lent there))
 
-  pub whole-still : now ≡ take count (drop place buffer) → changed (λ r. fill_record r whole) c.tokens token ≡ c.tokens
-  whole-still same = ap (λ w. changed (λ r. fill_record r w) c.tokens token) whole-is
+  pub whole-still : now ≡ take count (drop place buffer) → with_change (λ r. fill_record r whole) c.tokens token ≡ c.tokens
+  whole-still same = ap (λ w. with_change (λ r. fill_record r w) c.tokens token) whole-is
       ∙ changed-still (λ r. fill_record r (written place count buffer now long fits)) c.tokens token (λ r there. filled-same place count buffer now long fits r (buffer-is c.tokens token buffer r lent there) same)
 
 module _ {M : Type 0} (device : M → Device) (prepared : M → ℕ → Type 0) (drive drive' : DriveState M) (c : Core) (token low place count : ℕ) (now buffer whole : List ℕ) (long : length now ≡ count) (fits : place + count ≤ length buffer)
@@ -115,7 +115,7 @@ module _ {M : Type 0} (device : M → Device) (prepared : M → ℕ → Type 0) 
 
   -- the medium was read straight into it
   pub run-gets : (block : ℕ) (result : Result (Unit {0}) BlockFailed) (was : List ℕ) → OnMedium device prepared drive drive' (λ d d'. IsRead d block result d' was now) → OfMedium drive (λ m. low ≡ block * (device m).size) → was ≡ take (place + count - place) (drop place buffer)
-      → GetsInto device prepared drive drive' c (record c { tokens = changed (λ r. fill_record r whole) c.tokens token }) token low place count result
+      → GetsInto device prepared drive drive' c (record c { tokens = with_change (λ r. fill_record r whole) c.tokens token }) token low place count result
   run-gets block result was on begins part = by result on
     where
       got : (result : Result (Unit {0}) BlockFailed) (d d' : Device) → low ≡ block * d.size → IsRead d block result d' was now → IsGot d result d' low now
@@ -126,7 +126,7 @@ module _ {M : Type 0} (device : M → Device) (prepared : M → ℕ → Type 0) 
       on-got result on = record { before = on.before; after = on.after; was_in = on.was_in; drive = on.drive; does = got result (device on.before) (device on.after) (begins on.before on.was_in) on.does; stay = on.stay }
 
       by : (result : Result (Unit {0}) BlockFailed) → OnMedium device prepared drive drive' (λ d d'. IsRead d block result d' was now)
-          → GetsInto device prepared drive drive' c (record c { tokens = changed (λ r. fill_record r whole) c.tokens token }) token low place count result
+          → GetsInto device prepared drive drive' c (record c { tokens = with_change (λ r. fill_record r whole) c.tokens token }) token low place count result
       by (Ok x) on = record { piece = now; long = long; on = on-got (Ok x) on; tokens = whole-tokens c token place count now buffer whole long fits lent is; left = tt; group = refl; core = refl }
       by (Err e) on = record {
         piece = now;
@@ -164,7 +164,7 @@ part-told (Some bytes) at skip count group inside are = by (take count (drop ski
 -- a group was read, and a part of it copied
 pub group-gets : {M : Type 0} (device : M → Device) (prepared : M → ℕ → Type 0) (drive drive' : DriveState M) (c mid c' : Core) (token block size low place count : ℕ) (was now : List ℕ) (x : Unit {0})
     → OnMedium device prepared drive drive' (λ d d'. IsRead d block (Ok x) d' was now) → OfMedium drive (λ m. size ≡ (device m).size) → block * size ≤ low → low + count ≤ block * size + length now → length now ≡ length c.group.items
-    → mid.group.items ≡ now → c' ≡ record c { tokens = changed (with_bytes_in place (take count (drop (low - block * size) mid.group.items))) c.tokens token; group = mid.group }
+    → mid.group.items ≡ now → c' ≡ record c { tokens = with_change (with_bytes_in place (take count (drop (low - block * size) mid.group.items))) c.tokens token; group = mid.group }
     → GetsInto device prepared drive drive' c c' token low place count (Ok x)
 group-gets device prepared drive drive' c mid c' token block size low place count was now x on sized begins ends long items is = record {
   piece = take count (drop (low - block * size) mid.group.items);

@@ -18,7 +18,7 @@ use Rattle.history.specs.Rules.{refusal_of, IsPayload, IsWellAsked, MayAccept, I
 use Rattle.history.specs.Room.{owed_entries}
 use Rattle.history_laws.proofs.MediaLemmas.{admitted}
 use Rattle.token_table.specs.declared.record.Record.{Record}
-use Rattle.token_table.specs.Records.{new_record, ended_record, added, word_for, IsShown}
+use Rattle.token_table.specs.Records.{new_record, ended_record, with_record, word_for, IsShown}
 use Rattle.subtask_queue.specs.Subs.{subs_of_request, AreParts}
 use Rattle.disk_core.specs.declared.accepting.Room.{Room}
 use Rattle.disk_core.specs.declared.answers.Token.{Token}
@@ -111,12 +111,12 @@ module _ {M : Type 0} (device : M → Device) (prepared : M → ℕ → Type 0) 
   -- what is kept with it, where something is left and where not
   kept-open : nat_eq (left_at_first asked.kind asked.length) 0 ≡ false
       → after_keep c tag view asked room buffer ≡ after_accept c entry room.owed (c.tokens ++ Some fresh ∷ []) (c.queue ++ subs_of_request c.blocks c.accepted asked.kind room.parts)
-  unfolding after_keep after_empty_end added
+  unfolding after_keep after_empty_end with_record
   kept-open left = rw left refl
 
   kept-ended : nat_eq (left_at_first asked.kind asked.length) 0 ≡ true
       → after_keep c tag view asked room buffer ≡ after_accept c entry (room.owed - 1) (c.tokens ++ Some (ended_record Success fresh) ∷ []) (c.queue ++ subs_of_request c.blocks c.accepted asked.kind room.parts)
-  unfolding after_keep after_empty_end added after_accept
+  unfolding after_keep after_empty_end with_record after_accept
   kept-ended left =
       let one : c.owed + room.owed - 1 ≡ c.owed + (room.owed - 1) = (let some = fits.owed in omega arith) in
       rw left (λ i. record c {

@@ -2,7 +2,7 @@
 use Rattle.std.proofs.Common.{◌≡◌, ℕ, zero, suc, ◌+◌, ◌<◌, ◌≤◌, Bool, true, false, List, [], ◌∷◌, length, drop, slice_get, get_or, Option, None, Some, refl, sym, ap, arith}
 use Rattle.std.specs.Prelude.{is_some}
 use Rattle.std.proofs.lemmas.Option.{slice_get-get_or}
-use Rattle.block_gate.specs.Gates.{Gates, gate_of, releasing}
+use Rattle.block_gate.specs.Gates.{Gates, gate_of, without_hold}
 use Rattle.disk_core.specs.declared.parts.Holder.{Holder}
 use Rattle.disk_core.specs.Moves.{without_gate, without_gates_of, without_gate_of, after_pass}
 
@@ -31,7 +31,7 @@ revoked-next token holders i d s s' lt is =
     let next : i + 1 ≡ suc i = omega arith in
     rw (next, is) (sym (revoked-step token holders i (get_or holders i d) s (slice_get-get_or holders i d lt)))
 
-pub revoke-is : (b : Bool) (s s' : Gates) (k : ℕ) → b ≡ is_some (gate_of s.held k) → (b ≡ true → s' ≡ releasing s k) → (b ≡ false → s' ≡ s) → s' ≡ without_gate s k
+pub revoke-is : (b : Bool) (s s' : Gates) (k : ℕ) → b ≡ is_some (gate_of s.held k) → (b ≡ true → s' ≡ without_hold s k) → (b ≡ false → s' ≡ s) → s' ≡ without_gate s k
 revoke-is true s s' k is done kept = rw (sym is) (done refl)
 revoke-is false s s' k is done kept = rw (sym is) (kept refl)
 

@@ -4,7 +4,7 @@ use Rattle.std.proofs.lemmas.Bool.{eq-eqb, or_left, false≢true}
 use Rattle.index_links.specs.Lists.{is_among, without}
 use Rattle.history.specs.declared.entry.View.{View}
 use Rattle.history.specs.Marks.{fetches, Holds}
-use Rattle.block_gate.specs.Gates.{Gate, Gates, gate_of, without_ticket, turned, is_lent, is_out, holding, lending, releasing, taking}
+use Rattle.block_gate.specs.Gates.{Gate, Gates, gate_of, without_ticket, with_out, is_lent, is_out, with_gate, with_work_out, without_hold, with_work_back}
 use Rattle.token_table.specs.declared.record.Done.{Done}
 use Rattle.token_table.specs.declared.record.NotThere.{NotThere}
 use Rattle.token_table.specs.declared.record.NotThere.TheVariants as not_there
@@ -106,11 +106,11 @@ gate_for b k out copy = record { ticket = k; block = b; out = out; copy = copy }
 
 -- idle gates, with one work lent
 abbrev pub lent_one : Gates → ℕ → ℕ → List ℕ → Gates
-lent_one s b k copy = lending (holding s b k copy) k
+lent_one s b k copy = with_work_out (with_gate s b k copy) k
 
 module _ (s : Gates) (b k : ℕ) (copy : List ℕ) (idle : IsIdle s) where
   lent-is : lent_one s b k copy ≡ record { size = s.size; held = gate_for b k true copy ∷ []; gone = []; free = s.free - 1 }
-  unfolding lending holding turned
+  unfolding with_work_out with_gate with_out
   lent-is = rw (idle.held, idle.gone, eq-eqb k k refl) refl
 
   -- its gate is the only one
@@ -125,13 +125,13 @@ module _ (s : Gates) (b k : ℕ) (copy : List ℕ) (idle : IsIdle s) where
   pub lent-size : (lent_one s b k copy).size ≡ s.size
   lent-size = ap (λ g. g.size) lent-is
 
-  taken-is : taking (lent_one s b k copy) k ≡ record { size = s.size; held = gate_for b k false copy ∷ []; gone = []; free = s.free - 1 }
-  unfolding taking turned without is_among
+  taken-is : with_work_back (lent_one s b k copy) k ≡ record { size = s.size; held = gate_for b k false copy ∷ []; gone = []; free = s.free - 1 }
+  unfolding with_work_back with_out without is_among
   taken-is = rw (lent-is, eq-eqb k k refl) refl
 
   -- the work comes back, and its gate is released
-  pub back-again : releasing (taking (lent_one s b k copy) k) k ≡ s
-  unfolding releasing without_ticket gate_of is_lent
+  pub back-again : without_hold (with_work_back (lent_one s b k copy) k) k ≡ s
+  unfolding without_hold without_ticket gate_of is_lent
   back-again =
       let full : s.free - 1 + 1 ≡ s.free = omega (arith, idle.free) in
       rw (taken-is, eq-eqb k k refl, full) (sym (same-gates (record { size = s.size; held = []; gone = []; free = s.free }) s refl idle.held idle.gone refl))

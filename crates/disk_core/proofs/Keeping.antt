@@ -17,7 +17,7 @@ use Rattle.event_cell.specs.Ends.{SignallerEnd}
 use Rattle.token_table.specs.declared.record.Mark.{Mark}
 use Rattle.token_table.specs.declared.record.Request.{Request}
 use Rattle.token_table.specs.declared.record.Record.{Record}
-use Rattle.token_table.specs.Records.{Records, record_at, new_record, added, changed, mark_of_record, mark_at}
+use Rattle.token_table.specs.Records.{Records, record_at, new_record, with_record, with_change, mark_of_record, mark_at}
 use Rattle.token_table.proofs.RecordsLemmas.{at-push, record_at-added}
 use Rattle.subtask_queue.specs.declared.sub.Sub.{Sub}
 use Rattle.subtask_queue.specs.declared.sub.Sub.TheVariants.{Part, Run, Sync}
@@ -29,8 +29,8 @@ set-last : {X : Type 0} (xs : List X) (x y : X) → slice_set (xs ++ x ∷ []) (
 set-last [] x y = refl
 set-last (z ∷ xs) x y = ap (λ rest. z ∷ rest) (set-last xs x y)
 
-pub changed-last : (change : Record → Record) (s : Records) (r : Record) (n : ℕ) → n ≡ length s → changed change (s ++ Some r ∷ []) n ≡ s ++ Some (change r) ∷ []
-unfolding changed
+pub changed-last : (change : Record → Record) (s : Records) (r : Record) (n : ℕ) → n ≡ length s → with_change change (s ++ Some r ∷ []) n ≡ s ++ Some (change r) ∷ []
+unfolding with_change
 changed-last change s r n is =
     let there : record_at (s ++ Some r ∷ []) n ≡ Some r = at-push s n (Some r) ∙ rw (eq-eqb n (length s) is) refl in
     ap (λ o. slice_set (s ++ Some r ∷ []) n (option_map change o)) there ∙ ap (λ k. slice_set (s ++ Some r ∷ []) k (Some (change r))) is ∙ set-last s (Some r) (Some (change r))
@@ -83,8 +83,8 @@ dropped-again G token kind parts queue below =
     append-none (x ∷ xs) = ap (λ rest. x ∷ rest) (append-none xs)
 
 -- the record that was added last is open
-pub new-open : (s new : Records) (request : Request) (signaller : SignallerEnd) (n : ℕ) → new ≡ added s request signaller → n ≡ length s → mark_at new n ≡ Mark.Outstanding
+pub new-open : (s new : Records) (request : Request) (signaller : SignallerEnd) (n : ℕ) → new ≡ with_record s request signaller → n ≡ length s → mark_at new n ≡ Mark.Outstanding
 unfolding mark_at new_record
 new-open s new request signaller n is last =
-    let there : record_at (added s request signaller) n ≡ Some (new_record request signaller) = record_at-added s request signaller n ∙ rw (eq-eqb n (length s) last) refl in
+    let there : record_at (with_record s request signaller) n ≡ Some (new_record request signaller) = record_at-added s request signaller n ∙ rw (eq-eqb n (length s) last) refl in
     subst (λ t. mark_of_record (record_at t n) ≡ Mark.Outstanding) (sym is) (ap mark_of_record there)

@@ -7,7 +7,7 @@ use Rattle.medium.specs.Device.{Device}
 use Rattle.drive.specs.Drives.{DriveState}
 use Rattle.index_links.specs.Lists.{is_among, without}
 use Rattle.block_gate.specs.Works.{Lent}
-use Rattle.block_gate.specs.Gates.{Gates, gate_of, is_lent, is_out, is_ours, taking, turned, AreSound}
+use Rattle.block_gate.specs.Gates.{Gates, gate_of, is_lent, is_out, is_ours, with_work_back, with_out, AreSound}
 use Rattle.disk_core.specs.declared.parts.Core.{Core}
 use Rattle.disk_core.specs.declared.answers.Stored.TheVariants.{Stale, Foreign}
 use Rattle.disk_core.specs.Parts.{state_of}
@@ -30,11 +30,11 @@ late-gone s w ours none = by (or_cases (is_among s.gone w.ticket) (is_lent (gate
 unfoldable pub with_gone : Gates → List ℕ → ℕ → Gates
 with_gone s gone free = record { size = s.size; held = s.held; gone = gone; free = free }
 
-taking-gone : (s : Gates) (k : ℕ) → is_among s.gone k ≡ true → taking s k ≡ with_gone s (without k s.gone) (s.free + 1)
-unfolding taking with_gone
+taking-gone : (s : Gates) (k : ℕ) → is_among s.gone k ≡ true → with_work_back s k ≡ with_gone s (without k s.gone) (s.free + 1)
+unfolding with_work_back with_gone
 taking-gone s k gone = λ i. record {
   size = s.size;
-  held = cond (gone i) s.held (turned k false s.held);
+  held = cond (gone i) s.held (with_out k false s.held);
   gone = without k s.gone;
   free = cond (gone i) (s.free + 1) s.free;
 }
@@ -116,7 +116,7 @@ gone-sound device prepared drive c gone free sound fewer few apart = record {
 
 module _ {M : Type 0} (device : M → Device) (prepared : M → ℕ → Type 0) (drive : DriveState M) (c : Core) (sound : IsDisk device prepared drive c) where
   -- the buffers of a late work are taken back
-  pub late-reaches : (w : Lent) (s : Gates) → gate_of c.gates.held w.ticket ≡ None → is_ours c.gates w ≡ true → s ≡ taking c.gates w.ticket → AreSound s
+  pub late-reaches : (w : Lent) (s : Gates) → gate_of c.gates.held w.ticket ≡ None → is_ours c.gates w ≡ true → s ≡ with_work_back c.gates w.ticket → AreSound s
       → Reaches device prepared drive c drive (record c { gates = s }) (λ old new. StoreSays old w Stale new)
   unfolding StoreSays state_of
   late-reaches w s none ours is apart =

@@ -4,7 +4,7 @@ use Rattle.std.specs.Prelude.{filter, sum_by, vec_capacity, nat_eq}
 use Rattle.history_laws.specs.Gates.{is_store_of}
 use Rattle.std.proofs.lemmas.Bool.{cases_eq, and_right}
 use Rattle.medium.specs.Device.{AreToldAt}
-use Rattle.block_gate.specs.Gates.{Gate, Gates, gate_of, is_out, holding, lending, AreSound}
+use Rattle.block_gate.specs.Gates.{Gate, Gates, gate_of, is_out, with_gate, with_work_out, AreSound}
 use Rattle.history.specs.declared.entry.Command.TheVariants.{Fetch}
 use Rattle.history.specs.declared.entry.Entry.{Entry}
 use Rattle.history.specs.declared.entry.Entry.TheVariants.{Done}
@@ -48,7 +48,7 @@ pub record HasLent (H : List Entry) (t b k : ℕ) (group : List ℕ) (c c' : Cor
   pub owed : c'.owed ≡ c.owed - 1
   pub tokens : c'.tokens ≡ c.tokens
   pub queue : c'.queue ≡ c.queue
-  pub gates : c'.gates ≡ lending (holding c.gates b k group) k
+  pub gates : c'.gates ≡ with_work_out (with_gate c.gates b k group) k
   pub apart : AreSound c'.gates
   pub holders : c'.holders.items ≡ c.holders.items ++ record { ticket = k; token = t } ∷ []
   pub places : vec_capacity c'.holders ≡ vec_capacity c.holders
@@ -104,7 +104,7 @@ module _ (S : Setup) (H : List Entry) (t b : ℕ) (r : Request) (c : Core) (clos
       ]
 
   abbrev lent : Gates
-  lent = lending (holding c.gates b k group) k
+  lent = with_work_out (with_gate c.gates b k group) k
 
   goes-on : (u : ℕ) → mark_of S H u ≡ None → mark_of S (e ∷ H) u ≡ None
   goes-on u unmarked = elim (cases_eq t u) [

@@ -6,12 +6,12 @@ use Rattle.efi_status.specs.declared.Status.{Status}
 use Rattle.history_laws.proofs.CountLemmas.{count-more, count-same}
 use Rattle.token_table.specs.declared.record.Record.{Record}
 use Rattle.token_table.specs.declared.record.Mark.{Mark}
-use Rattle.token_table.specs.Records.{Records, record_at, changed, lower_record, mark_at, mark_of_record, mark_of_end}
+use Rattle.token_table.specs.Records.{Records, record_at, with_change, lower_record, mark_at, mark_of_record, mark_of_end}
 use Rattle.subtask_queue.specs.declared.sub.Sub.{Sub}
 use Rattle.subtask_queue.specs.Subs.{without_first}
 
-pub record-changed : (change : Record → Record) (records : Records) (t : ℕ) (r : Record) → record_at records t ≡ Some r → record_at (changed change records t) t ≡ Some (change r)
-unfolding record_at changed
+pub record-changed : (change : Record → Record) (records : Records) (t : ℕ) (r : Record) → record_at records t ≡ Some r → record_at (with_change change records t) t ≡ Some (change r)
+unfolding record_at with_change
 record-changed change [] t r is = absurd (clash is)
   where
     clash : None ≡ Some r → ⊥
@@ -32,7 +32,7 @@ open-record records t is = by (record_at records t) refl is
     by None there mark = cc
     by (Some r) there mark = ended r r.ended there refl mark
 
-pub lowered-open : (records : Records) (t count : ℕ) → mark_at records t ≡ Mark.Outstanding → mark_at (changed (lower_record count) records t) t ≡ Mark.Outstanding
+pub lowered-open : (records : Records) (t count : ℕ) → mark_at records t ≡ Mark.Outstanding → mark_at (with_change (lower_record count) records t) t ≡ Mark.Outstanding
 unfolding mark_at lower_record
 lowered-open records t count is =
     let r = (open-record records t is).0 in

@@ -21,7 +21,7 @@ use Rattle.history_laws.proofs.PendingLemmas.{filter-everything, pending-is, get
 use Rattle.history_laws.proofs.SpareLemmas.{entries-done, entries-done-end}
 use Rattle.history_laws.proofs.TokenLemmas.{mark-other, done-concerns}
 use Rattle.token_table.specs.declared.record.Record.{Record}
-use Rattle.token_table.specs.Records.{record_at, request_at, changed, lower_record, ended_record}
+use Rattle.token_table.specs.Records.{record_at, request_at, with_change, lower_record, ended_record}
 use Rattle.subtask_queue.specs.declared.sub.Sub.{Sub}
 use Rattle.subtask_queue.specs.Subs.{token_of, block_of, is_of, is_unit, sub_of, without_first, without_token}
 use Rattle.disk_core.specs.declared.parts.Core.{Core}
@@ -132,7 +132,7 @@ pub record StaysFitted (c c' : Core) : Type 0 where
 abbrev done_core : Core → ℕ → ℕ → Command → ℕ → Core
 done_core c t block command bytes = record (with_entry c (Done t command) 1) {
   queue = without_first (is_unit t block) c.queue;
-  tokens = changed (lower_record bytes) c.tokens t;
+  tokens = with_change (lower_record bytes) c.tokens t;
 }
 
 finished-is : (c : Core) (unit : Sub) (command : Command) (bytes : ℕ) → after_finish c unit command bytes ≡ done_core c (token_of unit) (block_of unit) command bytes

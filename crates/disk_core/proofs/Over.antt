@@ -13,7 +13,7 @@ use Rattle.history_laws.specs.Left.{left_of}
 use Rattle.history_laws.proofs.TokenLemmas.{request-stays}
 use Rattle.block_gate.specs.Gates.{Gates}
 use Rattle.token_table.specs.declared.record.Record.{Record}
-use Rattle.token_table.specs.Records.{Records, changed, ended_record, word_for, IsShown}
+use Rattle.token_table.specs.Records.{Records, with_change, ended_record, word_for, IsShown}
 use Rattle.disk_core.specs.declared.parts.Holder.{Holder}
 use Rattle.disk_core.specs.State.{Kept}
 use Rattle.disk_core.specs.Facts.{IsBuffer, KeptFollow, GatesFollow}
@@ -77,7 +77,7 @@ kept-over S H e kept count collected same follow = record {
 
 -- the records after one more end
 pub records-step : (S : Setup) (H : List Entry) (marks marks' : ℕ → Option Status) (records : Records) (t : ℕ) (status : Status) → marks' t ≡ Some status → ((u : ℕ) → u ≢ t → marks' u ≡ marks u)
-    → RecordsBy S H marks records → RecordsBy S H marks' (changed (ended_record status) records t)
+    → RecordsBy S H marks records → RecordsBy S H marks' (with_change (ended_record status) records t)
 unfolding ended_record IsShown word_for
 records-step S H marks marks' records t status here away follow = record {
   each = each-changed (ended_record status) records t (λ u r. (q : Request) × TracksBy S H marks u r q) (λ u r. (q : Request) × TracksBy S H marks' u r q) follow.each

@@ -11,7 +11,7 @@ use Rattle.history_laws.proofs.OrderLemmas.{ordered-filter}
 use Rattle.history_laws.proofs.PendingLemmas.{filter-everything}
 use Rattle.block_gate.proofs.GatesLemmas.{gate-turned, gate-turned-other}
 use Rattle.std.specs.Option.{option_map}
-use Rattle.block_gate.specs.Gates.{Gate, Gates, gate_of, is_lent, is_out, taking, releasing, turned, AreSound}
+use Rattle.block_gate.specs.Gates.{Gate, Gates, gate_of, is_lent, is_out, with_work_back, without_hold, with_out, AreSound}
 use Rattle.disk_core.specs.declared.parts.Holder.{Holder}
 use Rattle.disk_core.specs.Parts.{holder_of}
 use Rattle.disk_core.specs.Inside.{IsEarlier}
@@ -33,30 +33,30 @@ pub record IsSameBut (k : ℕ) (before lent : Gates) : Type 0 where
 same-all : (k : ℕ) (s : Gates) (g : Gate) → gate_of s.held k ≡ Some g → IsSameBut k s s
 same-all k s g there = record { size = refl; alike = λ j other. refl; there = (g, there); tickets = refl; within = λ j out. out; fits = omega arith }
 
-turned-there : (k : ℕ) (out : Bool) (held : List Gate) (g : Gate) → gate_of held k ≡ Some g → (h : Gate) × (gate_of (turned k out held) k ≡ Some h) × (h.out ≡ out)
+turned-there : (k : ℕ) (out : Bool) (held : List Gate) (g : Gate) → gate_of held k ≡ Some g → (h : Gate) × (gate_of (with_out k out held) k ≡ Some h) × (h.out ≡ out)
 turned-there k out held g there = (record g { out = out }, gate-turned held k out ∙ ap (option_map (λ (h : Gate). record h { out = out })) there, refl)
 
-taken-within : (k : ℕ) (s : Gates) (g : Gate) → gate_of s.held k ≡ Some g → (j : ℕ) → is_out (record { size = s.size; held = turned k false s.held; gone = without k s.gone; free = s.free }) j ≡ true → is_out s j ≡ true
+taken-within : (k : ℕ) (s : Gates) (g : Gate) → gate_of s.held k ≡ Some g → (j : ℕ) → is_out (record { size = s.size; held = with_out k false s.held; gone = without k s.gone; free = s.free }) j ≡ true → is_out s j ≡ true
 unfolding is_out is_lent
-taken-within k s g there j out = elim (or_cases (is_among (without k s.gone) j) (is_lent (gate_of (turned k false s.held) j)) out) [
+taken-within k s g there j out = elim (or_cases (is_among (without k s.gone) j) (is_lent (gate_of (with_out k false s.held) j)) out) [
   | inl gone ↦ or_left (is_among s.gone j) (is_lent (gate_of s.held j)) (without-among k j s.gone gone)
   | inr lent ↦ elim (cases_eq k j) [
     | inr other ↦ or_right (is_among s.gone j) (is_lent (gate_of s.held j)) (sym (ap is_lent (gate-turned-other s.held k j false other)) ∙ lent)
     | inl same ↦
         let now = turned-there k false s.held g there in
-        absurd (true≢false (sym lent ∙ (ap (λ n. is_lent (gate_of (turned k false s.held) n)) (sym same) ∙ ap is_lent now.1 ∙ now.2)))
+        absurd (true≢false (sym lent ∙ (ap (λ n. is_lent (gate_of (with_out k false s.held) n)) (sym same) ∙ ap is_lent now.1 ∙ now.2)))
   ]
 ]
 
 -- a work of a held gate came back
-same-taken : (k : ℕ) (s : Gates) (g : Gate) → AreSound s → gate_of s.held k ≡ Some g → IsSameBut k s (taking s k)
-unfolding taking
+same-taken : (k : ℕ) (s : Gates) (g : Gate) → AreSound s → gate_of s.held k ≡ Some g → IsSameBut k s (with_work_back s k)
+unfolding with_work_back
 same-taken k s g sound there = by (is_among s.gone k) refl
   where
     none-some : gate_of s.held k ≡ None → gate_of s.held k ≡ Some g → ⊥
     none-some none some = cc
 
-    by : (b : Bool) → is_among s.gone k ≡ b → IsSameBut k s (record { size = s.size; held = cond b s.held (turned k false s.held); gone = without k s.gone; free = cond b (s.free + 1) s.free })
+    by : (b : Bool) → is_among s.gone k ≡ b → IsSameBut k s (record { size = s.size; held = cond b s.held (with_out k false s.held); gone = without k s.gone; free = cond b (s.free + 1) s.free })
     by true gone = absurd (none-some (sound.one_ticket k gone) there)
     by false held = record {
       size = refl;
@@ -67,7 +67,7 @@ same-taken k s g sound there = by (is_among s.gone k) refl
       fits = (let long = turned-long k false s.held in let less = without-less k s.gone in omega arith);
     }
 
-pub same-but : (k : ℕ) (before lent : Gates) (g : Gate) → AreSound before → gate_of before.held k ≡ Some g → (lent ≡ before) ⊎ (lent ≡ taking before k) → IsSameBut k before lent
+pub same-but : (k : ℕ) (before lent : Gates) (g : Gate) → AreSound before → gate_of before.held k ≡ Some g → (lent ≡ before) ⊎ (lent ≡ with_work_back before k) → IsSameBut k before lent
 same-but k before lent g sound there (inl same) = subst (IsSameBut k before) (sym same) (same-all k before g there)
 same-but k before lent g sound there (inr taken) = subst (IsSameBut k before) (sym taken) (same-taken k before g sound there)
 
@@ -148,11 +148,11 @@ pub record IsReleased (k : ℕ) (before : Gates) (holders : List Holder) (s : Ga
   pub fits : length s.held + (length s.gone + s.free) ≤ length before.held + (length before.gone + before.free)
 
 pub is-released : (k : ℕ) (before lent : Gates) (holders : List Holder) → IsSameBut k before lent → AreSound lent → map (λ h. h.ticket) holders ≡ map (λ g. g.ticket) before.held → Ordered IsEarlier holders
-    → IsReleased k before holders (releasing lent k) (without_ticket_of k holders)
+    → IsReleased k before holders (without_hold lent k) (without_ticket_of k holders)
 is-released k before lent holders same sound paired rising =
-    let lost : HaveLost (λ j. nat_eq k j) lent (releasing lent k) = lose-held k lent same.there.0 same.there.1 in
+    let lost : HaveLost (λ j. nat_eq k j) lent (without_hold lent k) = lose-held k lent same.there.0 same.there.1 in
     let is = without-ticket-is k holders rising in
-    let found = λ (j : ℕ) (g : Gate) (there : gate_of (releasing lent k).held j ≡ Some g). left-gate (λ n. nat_eq k n) lent.held j g (subst (λ held. gate_of held j ≡ Some g) lost.held there) in
+    let found = λ (j : ℕ) (g : Gate) (there : gate_of (without_hold lent k).held j ≡ Some g). left-gate (λ n. nat_eq k n) lent.held j g (subst (λ held. gate_of held j ≡ Some g) lost.held there) in
     let apart = λ (j : ℕ) (kept : nat_eq k j ≡ false). (λ (e : k ≡ j). true≢false (sym (eq-eqb k j e) ∙ kept)) in
     record {
       size = lost.size ∙ same.size;

@@ -8,7 +8,7 @@ use Rattle.std.proofs.lemmas.Bool.{cases_Bool, cases_eq, eq-eqb, ne_eqb, eqb-tru
 use Rattle.index_links.proofs.LinkedListsLemmas.{among-append, among-last}
 use Rattle.history_laws.proofs.FilterLemmas.{filter-twice, filter-mapped, filter-less}
 use Rattle.index_links.specs.Lists.{is_among}
-use Rattle.block_gate.specs.Gates.{Gate, Gates, gate_of, is_out, is_lent, releasing, without_ticket, AreSound, turned}
+use Rattle.block_gate.specs.Gates.{Gate, Gates, gate_of, is_out, is_lent, without_hold, without_ticket, AreSound, with_out}
 use Rattle.block_gate.proofs.GatesLemmas.{gate-without, gate-without-other}
 use Rattle.history_laws.specs.Pending.{Ordered}
 use Rattle.history_laws.proofs.PendingLemmas.{filter-everything, filter-alike}
@@ -28,20 +28,20 @@ among-added xs k j is = elim (or_cases (is_among xs j) (is_among (k ∷ []) j) (
 
 -- ---- one release
 
-pub released-size : (s : Gates) (k : ℕ) → (releasing s k).size ≡ s.size
-unfolding releasing
+pub released-size : (s : Gates) (k : ℕ) → (without_hold s k).size ≡ s.size
+unfolding without_hold
 released-size s k = refl
 
-pub released-held : (s : Gates) (k : ℕ) → (releasing s k).held ≡ filter (λ g. not (nat_eq k g.ticket)) s.held
-unfolding releasing without_ticket
+pub released-held : (s : Gates) (k : ℕ) → (without_hold s k).held ≡ filter (λ g. not (nat_eq k g.ticket)) s.held
+unfolding without_hold without_ticket
 released-held s k = refl
 
 among-cond : (b : Bool) (gone : List ℕ) (k j : ℕ) → is_among (cond b (gone ++ k ∷ []) gone) j ≡ true → (is_among gone j ≡ true) ⊎ ((b ≡ true) × (j ≡ k))
 among-cond true gone k j is = elim (among-added gone k j is) [ inl among ↦ inl among | inr same ↦ inr (refl, same) ]
 among-cond false gone k j is = inl is
 
-pub release-within : (s : Gates) (k j : ℕ) → is_out (releasing s k) j ≡ true → is_out s j ≡ true
-unfolding is_out releasing is_lent
+pub release-within : (s : Gates) (k j : ℕ) → is_out (without_hold s k) j ≡ true → is_out s j ≡ true
+unfolding is_out without_hold is_lent
 release-within s k j out = elim (or_cases (is_among (cond (is_lent (gate_of s.held k)) (s.gone ++ k ∷ []) s.gone) j) (is_lent (gate_of (without_ticket k s.held) j)) out) [
   | inl among ↦ elim (among-cond (is_lent (gate_of s.held k)) s.gone k j among) [
     | inl before ↦ or_left (is_among s.gone j) (is_lent (gate_of s.held j)) before
@@ -56,8 +56,8 @@ release-within s k j out = elim (or_cases (is_among (cond (is_lent (gate_of s.he
     no-lent : false ≡ true → ⊥
     no-lent e = cc
 
-pub release-still : (s : Gates) (k j : ℕ) → is_lent (gate_of s.held k) ≡ true → is_out s j ≡ true → is_out (releasing s k) j ≡ true
-unfolding is_out releasing
+pub release-still : (s : Gates) (k j : ℕ) → is_lent (gate_of s.held k) ≡ true → is_out s j ≡ true → is_out (without_hold s k) j ≡ true
+unfolding is_out without_hold
 release-still s k j lent out = rw lent (elim (cases_eq k j) [
   | inl same ↦ or_left (is_among (s.gone ++ k ∷ []) j) _ (ap (is_among (s.gone ++ k ∷ [])) (sym same) ∙ among-last s.gone k)
   | inr other ↦ elim (or_cases (is_among s.gone j) (is_lent (gate_of s.held j)) out) [
@@ -75,8 +75,8 @@ without-some (h ∷ held) k g is = elim (cases_Bool (nat_eq k h.ticket)) [
 ]
 
 release-fits : (s : Gates) (k : ℕ) (g : Gate) → gate_of s.held k ≡ Some g
-    → length (releasing s k).held + (length (releasing s k).gone + (releasing s k).free) ≤ length s.held + (length s.gone + s.free)
-unfolding releasing
+    → length (without_hold s k).held + (length (without_hold s k).gone + (without_hold s k).free) ≤ length s.held + (length s.gone + s.free)
+unfolding without_hold
 release-fits s k g is = by (is_lent (gate_of s.held k)) (without-some s.held k g is)
   where
     by : (b : Bool) → length (without_ticket k s.held) + 1 ≤ length s.held
@@ -93,8 +93,8 @@ release-gate s k j g is = elim (cases_eq k j) [
     none-some : (g : Gate) → None ≡ Some g → ⊥
     none-some g e = cc
 
-release-sound : (s : Gates) (k : ℕ) → AreSound s → AreSound (releasing s k)
-unfolding releasing
+release-sound : (s : Gates) (k : ℕ) → AreSound s → AreSound (without_hold s k)
+unfolding without_hold
 release-sound s k sound = record {
   one_block = λ t u g h first second same. sound.one_block t u g h (release-gate s k t g first) (release-gate s k u h second) same;
   one_ticket = λ t gone. elim (among-cond (is_lent (gate_of s.held k)) s.gone k t gone) [
@@ -142,7 +142,7 @@ no-gate (h ∷ held) t (suc j) g none there = elim (cases_Bool (nat_eq t h.ticke
   | inr other ↦ no-gate held t j g (rw other at none) there
 ]
 
-pub lose-held : (t : ℕ) (s : Gates) (g : Gate) → gate_of s.held t ≡ Some g → HaveLost (λ k. nat_eq t k) s (releasing s t)
+pub lose-held : (t : ℕ) (s : Gates) (g : Gate) → gate_of s.held t ≡ Some g → HaveLost (λ k. nat_eq t k) s (without_hold s t)
 lose-held t s g is = record {
   size = released-size s t;
   held = released-held s t;
@@ -154,9 +154,9 @@ lose-held t s g is = record {
 lose-one : (t : ℕ) (s : Gates) → HaveLost (λ k. nat_eq t k) s (without_gate s t)
 lose-one t s = by (gate_of s.held t) refl
   where
-    by : (m : Option Gate) → gate_of s.held t ≡ m → HaveLost (λ k. nat_eq t k) s (if is_some (gate_of s.held t) then releasing s t else s)
-    by None is = subst (λ m. HaveLost (λ k. nat_eq t k) s (if is_some m then releasing s t else s)) (sym is) (lose-none (λ k. nat_eq t k) s (λ k g there. no-gate s.held t k g is there))
-    by (Some g) is = subst (λ m. HaveLost (λ k. nat_eq t k) s (if is_some m then releasing s t else s)) (sym is) (lose-held t s g is)
+    by : (m : Option Gate) → gate_of s.held t ≡ m → HaveLost (λ k. nat_eq t k) s (if is_some (gate_of s.held t) then without_hold s t else s)
+    by None is = subst (λ m. HaveLost (λ k. nat_eq t k) s (if is_some m then without_hold s t else s)) (sym is) (lose-none (λ k. nat_eq t k) s (λ k g there. no-gate s.held t k g is there))
+    by (Some g) is = subst (λ m. HaveLost (λ k. nat_eq t k) s (if is_some m then without_hold s t else s)) (sym is) (lose-held t s g is)
 
 lose-both : (p q both : ℕ → Bool) (s mid new : Gates) → ((k : ℕ) → not (both k) ≡ (not (p k) && not (q k))) → HaveLost p s mid → HaveLost q mid new → HaveLost both s new
 lose-both p q both s mid new joined first second = record {
@@ -297,8 +297,8 @@ others-tickets token holders rising =
       | inr isnt ↦ other-ticket token h.token holders h.ticket rising (holder-at holders i h rising there) isnt ∙ sym (ne_eqb token h.token (λ e. isnt (sym e)))
     ]
 
-pub turned-tickets : (k : ℕ) (out : Bool) (held : List Gate) → map (λ g. g.ticket) (turned k out held) ≡ map (λ g. g.ticket) held
-unfolding turned
+pub turned-tickets : (k : ℕ) (out : Bool) (held : List Gate) → map (λ g. g.ticket) (with_out k out held) ≡ map (λ g. g.ticket) held
+unfolding with_out
 turned-tickets k out [] = refl
 turned-tickets k out (g ∷ held) = by (eqb k g.ticket) (turned-tickets k out held)
   where
@@ -307,6 +307,6 @@ turned-tickets k out (g ∷ held) = by (eqb k g.ticket) (turned-tickets k out he
     by true rest = ap (λ more. g.ticket ∷ more) rest
     by false rest = ap (λ more. g.ticket ∷ more) rest
 
-pub turned-long : (k : ℕ) (out : Bool) (held : List Gate) → length (turned k out held) ≡ length held
-unfolding turned
+pub turned-long : (k : ℕ) (out : Bool) (held : List Gate) → length (with_out k out held) ≡ length held
+unfolding with_out
 turned-long k out held = length-map held (λ g. cond (eqb k g.ticket) (record g { out = out }) g)

@@ -6,7 +6,7 @@ use Rattle.std.proofs.lemmas.List.{length-append}
 use Rattle.std.proofs.lemmas.Option.{slice_get-map}
 use Rattle.std.specs.Option.{option_map}
 use Rattle.std.specs.Cmp.{both_ways}
-use Rattle.block_gate.specs.Gates.{Gate, Gates, gate_of, is_out, is_lent, outs, releasing, without_ticket}
+use Rattle.block_gate.specs.Gates.{Gate, Gates, gate_of, is_out, is_lent, outs, without_hold, without_ticket}
 use Rattle.history_laws.specs.Pending.{Ordered}
 use Rattle.history_laws.proofs.PendingLemmas.{filter-everything}
 use Rattle.history_laws.proofs.OrderLemmas.{ordered-filter, ordered-map}
@@ -49,18 +49,18 @@ one-less (h ∷ held) k g is out rising = elim (cases_Bool (nat_eq k h.ticket)) 
       rw other (elim (cases_Bool h.out) [ inl lent ↦ rw lent (omega arith) | inr isnt ↦ rw isnt less ])
 ]
 
-release-stays : (s : Gates) (k : ℕ) (g : Gate) → gate_of s.held k ≡ Some g → AreLent s.held → StayOut s (releasing s k)
-unfolding outs releasing without_ticket is_lent
+release-stays : (s : Gates) (k : ℕ) (g : Gate) → gate_of s.held k ≡ Some g → AreLent s.held → StayOut s (without_hold s k)
+unfolding outs without_hold without_ticket is_lent
 release-stays s k g is are =
     let lent : is_lent (gate_of s.held k) ≡ true = ap is_lent is ∙ are.lent k g is in
     record {
-      works = λ j. both_ways (is_out (releasing s k) j) (is_out s j) (release-within s k j) (release-still s k j lent);
+      works = λ j. both_ways (is_out (without_hold s k) j) (is_out s j) (release-within s k j) (release-still s k j lent);
       count = rw lent (let less = one-less s.held k g is (are.lent k g is) are.rising in let more = length-append s.gone (k ∷ []) in omega arith);
       free = rw lent refl;
     }
 
-release-lent : (s : Gates) (k : ℕ) → AreLent s.held → AreLent (releasing s k).held
-unfolding releasing without_ticket
+release-lent : (s : Gates) (k : ℕ) → AreLent s.held → AreLent (without_hold s k).held
+unfolding without_hold without_ticket
 release-lent s k are = record {
   lent = λ j g there. are.lent j g (release-gate s k j g there);
   rising = subst (Ordered IsLower) (filter-mapped (λ n. not (nat_eq k n)) (λ (g : Gate). g.ticket) s.held) (ordered-filter IsLower (λ n. not (nat_eq k n)) (map (λ g. g.ticket) s.held) are.rising);
@@ -73,8 +73,8 @@ one-stays : (t : ℕ) (s : Gates) → AreLent s.held → StayOut s (without_gate
 one-stays t s are = by (gate_of s.held t) refl
   where
     by : (m : Option Gate) → gate_of s.held t ≡ m → StayOut s (without_gate s t) × AreLent (without_gate s t).held
-    by None is = subst (λ m. StayOut s (if is_some m then releasing s t else s) × AreLent (if is_some m then releasing s t else s).held) (sym is) (stay-all s, are)
-    by (Some g) is = subst (λ m. StayOut s (if is_some m then releasing s t else s) × AreLent (if is_some m then releasing s t else s).held) (sym is) (release-stays s t g is are, release-lent s t are)
+    by None is = subst (λ m. StayOut s (if is_some m then without_hold s t else s) × AreLent (if is_some m then without_hold s t else s).held) (sym is) (stay-all s, are)
+    by (Some g) is = subst (λ m. StayOut s (if is_some m then without_hold s t else s) × AreLent (if is_some m then without_hold s t else s).held) (sym is) (release-stays s t g is are, release-lent s t are)
 
 stay-both : (s mid new : Gates) → StayOut s mid → StayOut mid new → StayOut s new
 stay-both s mid new first second = record {

@@ -15,7 +15,7 @@ use Rattle.disk_split.specs.declared.parts.Parts.{Parts}
 use Rattle.disk_split.specs.Units.{group_size}
 use Rattle.drive.specs.Drives.{DriveState, medium_in}
 use Rattle.token_table.specs.declared.record.Request.{Request}
-use Rattle.token_table.specs.Records.{Records, added, changed, ended_record}
+use Rattle.token_table.specs.Records.{Records, with_record, with_change, ended_record}
 use Rattle.subtask_queue.specs.declared.sub.Sub.{Sub}
 use Rattle.subtask_queue.specs.Subs.{subs_of_request, AreParts}
 use Rattle.disk_core.specs.declared.accepting.Room.{Room}
@@ -51,7 +51,7 @@ after_accept c e owed tokens queue = record c {
 
 -- a new token of which nothing is left has ended with success
 unfoldable pub after_empty_end : ℕ → ℕ → Core → Core
-after_empty_end left t c = if nat_eq left 0 then record c { tokens = changed (ended_record Success) c.tokens t; owed = c.owed - 1 } else c
+after_empty_end left t c = if nat_eq left 0 then record c { tokens = with_change (ended_record Success) c.tokens t; owed = c.owed - 1 } else c
 
 -- a block lies in a group in which a range of bytes has one
 pub record IsTouched (G : Geometry) (from until b : ℕ) : Type 0 where
@@ -93,4 +93,4 @@ pub record IsRoom (G : Geometry) (from : ℕ) (asked : Asked) (buffer : List ℕ
 unfoldable pub after_keep : Core → ℕ → View → Asked → Room → List ℕ → Core
 after_keep c tag view asked room buffer =
     after_empty_end (left_at_first asked.kind asked.length) c.accepted
-    (after_accept c (Accept tag view asked room.bytes) room.owed (added c.tokens (accepted_request tag view asked room.from buffer) room.signaller) (c.queue ++ subs_of_request c.blocks c.accepted asked.kind room.parts))
+    (after_accept c (Accept tag view asked room.bytes) room.owed (with_record c.tokens (accepted_request tag view asked room.from buffer) room.signaller) (c.queue ++ subs_of_request c.blocks c.accepted asked.kind room.parts))

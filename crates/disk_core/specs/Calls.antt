@@ -28,7 +28,7 @@ use Rattle.token_table.specs.declared.record.Mark.{Mark}
 use Rattle.token_table.specs.declared.record.NotThere.{NotThere}
 use Rattle.token_table.specs.declared.record.NotThere.TheVariants as not_there
 use Rattle.block_gate.specs.Works.{Lent}
-use Rattle.block_gate.specs.Gates.{Gate, Gates, gate_of, is_out, is_ours, outs, holding, lending, releasing, taking, refitted}
+use Rattle.block_gate.specs.Gates.{Gate, Gates, gate_of, is_out, is_ours, outs, with_gate, with_work_out, without_hold, with_work_back, with_new_sets}
 use Rattle.drive.specs.declared.answers.InsertFault.{InsertFault}
 use Rattle.drive.specs.declared.answers.InsertFault.TheVariants.{Occupied, NoSpare}
 use Rattle.disk_core.specs.declared.answers.Ask.{Ask}
@@ -188,7 +188,7 @@ pub record LendsFirst (old : State) (todo : Todo) (q : Request) (w : Lent) (new 
   pub makes : MakesFirst old todo Made new
   pub fetch : command_of old todo ≡ Fetch w.block
   pub work : IsWork old todo.token q w
-  pub gates : new.gates ≡ lending (holding old.gates w.block w.ticket w.bytes) w.ticket
+  pub gates : new.gates ≡ with_work_out (with_gate old.gates w.block w.ticket w.bytes) w.ticket
 
 -- a fetch was done
 abbrev pub is_fetched : Command → Outcome → Bool
@@ -226,8 +226,8 @@ expected_of S q g = patch g.copy (low_in S q g.block - g.block * size_of S) (byt
 -- the gates after a store from these: the ticket's set is free again or its work is still out, and where it failed the token's other
 -- gate is revoked
 abbrev pub GatesStored : Outcome → Gates → ℕ → Gates → Type 0
-GatesStored Made lent k new = new ≡ releasing lent k
-GatesStored (Failed done) lent k new = Revokes (releasing lent k) new
+GatesStored Made lent k new = new ≡ without_hold lent k
+GatesStored (Failed done) lent k new = Revokes (without_hold lent k) new
 
 -- the ticket's group was written with the token's bytes put in
 pub record Stores (old : State) (lent : Gates) (k : ℕ) (g : Gate) (t : ℕ) (q : Request) (outcome : Outcome) (new : State) : Type 0 where
@@ -246,12 +246,12 @@ pub record Differs (old : State) (w : Lent) (g : Gate) (t : ℕ) (q : Request) (
 -- a work of this disk, the same as its copy with the token's bytes put in, was written
 pub record StoresWork (old : State) (w : Lent) (g : Gate) (t : ℕ) (q : Request) (outcome : Outcome) (new : State) : Type 0 where
   pub same : w.bytes ≡ expected_of old.setup q g
-  pub stores : Stores old (taking old.gates w.ticket) w.ticket g t q outcome new
+  pub stores : Stores old (with_work_back old.gates w.ticket) w.ticket g t q outcome new
 
 -- a store: of another disk's work, of a late one, of a changed one, or of one that is written
 unfoldable pub StoreSays : State → Lent → Stored → State → Type 0
 StoreSays old w (stored.Foreign back) new = (is_ours old.gates w ≡ false) × (back ≡ w) × (new ≡ old)
-StoreSays old w stored.Stale new = (is_ours old.gates w ≡ true) × (gate_of old.gates.held w.ticket ≡ None) × (new ≡ record old { gates = taking old.gates w.ticket })
+StoreSays old w stored.Stale new = (is_ours old.gates w ≡ true) × (gate_of old.gates.held w.ticket ≡ None) × (new ≡ record old { gates = with_work_back old.gates w.ticket })
 StoreSays old w (stored.Strange back place expected found) new =
     (is_ours old.gates w ≡ true) × (back ≡ w) × (new ≡ old) × ((g : Gate) × (t : ℕ) × (q : Request) × Differs old w g t q place expected found)
 StoreSays old w stored.Did new = (is_ours old.gates w ≡ true) × ((g : Gate) × (t : ℕ) × (q : Request) × (outcome : Outcome) × StoresWork old w g t q outcome new)
@@ -263,8 +263,8 @@ HeldStoreSays old k held_stored.Did new = (g : Gate) × (t : ℕ) × (q : Reques
 
 -- new buffers for all sets that are out under a revoked ticket, or for some where memory ran out
 unfoldable pub RefitSays : {E : Type 0} → State → Result ℕ E → State → Type 0
-RefitSays old (Ok count) new = (count ≡ length old.gates.gone) × (new ≡ record old { gates = refitted old.gates count })
-RefitSays old (Err e) new = new ≡ record old { gates = refitted old.gates (length old.gates.gone - length new.gates.gone) }
+RefitSays old (Ok count) new = (count ≡ length old.gates.gone) × (new ≡ record old { gates = with_new_sets old.gates count })
+RefitSays old (Err e) new = new ≡ record old { gates = with_new_sets old.gates (length old.gates.gone - length new.gates.gone) }
 
 -- the ended token is handed back: a write's bytes as they came, a read's with the bytes that it got
 pub record Collects (old : State) (tag number : ℕ) (status : Status) (buffer : List ℕ) (new : State) (q : Request) (was : Kept) : Type 0 where

@@ -14,7 +14,7 @@ use Rattle.history.specs.declared.entry.Command.TheVariants.{Put, Wipe}
 use Rattle.history.specs.declared.entry.Entry.{Entry}
 use Rattle.history.specs.declared.entry.Entry.TheVariants.{Done, Fault, Collect}
 use Rattle.history.specs.Tasks.{Todo}
-use Rattle.block_gate.specs.Gates.{Gate, Gates, gate_of, is_block_held, is_lent, releasing, idle_gates, AreSound}
+use Rattle.block_gate.specs.Gates.{Gate, Gates, gate_of, is_block_held, is_lent, without_hold, idle_gates, AreSound}
 use Rattle.block_gate.specs.Works.{Lent}
 use Rattle.index_links.specs.Lists.{is_among}
 use Rattle.medium.specs.Device.{Device, IsBlockSize, IsCommand, IsTransfer, AreToldAt}
@@ -24,7 +24,7 @@ use Rattle.drive.specs.Drives.{DriveState, IsPer, most_media, medium_in}
 use Rattle.token_table.specs.declared.record.Mark.{Mark}
 use Rattle.token_table.specs.declared.record.Record.{Record}
 use Rattle.token_table.specs.declared.record.Request.{Request}
-use Rattle.token_table.specs.Records.{request_at, mark_at, changed, lower_record, ended_record, without_record}
+use Rattle.token_table.specs.Records.{request_at, mark_at, with_change, lower_record, ended_record, without_record}
 use Rattle.subtask_queue.specs.declared.sub.Sub.{Sub}
 use Rattle.subtask_queue.specs.Subs.{token_of, block_of, is_of, is_unit, sub_of, without_first, without_token}
 use Rattle.disk_core.specs.declared.answers.Step.{Step}
@@ -77,7 +77,7 @@ pub record StaysBeside (c c' : Core) : Type 0 where
 
 -- the gates without that of a ticket, where it holds one
 abbrev pub without_gate : Gates → ℕ → Gates
-without_gate s ticket = if is_some (gate_of s.held ticket) then releasing s ticket else s
+without_gate s ticket = if is_some (gate_of s.held ticket) then without_hold s ticket else s
 
 -- the gates without that of a holder, where it is one of this token
 unfoldable pub without_gate_of : ℕ → Holder → Gates → Gates
@@ -107,7 +107,7 @@ without_ticket_of ticket holders = without_at (position (λ h. nat_eq ticket h.t
 
 -- an outstanding token ended with this status
 pub record Ends (c c' : Core) (t : ℕ) (status : Status) : Type 0 where
-  pub tokens : c'.tokens ≡ changed (ended_record status) c.tokens t
+  pub tokens : c'.tokens ≡ with_change (ended_record status) c.tokens t
   pub queue : c'.queue ≡ without_token t c.queue
   pub owed : c'.owed + (count_by (is_of t) c.queue + 1) ≡ c.owed
   pub gates : c'.gates ≡ without_gates_of t c.holders.items c.gates
@@ -123,7 +123,7 @@ left_in (Some q) = q.left
 unfoldable pub after_finish : Core → Sub → Command → ℕ → Core
 after_finish c unit command bytes = record (with_entry c (Done (token_of unit) command) 1) {
   queue = without_first (is_unit (token_of unit) (block_of unit)) c.queue;
-  tokens = changed (lower_record bytes) c.tokens (token_of unit);
+  tokens = with_change (lower_record bytes) c.tokens (token_of unit);
 }
 
 -- the last one ended its token with success
@@ -209,7 +209,7 @@ pub record GetsInto {M : Type 0} (device : M → Device) (prepared : M → ℕ �
   pub piece : List ℕ
   pub long : length piece ≡ count
   pub on : OnMedium device prepared drive drive' (λ d d'. IsGot d result d' low piece)
-  pub tokens : OnOk result (c'.tokens ≡ changed (with_bytes_in place piece) c.tokens token)
+  pub tokens : OnOk result (c'.tokens ≡ with_change (with_bytes_in place piece) c.tokens token)
   pub left : OnErr result (c'.tokens ≡ c.tokens)
   pub group : length c'.group.items ≡ length c.group.items
   pub core : c' ≡ record c { tokens = c'.tokens; group = c'.group }

@@ -3,7 +3,7 @@ use Rattle.std.specs.Prelude.{◌≡◌, ℕ, ◌⊎◌, Some}
 use Rattle.history.specs.Tokens.{Request as Asking, request}
 use Rattle.history.specs.Marks.{HoldsBy}
 use Rattle.history.specs.Setup.{Setup, per_of}
-use Rattle.block_gate.specs.Gates.{Gate, Gates, gate_of, taking, AreSound}
+use Rattle.block_gate.specs.Gates.{Gate, Gates, gate_of, with_work_back, AreSound}
 use Rattle.medium.specs.Device.{Device}
 use Rattle.drive.specs.Drives.{DriveState}
 use Rattle.disk_core.specs.declared.storing.Part.{Part}
@@ -29,6 +29,6 @@ IsPartIn device drive c part g q = IsHeldPart (setup_of device drive c.protected
 pub record IsStoring {M : Type 0} (device : M → Device) (prepared : M → ℕ → Type 0) (drive : DriveState M) (c : Core) (before : Gates) (part : Part) (g : Gate) (q : Asking) : Type 0 where
   pub sound : IsDisk device prepared drive (record c { gates = before })
   pub held : IsHeldPart (setup_of device drive c.protected_at_first) (record c { gates = before }) part g q
-  pub lent : (c.gates ≡ before) ⊎ (c.gates ≡ taking before part.ticket)
+  pub lent : (c.gates ≡ before) ⊎ (c.gates ≡ with_work_back before part.ticket)
   pub apart : AreSound c.gates
   pub group : c.group.items ≡ expected_of (setup_of device drive c.protected_at_first) q g

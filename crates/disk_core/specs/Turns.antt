@@ -44,8 +44,8 @@ StepsAreTurns =
     (old new : State) (answer : Step) → IsSetup old.setup → AreFacts old → old.gates.held ≡ [] → 0 < old.gates.free → StepSays old answer new → StepTurns old answer new
 
 -- the work with its patch put in, as it is merged
-abbrev pub merged : Lent → Lent
-merged w = record w { bytes = patch w.bytes w.from w.patch }
+abbrev pub merge_of : Lent → Lent
+merge_of w = record w { bytes = patch w.bytes w.from w.patch }
 
 -- the store that comes next was made, and the gates are as they were before its fetch
 pub record StoresNext (old mid : State) (turn : Turn) (outcome : Outcome) (new : State) : Type 0 where
@@ -63,7 +63,7 @@ StoresAtOnce old mid stored.Did new = (turn : Turn) × (outcome : Outcome) × St
 abbrev pub MergedAreStored : Type 0
 MergedAreStored =
     (old mid new : State) (w : Lent) (result : Stored) → IsSetup old.setup → AreFacts old → IsIdle old.gates
-    → StepSays old (step.Lent w) mid → StoreSays mid (merged w) result new → StoresAtOnce old mid result new
+    → StepSays old (step.Lent w) mid → StoreSays mid (merge_of w) result new → StoresAtOnce old mid result new
 
 -- the setup and the gates are as they were
 pub record KeepsGates (old new : State) : Type 0 where

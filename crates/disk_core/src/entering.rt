@@ -2,7 +2,7 @@
 ghost use Rattle.std.specs.Prelude.{◌≡◌, ℕ, ◌+◌, ◌-◌, ◌^◌, ◌<◌, ◌≤◌, nat_eq, true, length, position, count_by, vec_capacity, is_some, IfSome, OnOk, OnErr};
 ghost use Rattle.token_table.specs.declared.record.Mark.{Mark};
 ghost use Rattle.token_table.specs.Records.{record_at, request_at, mark_at};
-ghost use Rattle.block_gate.specs.Gates.{gate_of, releasing};
+ghost use Rattle.block_gate.specs.Gates.{gate_of, without_hold};
 ghost use Rattle.subtask_queue.specs.Subs.{token_of, is_of};
 ghost use Rattle.disk_core.specs.Moves.{with_entry, after_finish, with_spare, others, without_gates_of, without_gate_of, after_pass, left_in, without_ticket_of, HasPlace, Ends, EntersDone, EntersFault, MayEnter, Settles};
 
@@ -192,7 +192,7 @@ fn forget_ticket(holders: &mut Vec<Holder>, ticket: u64)
 /// Releases the gate of a ticket that holds one.
 pub fn release(core: &mut Core, ticket: u64)
     requires { is_some (gate_of core.old.gates.held ticket) ≡ true }
-    ensures gates { core.new.gates ≡ releasing core.old.gates ticket }
+    ensures gates { core.new.gates ≡ without_hold core.old.gates ticket }
     ensures holders { core.new.holders.items ≡ without_ticket_of ticket core.old.holders.items }
     ensures rest { core.new
         ≡ record core.old { gates = core.new.gates; holders = core.new.holders } }

@@ -1,6 +1,6 @@
 //! The fetch of a part of a write or an erase, whose group is lent as a work.
 ghost use Rattle.std.specs.Prelude.{◌≡◌, ℕ, ◌+◌, ◌-◌, ◌*◌, ◌^◌, ◌<◌, ◌≤◌, [], ◌∷◌, ◌++◌, true, false, None, Some, length, is_some, vec_capacity, IfSome};
-ghost use Rattle.block_gate.specs.Gates.{Gate, gate_of, holding, lending, AreSound};
+ghost use Rattle.block_gate.specs.Gates.{Gate, gate_of, with_gate, with_work_out, AreSound};
 ghost use Rattle.history.specs.Tasks.{Todo};
 ghost use Rattle.subtask_queue.specs.declared.sub.Sub.TheVariants.{Part as PartOf, Run as RunOf, Sync as SyncOf};
 ghost use Rattle.token_table.specs.declared.record.Request.{Request as Kept};
@@ -21,7 +21,7 @@ use medium::Medium;
 // Holds a group, whose bytes are in the group's buffer, by this ticket.
 fn hold(core: &mut Core, token: u64, block: u64, ticket: u64)
     requires { MayHold core.old block ticket }
-    ensures gates { core.new.gates ≡ holding core.old.gates block ticket core.old.group.items }
+    ensures gates { core.new.gates ≡ with_gate core.old.gates block ticket core.old.group.items }
     ensures holders { core.new.holders.items
         ≡ core.old.holders.items ++ record { ticket = ticket; token = token } ∷ [] }
     ensures places { vec_capacity core.new.holders ≡ vec_capacity core.old.holders }
@@ -35,7 +35,7 @@ fn hold(core: &mut Core, token: u64, block: u64, ticket: u64)
 // Lends the work of a group that is held by this ticket.
 fn lend(core: &mut Core, token: u64, block: u64, ticket: u64) -> Work
     requires { (q : Kept) × MayLend core.old token block ticket q }
-    ensures core { core.new ≡ record core.old { gates = lending core.old.gates ticket } }
+    ensures core { core.new ≡ record core.old { gates = with_work_out core.old.gates ticket } }
     ensures sound { AreSound core.new.gates }
     ensures work { (g : Gate) → gate_of core.old.gates.held ticket ≡ Some g
         → IfSome (request_at core.old.tokens token)

@@ -7,7 +7,7 @@ ghost use Rattle.medium.specs.Device.{IsTransfer};
 ghost use Rattle.drive.specs.Drives.{medium_in};
 ghost use Rattle.token_table.specs.declared.record.Mark.{Mark};
 ghost use Rattle.token_table.specs.declared.record.Request.{Request as Kept};
-ghost use Rattle.token_table.specs.Records.{mark_at, request_at, changed};
+ghost use Rattle.token_table.specs.Records.{mark_at, request_at, with_change};
 ghost use Rattle.disk_core.specs.Commands.{OfMedium};
 ghost use Rattle.disk_core.specs.Moves.{IsDisk, IsFirst, Reaches, HasBytesIn, IsTarget, GetsInto, with_bytes_in};
 
@@ -79,7 +79,7 @@ fn copy_out(core: &mut Core, token: u64, skip: usize, target: &Target)
         (λ q. target.now.place + target.now.count ≤ length q.buffer) }
     ensures { core.new
         ≡ record core.old {
-          tokens = changed
+          tokens = with_change
               (with_bytes_in target.now.place
               (take target.now.count (drop skip core.old.group.items))) core.old.tokens token;
         } }

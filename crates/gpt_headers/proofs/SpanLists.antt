@@ -12,7 +12,7 @@ use Rattle.std.proofs.lemmas.List.{get_or-replicate, get_or-set_other, length-re
 use Rattle.std.proofs.lemmas.Grind.{get_or-set_at}
 use Rattle.gpt_headers.specs.declared.entry.GptEntry.{GptEntry}
 use Rattle.gpt_headers.specs.declared.spans.Span.{Span}
-use Rattle.gpt_headers.specs.Entry.{has_blocks, is_used, overlaps_another, shares_block}
+use Rattle.gpt_headers.specs.Entry.{has_blocks, is_used_entry, overlaps_another_entry, entries_share_block}
 use Rattle.gpt_headers.specs.Spans.{crowd, is_lone, is_lone_entry, flags_after, meets, span_of, entry_spans}
 use Rattle.gpt_headers.proofs.Sweep.{any_from_count}
 
@@ -87,16 +87,16 @@ span_there n (suc k) (x ∷ xs) d h =
     later : (b : Bool) (m j : ℕ) (r : Bool) → ((b && (m == m + suc j)) || r) ≡ r
     later b m j r = grind (arith, nat_tests)
 
-share : (e f : GptEntry) (a b : ℕ) → a ≡ b → cond (has_blocks f) (cond (shares_block e f) 1 0) 0 + a ≡ cond (is_used f && shares_block e f) 1 0 + b
+share : (e f : GptEntry) (a b : ℕ) → a ≡ b → cond (has_blocks f) (cond (entries_share_block e f) 1 0) 0 + a ≡ cond (is_used_entry f && entries_share_block e f) 1 0 + b
 share e f a b h = grind (arith, nat_tests)
 
 -- the spans that share a block with an entry are those of the used entries that do
-pub crowd_of_entry : (i n : ℕ) (e : GptEntry) (xs : List GptEntry) → crowd (spans_from n xs) (span_of (i, e)) ≡ sum_by (λ f. cond (is_used f && shares_block e f) 1 0) xs
+pub crowd_of_entry : (i n : ℕ) (e : GptEntry) (xs : List GptEntry) → crowd (spans_from n xs) (span_of (i, e)) ≡ sum_by (λ f. cond (is_used_entry f && entries_share_block e f) 1 0) xs
 crowd_of_entry i n e [] = refl
 crowd_of_entry i n e (x ∷ xs) =
     sum_kept (λ t. cond (meets (span_of (i, e)) t) 1 0) (has_blocks x) (n, x) (kept (n + 1) xs)
     ∙ share e x _ _ (crowd_of_entry i (n + 1) e xs)
-    ∙ sym (sum_by-cons (λ f. cond (is_used f && shares_block e f) 1 0) x xs)
+    ∙ sym (sum_by-cons (λ f. cond (is_used_entry f && entries_share_block e f) 1 0) x xs)
 
 -- another element than one before the list is any of its elements
 other_behind : {X : Type 0} (p q : X → Bool) (m n : ℕ) (xs : List X) → m < n → list_any (λ (j, x). not (j == m) && p x && q x) (enumerate_from n xs) ≡ list_any (λ x. p x && q x) xs
@@ -143,19 +143,19 @@ noted v i all (s ∷ spans) flags h same =
     (All-tail (λ t. t.place ≡ i → is_lone all t ≡ v) s spans same) in
     rest ∙ join (s.place == i) (list_any (λ t. t.place == i) spans) v _ _ (written v i s.place (is_lone all s) flags h (All-head (λ t. t.place ≡ i → is_lone all t ≡ v) s spans same))
 
-own_block : (e : GptEntry) → has_blocks e ≡ true → (is_used e && shares_block e e) ≡ true
+own_block : (e : GptEntry) → has_blocks e ≡ true → (is_used_entry e && entries_share_block e e) ≡ true
 own_block e h = grind (arith, nat_tests)
 
 -- an entry that has blocks is lone among the spans where it overlaps no other
 lone_entry : (entries : List GptEntry) (i : ℕ) (d : GptEntry) → i < length entries → has_blocks (get_or entries i d) ≡ true
-    → is_lone (entry_spans entries) (span_of (i, get_or entries i d)) ≡ not (overlaps_another entries i (get_or entries i d))
+    → is_lone (entry_spans entries) (span_of (i, get_or entries i d)) ≡ not (overlaps_another_entry entries i (get_or entries i d))
 lone_entry entries i d h has =
     let e = get_or entries i d in
-    let count = sum_by (λ f. cond (is_used f && shares_block e f) 1 0) entries in
-    let other : overlaps_another entries i e ≡ not (nat_lt count 2) =
-    ap (λ m. list_any (λ (j, f). not (j == m) && is_used f && shares_block e f) (enumerate_from 0 entries)) (sym (zero-add i))
-    ∙ other_passes is_used (shares_block e) 0 i entries d h (own_block e has) in
-    ap (λ n. nat_lt n 2) (crowd_of_entry i 0 e entries) ∙ twice (nat_lt count 2) (overlaps_another entries i e) other
+    let count = sum_by (λ f. cond (is_used_entry f && entries_share_block e f) 1 0) entries in
+    let other : overlaps_another_entry entries i e ≡ not (nat_lt count 2) =
+    ap (λ m. list_any (λ (j, f). not (j == m) && is_used_entry f && entries_share_block e f) (enumerate_from 0 entries)) (sym (zero-add i))
+    ∙ other_passes is_used_entry (entries_share_block e) 0 i entries d h (own_block e has) in
+    ap (λ n. nat_lt n 2) (crowd_of_entry i 0 e entries) ∙ twice (nat_lt count 2) (overlaps_another_entry entries i e) other
   where
     twice : (a b : Bool) → b ≡ not a → a ≡ not b
     twice a b h = grind arith

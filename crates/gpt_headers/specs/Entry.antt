@@ -18,32 +18,32 @@ entry_in bytes = record {
 }
 
 -- its type is not zero
-abbrev pub is_used : GptEntry → Bool
-is_used e = not (is_nil_bytes e.kind)
+abbrev pub is_used_entry : GptEntry → Bool
+is_used_entry e = not (is_nil_bytes e.kind)
 
 -- it is used, and has some blocks
 abbrev pub has_blocks : GptEntry → Bool
-has_blocks e = is_used e && nat_le e.first e.last
+has_blocks e = is_used_entry e && nat_le e.first e.last
 
 -- attribute bit 1 is set: firmware makes no block device of the partition
 abbrev pub is_hidden : GptEntry → Bool
 is_hidden e = not (bit_and e.attributes (2 ^ 1) == 0)
 
 -- the block is one of the entry's, whose last block is its own
-abbrev pub HasBlock : GptEntry → ℕ → Type 0
-HasBlock e block = (e.first ≤ block) × (block ≤ e.last)
+abbrev pub IsBlockOfEntry : GptEntry → ℕ → Type 0
+IsBlockOfEntry e block = (e.first ≤ block) × (block ≤ e.last)
 
 -- some block is one of both: the later first block is at most the earlier last one
-abbrev pub shares_block : GptEntry → GptEntry → Bool
-shares_block e f = nat_le (max e.first f.first) (min e.last f.last)
+abbrev pub entries_share_block : GptEntry → GptEntry → Bool
+entries_share_block e f = nat_le (max e.first f.first) (min e.last f.last)
 
 -- that is so exactly where there is such a block
 abbrev pub SharesSomeBlock : Type 0
-SharesSomeBlock = (e f : GptEntry) → IsTrue (shares_block e f) ↔ ((block : ℕ) × HasBlock e block × HasBlock f block)
+SharesSomeBlock = (e f : GptEntry) → IsTrue (entries_share_block e f) ↔ ((block : ℕ) × IsBlockOfEntry e block × IsBlockOfEntry f block)
 
 -- the entry at place i shares a block with another used entry
-abbrev pub overlaps_another : List GptEntry → ℕ → GptEntry → Bool
-overlaps_another entries i e = list_any (λ (j, f). not (j == i) && is_used f && shares_block e f) (enumerate_from 0 entries)
+abbrev pub overlaps_another_entry : List GptEntry → ℕ → GptEntry → Bool
+overlaps_another_entry entries i e = list_any (λ (j, f). not (j == i) && is_used_entry f && entries_share_block e f) (enumerate_from 0 entries)
 
 -- the block is one that partitions may have, and one of a medium of so many blocks
 abbrev pub is_usable_block : HeaderFields → ℕ → ℕ → Bool
@@ -54,10 +54,10 @@ abbrev pub has_usable_blocks : HeaderFields → ℕ → GptEntry → Bool
 has_usable_blocks h blocks e = nat_le e.first e.last && is_usable_block h blocks e.first && is_usable_block h blocks e.last
 
 -- the entry at place i gives a partition of a medium of so many blocks (which ones do is own profile)
-abbrev pub gives_partition : HeaderFields → ℕ → List GptEntry → ℕ → GptEntry → Bool
-gives_partition h blocks entries i e =
-    is_used e && has_usable_blocks h blocks e && not (overlaps_another entries i e) && not (is_hidden e)
+abbrev pub entry_gives_partition : HeaderFields → ℕ → List GptEntry → ℕ → GptEntry → Bool
+entry_gives_partition h blocks entries i e =
+    is_used_entry e && has_usable_blocks h blocks e && not (overlaps_another_entry entries i e) && not (is_hidden e)
 
 -- which of the entries give a partition
-abbrev pub usable_of : HeaderFields → ℕ → List GptEntry → List Bool
-usable_of h blocks entries = map (λ (i, e). gives_partition h blocks entries i e) (enumerate_from 0 entries)
+abbrev pub usable_entries : HeaderFields → ℕ → List GptEntry → List Bool
+usable_entries h blocks entries = map (λ (i, e). entry_gives_partition h blocks entries i e) (enumerate_from 0 entries)

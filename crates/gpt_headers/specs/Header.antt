@@ -9,8 +9,8 @@ use Rattle.gpt_headers.specs.Fields.{HeaderFields, guid_at, number_at}
 use Rattle.gpt_headers.specs.Limits.{least_entry, least_header, most_array}
 
 -- the fields that readers give
-unfoldable pub fields_of : List ℕ → HeaderFields
-fields_of block = record {
+unfoldable pub header_fields : List ℕ → HeaderFields
+header_fields block = record {
   alternate = number_at 32 8 block;
   first_usable = number_at 40 8 block;
   last_usable = number_at 48 8 block;
@@ -22,8 +22,8 @@ fields_of block = record {
 }
 
 -- it begins with EFI PART
-unfoldable pub has_signature : List ℕ → Bool
-has_signature block = starts_with nat_eq block (codes "EFI PART")
+unfoldable pub begins_as_header : List ℕ → Bool
+begins_as_header block = starts_with nat_eq block (codes "EFI PART")
 
 -- how many bytes the header says that it has
 abbrev pub header_size : List ℕ → ℕ
@@ -57,9 +57,9 @@ unfoldable pub has_small_array : List ℕ → Bool
 has_small_array block = nat_le (number_at 80 4 block * number_at 84 4 block) most_array
 
 -- the tests in their order, each with the fault where it fails, and whether it holds of the block that was read at this LBA
-abbrev pub tests_of : ℕ → List ℕ → List (HeaderFault × Bool)
-tests_of lba block =
-    (Signature, has_signature block)
+abbrev pub header_tests : ℕ → List ℕ → List (HeaderFault × Bool)
+header_tests lba block =
+    (Signature, begins_as_header block)
     ∷ (Size, has_size block)
     ∷ (Crc, has_crc block)
     ∷ (Place, has_place lba block)
@@ -68,5 +68,5 @@ tests_of lba block =
     ∷ []
 
 -- the fault of the first test that fails, and none where every test holds
-unfoldable pub fault_of : ℕ → List ℕ → Option HeaderFault
-fault_of lba block = option_map (λ t. t.0) (find (λ t. not t.1) (tests_of lba block))
+unfoldable pub header_fault : ℕ → List ℕ → Option HeaderFault
+header_fault lba block = option_map (λ t. t.0) (find (λ t. not t.1) (header_tests lba block))

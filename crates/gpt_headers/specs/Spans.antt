@@ -3,7 +3,7 @@ use Rattle.std.specs.Prelude.{ℕ, ◌&&◌, Bool, not, nat_le, nat_lt, max, min
 use Rattle.std.specs.List.{enumerate_from}
 use Rattle.gpt_headers.specs.declared.entry.GptEntry.{GptEntry}
 use Rattle.gpt_headers.specs.declared.spans.Span.{Span}
-use Rattle.gpt_headers.specs.Entry.{has_blocks, overlaps_another}
+use Rattle.gpt_headers.specs.Entry.{has_blocks, overlaps_another_entry}
 
 -- the blocks of the entry at a place
 abbrev pub span_of : ℕ × GptEntry → Span
@@ -31,4 +31,4 @@ flags_after all spans flags = fold (λ fs s. slice_set fs s.place (is_lone all s
 
 -- the entry at place i has blocks, and shares none of them with another used entry
 abbrev pub is_lone_entry : List GptEntry → ℕ → GptEntry → Bool
-is_lone_entry entries i e = has_blocks e && not (overlaps_another entries i e)
+is_lone_entry entries i e = has_blocks e && not (overlaps_another_entry entries i e)

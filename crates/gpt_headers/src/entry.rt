@@ -27,7 +27,7 @@ pub struct GptEntry {
 
 impl GptEntry {
     ghost use Rattle.std.specs.Int.{IsBitSet};
-    ghost use Rattle.gpt_headers.specs.Entry.{entry_in, has_blocks, is_hidden, is_used};
+    ghost use Rattle.gpt_headers.specs.Entry.{entry_in, has_blocks, is_hidden, is_used_entry};
 
     /// The entry in the first 128 bytes (UEFI 2.10, 5.3.3).
     #[tactic(auto, unfolding(crate::specs::Entry::entry_in))]
@@ -47,7 +47,7 @@ impl GptEntry {
 
     /// Whether its type is not zero (UEFI 2.10, 5.3.3).
     pub(crate) fn is_used(&self) -> bool
-        ensures { result ≡ is_used self.now }
+        ensures { result ≡ is_used_entry self.now }
     {
         !self.kind.is_nil()
     }

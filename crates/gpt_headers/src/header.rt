@@ -2,7 +2,7 @@ ghost use Rattle.std.specs.Prelude.{◌≡◌, ◌≤◌, ◌*◌, ◌^◌, ◌�
 ghost use Rattle.std.specs.Result.{result_err};
 ghost use Rattle.gpt_headers.specs.Array.{array_length};
 ghost use Rattle.gpt_headers.specs.Limits.{least_entry, least_header, most_array};
-ghost use Rattle.gpt_headers.specs.Header.{crc_of, fault_of, fields_of, has_crc, has_entry_size, has_place, has_signature, has_size, has_small_array, is_entry_size, header_size};
+ghost use Rattle.gpt_headers.specs.Header.{crc_of, header_fault, header_fields, has_crc, has_entry_size, has_place, begins_as_header, has_size, has_small_array, is_entry_size, header_size};
 
 use crate::guid::read_guid;
 use byteorder::{ByteOrder, LittleEndian};
@@ -78,8 +78,8 @@ impl Header {
     /// size, in bytes, of at least 92 (UEFI 2.10, 5.3.2).
     pub fn read(block: &[u8], lba: u64) -> Result<Header, HeaderFault>
         requires { least_header ≤ length block.now }
-        ensures fault { result_err result ≡ fault_of lba block.now }
-        ensures fields { IfOk result (λ h. h ≡ fields_of block.now) }
+        ensures fault { result_err result ≡ header_fault lba block.now }
+        ensures fields { IfOk result (λ h. h ≡ header_fields block.now) }
     {
         match first_fault(block, lba) {
             Some(fault) => Err(fault),
@@ -88,12 +88,12 @@ impl Header {
     }
 
     /// The header of a block that passed every test.
-    #[tactic(auto, unfolding(crate::specs::Header::fields_of, crate::specs::Header::has_entry_size, crate::specs::Header::has_small_array))]
+    #[tactic(auto, unfolding(crate::specs::Header::header_fields, crate::specs::Header::has_entry_size, crate::specs::Header::has_small_array))]
     fn fields(block: &[u8]) -> Header
         requires size { least_header ≤ length block.now }
         requires entry { IsTrue (has_entry_size block.now) }
         requires array { IsTrue (has_small_array block.now) }
-        ensures { result ≡ fields_of block.now }
+        ensures { result ≡ header_fields block.now }
     {
         Header {
             alternate: LittleEndian::read_u64(&block[32..40]),
@@ -174,10 +174,10 @@ impl Header {
 }
 
 /// The fault of the first test that fails of a header in a block that was read at this LBA.
-#[tactic(auto, unfolding(crate::specs::Header::fault_of))]
+#[tactic(auto, unfolding(crate::specs::Header::header_fault))]
 fn first_fault(block: &[u8], lba: u64) -> Option<HeaderFault>
     requires { least_header ≤ length block.now }
-    ensures exact { result ≡ fault_of lba block.now }
+    ensures exact { result ≡ header_fault lba block.now }
     ensures entry { IfNone result (IsTrue (has_entry_size block.now)) }
     ensures array { IfNone result (IsTrue (has_small_array block.now)) }
 {
@@ -199,9 +199,9 @@ fn first_fault(block: &[u8], lba: u64) -> Option<HeaderFault>
 }
 
 /// Whether the block begins with the signature.
-#[tactic(auto, unfolding(crate::specs::Header::has_signature))]
+#[tactic(auto, unfolding(crate::specs::Header::begins_as_header))]
 fn has_signature(block: &[u8]) -> bool
-    ensures { result ≡ has_signature block.now }
+    ensures { result ≡ begins_as_header block.now }
 {
     block.starts_with(&SIGNATURE)
 }

@@ -1,5 +1,5 @@
 ghost use Rattle.std.specs.Prelude.{ℕ, ◌≡◌, ◌<◌, ◌≤◌, ◌&&◌, true, not, IfOk, IfSome, slice_get};
-ghost use Rattle.gpt_headers.specs.Entry.{has_usable_blocks, is_hidden, is_usable_block, usable_of};
+ghost use Rattle.gpt_headers.specs.Entry.{has_usable_blocks, is_hidden, is_usable_block, usable_entries};
 
 use crate::entry::GptEntry;
 use crate::header::Header;
@@ -15,7 +15,7 @@ pub fn usable(
     entries: &[GptEntry],
     blocks: u64,
 ) -> Result<Vec<bool>, AllocError>
-    ensures exact { IfOk result (λ flags. flags.items ≡ usable_of header.now blocks entries.now) }
+    ensures exact { IfOk result (λ flags. flags.items ≡ usable_entries header.now blocks entries.now) }
     ensures inside { IfOk result (λ flags. (i : ℕ) → slice_get flags.items i ≡ Some true →
         IfSome (slice_get entries.now i) (λ e. (e.first ≤ e.last) × (e.last < blocks))) }
 {

@@ -5,8 +5,8 @@ use Rattle.std.proofs.lemmas.Bool.{cases_eq, cases_lt, cases_Bool, ne_eqb, lt-lt
 use Rattle.std.proofs.lemmas.List.{length-replicate, get_or-replicate}
 use Rattle.std.proofs.lemmas.List.FromFn.{length-map-range_with_len, fill_by_all}
 use Rattle.index_links.specs.declared.rings.Link.{Link}
-use Rattle.index_links.specs.Lists.{LinkedLists, list_at, is_among, is_listed, without, empty_lists, grown, pushed, unlinked, moved, AreApart}
-use Rattle.index_links.specs.Rings.{after_at, before_at, exchanged, walk, lists_of, node_of, Path, AreRings, AreLinked}
+use Rattle.index_links.specs.Lists.{LinkedLists, list_at, is_among, is_listed, without, empty_lists, with_more_nodes, with_node_at_end, without_node, with_list_at_end, AreApart}
+use Rattle.index_links.specs.Rings.{after_at, before_at, exchange, walk, lists_of, node_of, Path, AreRings, AreLinked}
 use Rattle.index_links.proofs.Places.{exchanged-left, exchanged-right, exchanged-other}
 use Rattle.index_links.proofs.LinkedListsLemmas.{among-at, among-last, among-moved, among-pushed, among-without, grown-at, grown-listed, list-exists, listed-from, listed-in, long-grown, long-moved, long-pushed, long-unlinked, moved-from, moved-other, moved-to, nodes-grown, nodes-moved, nodes-pushed, nodes-unlinked, past-lists, pushed-here, pushed-other, unlinked-at, unlisted-before}
 use Rattle.index_links.proofs.Paths.{path-kept, paths-same, alone-leads, path-from, path-distinct, path-within, path-short, walk-path, list-is, list-path}
@@ -71,11 +71,11 @@ apart_of links k linked = record {
 -- ---- push_back
 
 path-pushed : (f g : ℕ → ℕ) (k a x p : ℕ) (xs : List ℕ) (l : ℕ) → l < k → f a ≡ l → ((r : ℕ) → f r ≡ l → r ≡ a) → f (k + x) ≡ k + x →
-    ((r : ℕ) → g r ≡ f (exchanged a (k + x) r)) → (p ≡ k + x → ⊥) → Path f k p xs l → Path g k p (xs ++ x ∷ []) l
+    ((r : ℕ) → g r ≡ f (exchange a (k + x) r)) → (p ≡ k + x → ⊥) → Path f k p xs l → Path g k p (xs ++ x ∷ []) l
 unfolding Path
 path-pushed f g k a x p [] l l-in last only alone says other path =
     let same : p ≡ a = only p path in (
-      says p ∙ ap (λ r. f (exchanged a (k + x) r)) same ∙ ap f (exchanged-left a (k + x)) ∙ alone,
+      says p ∙ ap (λ r. f (exchange a (k + x) r)) same ∙ ap f (exchanged-left a (k + x)) ∙ alone,
       says (k + x) ∙ ap f (exchanged-right a (k + x)) ∙ last,
     )
 path-pushed f g k a x p (y ∷ ys) l l-in last only alone says other path =
@@ -92,7 +92,7 @@ paths-to f k p ys m l m-in l-in path is = (paths-same f k p [] ys l m l-in m-in 
 
 -- a node that is a ring alone, spliced in before the head of a list, ends that list
 pub pushed-is : (old new : List Link) (k l x : ℕ) → AreLinked old k → AreRings new → length new ≡ length old → l < k → is_listed (lists_of old k) x ≡ false →
-    ((p : ℕ) → after_at new p ≡ after_at old (exchanged (before_at old l) (k + x) p)) → (lists_of new k ≡ pushed (lists_of old k) l x) × AreLinked new k
+    ((p : ℕ) → after_at new p ≡ after_at old (exchange (before_at old l) (k + x) p)) → (lists_of new k ≡ with_node_at_end (lists_of old k) l x) × AreLinked new k
 pushed-is old new k l x linked r long there none says =
     let s = lists_of old k in
     let a = before_at old l in
@@ -102,8 +102,8 @@ pushed-is old new k l x linked r long there none says =
     let last : f a ≡ l = linked.rings.forth l in
     let only : (r : ℕ) → f r ≡ l → r ≡ a = λ p is. sym (linked.rings.back p) ∙ ap (before_at old) is in
     let alone : f (k + x) ≡ k + x = linked.idle x none in
-    let paths : (m : ℕ) → m < k → Path g k m (list_at (pushed s l x) m) m = λ m inside. elim (cases_eq m l) [
-      | inl same ↦ subst (λ h. Path g k h (list_at (pushed s l x) h) h) (sym same)
+    let paths : (m : ℕ) → m < k → Path g k m (list_at (with_node_at_end s l x) m) m = λ m inside. elim (cases_eq m l) [
+      | inl same ↦ subst (λ h. Path g k h (list_at (with_node_at_end s l x) h) h) (sym same)
           (subst (λ ys. Path g k l ys l) (sym (pushed-here s l x (omega (arith, many-lists old k))))
           (path-pushed f g k a x l (list_at s l) l there last only alone says (λ is. omega arith) (list-path old k l linked there)))
       | inr other ↦ subst (λ ys. Path g k m ys m) (sym (pushed-other s l x m other))
@@ -113,16 +113,16 @@ pushed-is old new k l x linked r long there none says =
           (λ is. alone-leads f k x ys m inside alone (subst (λ h. Path f k h ys m) is path))))
           (list-path old k m linked inside))
     ] in
-    let many : length (pushed s l x).lists ≡ k = long-pushed s l x ∙ many-lists old k in
-    let nodes : (pushed s l x).nodes ≡ length new - k = nodes-pushed s l x ∙ many-nodes old k ∙ ap (λ n. n - k) (sym long) in
-    let same : lists_of new k ≡ pushed s l x = lists-are new r k room (pushed s l x) nodes many paths in (
+    let many : length (with_node_at_end s l x).lists ≡ k = long-pushed s l x ∙ many-lists old k in
+    let nodes : (with_node_at_end s l x).nodes ≡ length new - k = nodes-pushed s l x ∙ many-nodes old k ∙ ap (λ n. n - k) (sym long) in
+    let same : lists_of new k ≡ with_node_at_end s l x = lists-are new r k room (with_node_at_end s l x) nodes many paths in (
       same,
-      linked-so new r k room linked.heads_few (omega (arith, linked.few)) (pushed s l x) same paths
+      linked-so new r k room linked.heads_few (omega (arith, linked.few)) (with_node_at_end s l x) same paths
           (λ y unlisted.
-          let was : is_listed s y ≡ false = unlisted-before s (pushed s l x) y (λ m among. (m, among-pushed s l x m y among)) unlisted in
+          let was : is_listed s y ≡ false = unlisted-before s (with_node_at_end s l x) y (λ m among. (m, among-pushed s l x m y among)) unlisted in
           let other : k + y ≡ k + x → ⊥ = λ is.
-          let here : is_among (list_at (pushed s l x) l) x ≡ true = rw (pushed-here s l x (omega (arith, many-lists old k))) (among-last (list_at s l) x) in
-          let never : is_listed (pushed s l x) y ≡ true = listed-from (pushed s l x) l y (subst (λ z. is_among (list_at (pushed s l x) l) z ≡ true) (omega arith) here) in
+          let here : is_among (list_at (with_node_at_end s l x) l) x ≡ true = rw (pushed-here s l x (omega (arith, many-lists old k))) (among-last (list_at s l) x) in
+          let never : is_listed (with_node_at_end s l x) y ≡ true = listed-from (with_node_at_end s l x) l y (subst (λ z. is_among (list_at (with_node_at_end s l x) l) z ≡ true) (omega arith) here) in
           cc in
           let not-last : k + y ≡ a → ⊥ = λ is. omega (arith, sym (linked.idle y was) ∙ ap f is ∙ last) in
           says (k + y) ∙ ap f (exchanged-other a (k + x) (k + y) not-last other) ∙ linked.idle y was),
@@ -160,7 +160,7 @@ path-without f g k x p r (y ∷ ys) q q-in says path here = elim (cases_eq x y) 
 ]
 
 pub unlinked-is : (old new : List Link) (k x : ℕ) → AreLinked old k → AreRings new → length new ≡ length old →
-    ((p : ℕ) → after_at new p ≡ after_at old (exchanged (before_at old (k + x)) (k + x) p)) → (lists_of new k ≡ unlinked (lists_of old k) x) × AreLinked new k
+    ((p : ℕ) → after_at new p ≡ after_at old (exchange (before_at old (k + x)) (k + x) p)) → (lists_of new k ≡ without_node (lists_of old k) x) × AreLinked new k
 unlinked-is old new k x linked r long says =
     let s = lists_of old k in
     let b = k + x in
@@ -170,21 +170,21 @@ unlinked-is old new k x linked r long says =
     let room : k ≤ length new = omega (arith, linked.room) in
     let ahead : f a ≡ b = linked.rings.forth b in
     let step : (h : ℕ) → (h ≡ b → ⊥) → g h ≡ passed f b (f h) = λ h other. elim (cases_eq h a) [
-      | inl same ↦ says h ∙ ap (λ p. f (exchanged a b p)) same ∙ ap f (exchanged-left a b) ∙ sym (passed-here f b (f h) (ap f same ∙ ahead))
+      | inl same ↦ says h ∙ ap (λ p. f (exchange a b p)) same ∙ ap f (exchanged-left a b) ∙ sym (passed-here f b (f h) (ap f same ∙ ahead))
       | inr apart ↦ says h ∙ ap f (exchanged-other a b h apart other)
           ∙ sym (passed-other f b (f h) (λ is. apart (sym (linked.rings.back h) ∙ ap (before_at old) is)))
     ] in
-    let paths : (l : ℕ) → l < k → Path g k l (list_at (unlinked s x) l) l = λ l there. subst (λ ys. Path g k l ys l) (sym (unlinked-at s x l))
+    let paths : (l : ℕ) → l < k → Path g k l (list_at (without_node s x) l) l = λ l there. subst (λ ys. Path g k l ys l) (sym (unlinked-at s x l))
     (path-without f g k x l l (list_at s l) l there step (list-path old k l linked there) (step l (λ is. omega arith))) in
-    let many : length (unlinked s x).lists ≡ k = long-unlinked s x ∙ many-lists old k in
-    let nodes : (unlinked s x).nodes ≡ length new - k = nodes-unlinked s x ∙ many-nodes old k ∙ ap (λ n. n - k) (sym long) in
-    let same : lists_of new k ≡ unlinked s x = lists-are new r k room (unlinked s x) nodes many paths in (
+    let many : length (without_node s x).lists ≡ k = long-unlinked s x ∙ many-lists old k in
+    let nodes : (without_node s x).nodes ≡ length new - k = nodes-unlinked s x ∙ many-nodes old k ∙ ap (λ n. n - k) (sym long) in
+    let same : lists_of new k ≡ without_node s x = lists-are new r k room (without_node s x) nodes many paths in (
       same,
-      linked-so new r k room linked.heads_few (omega (arith, linked.few)) (unlinked s x) same paths
+      linked-so new r k room linked.heads_few (omega (arith, linked.few)) (without_node s x) same paths
           (λ y unlisted. elim (cases_eq y x) [
-            | inl here ↦ says (k + y) ∙ ap (λ z. f (exchanged a b (k + z))) here ∙ ap f (exchanged-right a b) ∙ ahead ∙ ap (λ z. k + z) (sym here)
+            | inl here ↦ says (k + y) ∙ ap (λ z. f (exchange a b (k + z))) here ∙ ap f (exchanged-right a b) ∙ ahead ∙ ap (λ z. k + z) (sym here)
             | inr other ↦
-                let was : is_listed s y ≡ false = unlisted-before s (unlinked s x) y
+                let was : is_listed s y ≡ false = unlisted-before s (without_node s x) y
                 (λ m among. (m, subst (λ ys. is_among ys y ≡ true) (sym (unlinked-at s x m)) (among-without x y (list_at s m) other among))) unlisted in
                 let alone : f (k + y) ≡ k + y = linked.idle y was in
                 says (k + y) ∙ ap f (exchanged-other a b (k + y) (λ is. other (omega (arith, sym alone ∙ ap f is ∙ ahead))) (λ is. other (omega arith))) ∙ alone
@@ -245,7 +245,7 @@ ends-at-from f k xs ys from l from-in l-in own path = (paths-same f k from xs ys
 
 -- an empty list moves nothing
 pub moved-none : (links : List Link) (k from to : ℕ) → AreLinked links k → from < k → to < k → (to ≡ from → ⊥) → before_at links from ≡ from →
-    lists_of links k ≡ moved (lists_of links k) from to
+    lists_of links k ≡ with_list_at_end (lists_of links k) from to
 unfolding Path
 moved-none links k from to linked from-in to-in differ empty =
     let s = lists_of links k in
@@ -253,12 +253,12 @@ moved-none links k from to linked from-in to-in differ empty =
     let none : list_at s from ≡ [] = list-is links linked.rings k from [] linked.room from-in alone in
     let from-there : from < length s.lists = omega (arith, many-lists links k) in
     let to-there : to < length s.lists = omega (arith, many-lists links k) in
-    lists-are links linked.rings k linked.room (moved s from to) (nodes-moved s from to ∙ many-nodes links k) (long-moved s from to ∙ many-lists links k)
+    lists-are links linked.rings k linked.room (with_list_at_end s from to) (nodes-moved s from to ∙ many-nodes links k) (long-moved s from to ∙ many-lists links k)
     (λ l there. elim (cases_eq l from) [
-      | inl same ↦ subst (λ h. Path (after_at links) k h (list_at (moved s from to) h) h) (sym same)
+      | inl same ↦ subst (λ h. Path (after_at links) k h (list_at (with_list_at_end s from to) h) h) (sym same)
           (subst (λ ys. Path (after_at links) k from ys from) (sym (moved-from s from to from-there)) alone)
       | inr not-from ↦ elim (cases_eq l to) [
-        | inl same ↦ subst (λ h. Path (after_at links) k h (list_at (moved s from to) h) h) (sym same)
+        | inl same ↦ subst (λ h. Path (after_at links) k h (list_at (with_list_at_end s from to) h) h) (sym same)
             (subst (λ ys. Path (after_at links) k to ys to) (sym (moved-to s from to to-there differ ∙ ap (λ ys. list_at s to ++ ys) none ∙ append-nil (list_at s to)))
             (list-path links k to linked to-in))
         | inr not-to ↦ subst (λ ys. Path (after_at links) k l ys l) (sym (moved-other s from to l not-from not-to)) (list-path links k l linked there)
@@ -266,8 +266,8 @@ moved-none links k from to linked from-in to-in differ empty =
     ])
 
 pub moved-is : (old new : List Link) (k from to : ℕ) → AreLinked old k → AreRings new → length new ≡ length old → from < k → to < k → (to ≡ from → ⊥) → (before_at old from ≡ from → ⊥) →
-    ((p : ℕ) → after_at new p ≡ after_at old (exchanged (before_at old to) (before_at old from) (exchanged (before_at old to) from p))) →
-    (lists_of new k ≡ moved (lists_of old k) from to) × AreLinked new k
+    ((p : ℕ) → after_at new p ≡ after_at old (exchange (before_at old to) (before_at old from) (exchange (before_at old to) from p))) →
+    (lists_of new k ≡ with_list_at_end (lists_of old k) from to) × AreLinked new k
 unfolding Path
 moved-is old new k from to linked r long from-in to-in differ full says =
     let s = lists_of old k in
@@ -286,22 +286,22 @@ moved-is old new k from to linked r long from-in to-in differ full says =
     differ (paths-to f k from (list_at s from) from to from-in to-in (list-path old k from linked from-in) (ap f is ∙ after-end)) in
     let last-end : last ≡ end → ⊥ = λ is. differ (sym after-end ∙ ap f (sym is) ∙ after-last) in
     let begins : g end ≡ f from =
-    says end ∙ ap (λ p. f (exchanged end last p)) (exchanged-left end from) ∙ ap f (exchanged-other end last from from-end (λ is. full (sym is))) in
+    says end ∙ ap (λ p. f (exchange end last p)) (exchanged-left end from) ∙ ap f (exchanged-other end last from from-end (λ is. full (sym is))) in
     let ends : g last ≡ to =
-    says last ∙ ap (λ p. f (exchanged end last p)) (exchanged-other end from last last-end full) ∙ ap f (exchanged-right end last) ∙ after-end in
+    says last ∙ ap (λ p. f (exchange end last p)) (exchanged-other end from last last-end full) ∙ ap f (exchanged-right end last) ∙ after-end in
     let alone : g from ≡ from =
-    says from ∙ ap (λ p. f (exchanged end last p)) (exchanged-right end from) ∙ ap f (exchanged-left end last) ∙ after-last in
+    says from ∙ ap (λ p. f (exchange end last p)) (exchanged-right end from) ∙ ap f (exchanged-left end last) ∙ after-last in
     let same : (p : ℕ) → (p ≡ from → ⊥) → (f p ≡ from → ⊥) → (f p ≡ to → ⊥) → g p ≡ f p = λ p not-head not-from not-to.
-    says p ∙ ap (λ q. f (exchanged end last q)) (exchanged-other end from p (λ is. not-to (ap f is ∙ after-end)) not-head)
+    says p ∙ ap (λ q. f (exchange end last q)) (exchanged-other end from p (λ is. not-to (ap f is ∙ after-end)) not-head)
     ∙ ap f (exchanged-other end last p (λ is. not-to (ap f is ∙ after-end)) (λ is. not-from (ap f is ∙ after-last))) in
     let joined : Path g k to (list_at s to ++ list_at s from) to =
     joined-path f g k (list_at s to) (list_at s from) from to last end from-in to-in only-from ends only-to begins same differ
     (λ is. full (sym (only-from from is))) (list-path old k to linked to-in) (list-path old k from linked from-in) in
-    let paths : (l : ℕ) → l < k → Path g k l (list_at (moved s from to) l) l = λ l there. elim (cases_eq l from) [
-      | inl is ↦ subst (λ h. Path g k h (list_at (moved s from to) h) h) (sym is)
+    let paths : (l : ℕ) → l < k → Path g k l (list_at (with_list_at_end s from to) l) l = λ l there. elim (cases_eq l from) [
+      | inl is ↦ subst (λ h. Path g k h (list_at (with_list_at_end s from to) h) h) (sym is)
           (subst (λ ys. Path g k from ys from) (sym (moved-from s from to from-there)) alone)
       | inr not-from ↦ elim (cases_eq l to) [
-        | inl is ↦ subst (λ h. Path g k h (list_at (moved s from to) h) h) (sym is)
+        | inl is ↦ subst (λ h. Path g k h (list_at (with_list_at_end s from to) h) h) (sym is)
             (subst (λ ys. Path g k to ys to) (sym (moved-to s from to to-there differ)) joined)
         | inr not-to ↦ subst (λ ys. Path g k l ys l) (sym (moved-other s from to l not-from not-to))
             (path-kept f g k l (list_at s l) l
@@ -312,12 +312,12 @@ moved-is old new k from to linked r long from-in to-in differ full says =
             (list-path old k l linked there))
       ]
     ] in
-    let are : lists_of new k ≡ moved s from to =
-    lists-are new r k room (moved s from to) (nodes-moved s from to ∙ many-nodes old k ∙ ap (λ n. n - k) (sym long)) (long-moved s from to ∙ many-lists old k) paths in (
+    let are : lists_of new k ≡ with_list_at_end s from to =
+    lists-are new r k room (with_list_at_end s from to) (nodes-moved s from to ∙ many-nodes old k ∙ ap (λ n. n - k) (sym long)) (long-moved s from to ∙ many-lists old k) paths in (
       are,
-      linked-so new r k room linked.heads_few (omega (arith, linked.few)) (moved s from to) are paths
+      linked-so new r k room linked.heads_few (omega (arith, linked.few)) (with_list_at_end s from to) are paths
           (λ y unlisted.
-          let was : is_listed s y ≡ false = unlisted-before s (moved s from to) y (λ l among. among-moved s from to l y from-there to-there differ among) unlisted in
+          let was : is_listed s y ≡ false = unlisted-before s (with_list_at_end s from to) y (λ l among. among-moved s from to l y from-there to-there differ among) unlisted in
           let here : f (k + y) ≡ k + y = linked.idle y was in
           same (k + y) (λ is. omega arith) (λ is. omega (arith, sym here ∙ is)) (λ is. omega (arith, sym here ∙ is)) ∙ here),
     )
@@ -335,16 +335,16 @@ made-is links k n r long heads few alone =
     (are, linked-so links r k room heads (omega arith) s are paths (λ x none. alone (k + x)))
 
 pub grown-is : (old new : List Link) (k n : ℕ) → AreLinked old k → AreRings new → length new ≡ length old + n → length old - k + n < 2 ^ 32 →
-    ((p : ℕ) → after_at new p ≡ after_at old p) → (lists_of new k ≡ grown (lists_of old k) n) × AreLinked new k
+    ((p : ℕ) → after_at new p ≡ after_at old p) → (lists_of new k ≡ with_more_nodes (lists_of old k) n) × AreLinked new k
 grown-is old new k n linked r long few same =
     let s = lists_of old k in
     let room : k ≤ length new = omega (arith, linked.room) in
-    let nodes : (grown s n).nodes ≡ length new - k = omega (arith, nodes-grown s n, many-nodes old k, linked.room) in
-    let paths : (l : ℕ) → l < k → Path (after_at new) k l (list_at (grown s n) l) l = λ l there.
+    let nodes : (with_more_nodes s n).nodes ≡ length new - k = omega (arith, nodes-grown s n, many-nodes old k, linked.room) in
+    let paths : (l : ℕ) → l < k → Path (after_at new) k l (list_at (with_more_nodes s n) l) l = λ l there.
     subst (λ ys. Path (after_at new) k l ys l) (sym (grown-at s n l))
     (path-kept (after_at old) (after_at new) k l (list_at s l) l (λ p ys path. same p) (list-path old k l linked there)) in
-    let are : lists_of new k ≡ grown s n = lists-are new r k room (grown s n) nodes (long-grown s n ∙ many-lists old k) paths in
-    (are, linked-so new r k room linked.heads_few (omega (arith, linked.room)) (grown s n) are paths (λ x none. same (k + x) ∙ linked.idle x (sym (grown-listed s n x) ∙ none)))
+    let are : lists_of new k ≡ with_more_nodes s n = lists-are new r k room (with_more_nodes s n) nodes (long-grown s n ∙ many-lists old k) paths in
+    (are, linked-so new r k room linked.heads_few (omega (arith, linked.room)) (with_more_nodes s n) are paths (λ x none. same (k + x) ∙ linked.idle x (sym (grown-listed s n x) ∙ none)))
 
 -- ---- first and next
 

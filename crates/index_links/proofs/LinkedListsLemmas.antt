@@ -5,7 +5,7 @@ use Rattle.std.proofs.lemmas.Bool.{cases_eq, cases_lt, ne_eqb, eqb-true, or_case
 use Rattle.std.proofs.lemmas.List.{length-map, get_or-set_same, get_or-set_other, length-set}
 use Rattle.std.proofs.lemmas.List.Folds.{list_any-append, list_any_at}
 use Rattle.std.proofs.Math.ListN.{get_or-eq_default, get_or-map}
-use Rattle.index_links.specs.Lists.{LinkedLists, list_at, is_among, is_listed, without, grown, pushed, unlinked, moved}
+use Rattle.index_links.specs.Lists.{LinkedLists, list_at, is_among, is_listed, without, with_more_nodes, with_node_at_end, without_node, with_list_at_end}
 
 pub past-lists : (s : LinkedLists) (l : ℕ) → length s.lists ≤ l → list_at s l ≡ []
 unfolding list_at
@@ -72,68 +72,68 @@ among-without x y (z ∷ zs) other among = elim (or_cases (eqb y z) (list_any (e
   ]
 ]
 
-pub pushed-here : (s : LinkedLists) (l x : ℕ) → l < length s.lists → list_at (pushed s l x) l ≡ list_at s l ++ x ∷ []
-unfolding list_at pushed
+pub pushed-here : (s : LinkedLists) (l x : ℕ) → l < length s.lists → list_at (with_node_at_end s l x) l ≡ list_at s l ++ x ∷ []
+unfolding list_at with_node_at_end
 pushed-here s l x there = get_or-set_same s.lists l (get_or s.lists l [] ++ x ∷ []) [] there
 
-pub pushed-other : (s : LinkedLists) (l x m : ℕ) → (m ≡ l → ⊥) → list_at (pushed s l x) m ≡ list_at s m
-unfolding list_at pushed
+pub pushed-other : (s : LinkedLists) (l x m : ℕ) → (m ≡ l → ⊥) → list_at (with_node_at_end s l x) m ≡ list_at s m
+unfolding list_at with_node_at_end
 pushed-other s l x m other = get_or-set_other s.lists l m (get_or s.lists l [] ++ x ∷ []) [] other
 
-pub long-pushed : (s : LinkedLists) (l x : ℕ) → length (pushed s l x).lists ≡ length s.lists
-unfolding pushed
+pub long-pushed : (s : LinkedLists) (l x : ℕ) → length (with_node_at_end s l x).lists ≡ length s.lists
+unfolding with_node_at_end
 long-pushed s l x = length-set s.lists l (list_at s l ++ x ∷ [])
 
-pub nodes-pushed : (s : LinkedLists) (l x : ℕ) → (pushed s l x).nodes ≡ s.nodes
-unfolding pushed
+pub nodes-pushed : (s : LinkedLists) (l x : ℕ) → (with_node_at_end s l x).nodes ≡ s.nodes
+unfolding with_node_at_end
 nodes-pushed s l x = refl
 
-pub among-pushed : (s : LinkedLists) (l x m y : ℕ) → is_among (list_at s m) y ≡ true → is_among (list_at (pushed s l x) m) y ≡ true
+pub among-pushed : (s : LinkedLists) (l x m y : ℕ) → is_among (list_at s m) y ≡ true → is_among (list_at (with_node_at_end s l x) m) y ≡ true
 among-pushed s l x m y among = elim (cases_eq m l) [
   | inl same ↦ rw (same, pushed-here s l x (subst (λ h. h < length s.lists) same (list-exists s m y among)), among-append (list_at s l) (x ∷ []) y)
       (or_left (is_among (list_at s l) y) (is_among (x ∷ []) y) (subst (λ h. is_among (list_at s h) y ≡ true) same among))
   | inr other ↦ rw (pushed-other s l x m other) among
 ]
 
-pub long-unlinked : (s : LinkedLists) (x : ℕ) → length (unlinked s x).lists ≡ length s.lists
-unfolding unlinked
+pub long-unlinked : (s : LinkedLists) (x : ℕ) → length (without_node s x).lists ≡ length s.lists
+unfolding without_node
 long-unlinked s x = length-map s.lists (without x)
 
-pub nodes-unlinked : (s : LinkedLists) (x : ℕ) → (unlinked s x).nodes ≡ s.nodes
-unfolding unlinked
+pub nodes-unlinked : (s : LinkedLists) (x : ℕ) → (without_node s x).nodes ≡ s.nodes
+unfolding without_node
 nodes-unlinked s x = refl
 
-pub unlinked-at : (s : LinkedLists) (x l : ℕ) → list_at (unlinked s x) l ≡ without x (list_at s l)
-unfolding list_at unlinked without
+pub unlinked-at : (s : LinkedLists) (x l : ℕ) → list_at (without_node s x) l ≡ without x (list_at s l)
+unfolding list_at without_node without
 unlinked-at s x l = get_or-map (without x) s.lists l []
 
-pub moved-from : (s : LinkedLists) (from to : ℕ) → from < length s.lists → list_at (moved s from to) from ≡ []
-unfolding list_at moved
+pub moved-from : (s : LinkedLists) (from to : ℕ) → from < length s.lists → list_at (with_list_at_end s from to) from ≡ []
+unfolding list_at with_list_at_end
 moved-from s from to there = get_or-set_same (set s.lists to (get_or s.lists to [] ++ get_or s.lists from [])) from [] [] (rw length-set there)
 
-pub moved-to : (s : LinkedLists) (from to : ℕ) → to < length s.lists → (to ≡ from → ⊥) → list_at (moved s from to) to ≡ list_at s to ++ list_at s from
-unfolding list_at moved
+pub moved-to : (s : LinkedLists) (from to : ℕ) → to < length s.lists → (to ≡ from → ⊥) → list_at (with_list_at_end s from to) to ≡ list_at s to ++ list_at s from
+unfolding list_at with_list_at_end
 moved-to s from to there other =
     get_or-set_other (set s.lists to (get_or s.lists to [] ++ get_or s.lists from [])) from to [] [] other
     ∙ get_or-set_same s.lists to (get_or s.lists to [] ++ get_or s.lists from []) [] there
 
-pub moved-other : (s : LinkedLists) (from to l : ℕ) → (l ≡ from → ⊥) → (l ≡ to → ⊥) → list_at (moved s from to) l ≡ list_at s l
-unfolding list_at moved
+pub moved-other : (s : LinkedLists) (from to l : ℕ) → (l ≡ from → ⊥) → (l ≡ to → ⊥) → list_at (with_list_at_end s from to) l ≡ list_at s l
+unfolding list_at with_list_at_end
 moved-other s from to l not-from not-to =
     get_or-set_other (set s.lists to (get_or s.lists to [] ++ get_or s.lists from [])) from l [] [] not-from
     ∙ get_or-set_other s.lists to l (get_or s.lists to [] ++ get_or s.lists from []) [] not-to
 
-pub long-moved : (s : LinkedLists) (from to : ℕ) → length (moved s from to).lists ≡ length s.lists
-unfolding moved
+pub long-moved : (s : LinkedLists) (from to : ℕ) → length (with_list_at_end s from to).lists ≡ length s.lists
+unfolding with_list_at_end
 long-moved s from to = length-set (set s.lists to (list_at s to ++ list_at s from)) from [] ∙ length-set s.lists to (list_at s to ++ list_at s from)
 
-pub nodes-moved : (s : LinkedLists) (from to : ℕ) → (moved s from to).nodes ≡ s.nodes
-unfolding moved
+pub nodes-moved : (s : LinkedLists) (from to : ℕ) → (with_list_at_end s from to).nodes ≡ s.nodes
+unfolding with_list_at_end
 nodes-moved s from to = refl
 
 -- each node that was in a list is in one
 pub among-moved : (s : LinkedLists) (from to l y : ℕ) → from < length s.lists → to < length s.lists → (to ≡ from → ⊥) → is_among (list_at s l) y ≡ true →
-    (m : ℕ) × (is_among (list_at (moved s from to) m) y ≡ true)
+    (m : ℕ) × (is_among (list_at (with_list_at_end s from to) m) y ≡ true)
 among-moved s from to l y from-in to-in differ among = elim (cases_eq l from) [
   | inl same ↦ (
     to,
@@ -150,18 +150,18 @@ among-moved s from to l y from-in to-in differ among = elim (cases_eq l from) [
   ]
 ]
 
-pub grown-at : (s : LinkedLists) (n l : ℕ) → list_at (grown s n) l ≡ list_at s l
-unfolding list_at grown
+pub grown-at : (s : LinkedLists) (n l : ℕ) → list_at (with_more_nodes s n) l ≡ list_at s l
+unfolding list_at with_more_nodes
 grown-at s n l = refl
 
-pub grown-listed : (s : LinkedLists) (n x : ℕ) → is_listed (grown s n) x ≡ is_listed s x
-unfolding is_listed grown
+pub grown-listed : (s : LinkedLists) (n x : ℕ) → is_listed (with_more_nodes s n) x ≡ is_listed s x
+unfolding is_listed with_more_nodes
 grown-listed s n x = refl
 
-pub long-grown : (s : LinkedLists) (n : ℕ) → length (grown s n).lists ≡ length s.lists
-unfolding grown
+pub long-grown : (s : LinkedLists) (n : ℕ) → length (with_more_nodes s n).lists ≡ length s.lists
+unfolding with_more_nodes
 long-grown s n = refl
 
-pub nodes-grown : (s : LinkedLists) (n : ℕ) → (grown s n).nodes ≡ s.nodes + n
-unfolding grown
+pub nodes-grown : (s : LinkedLists) (n : ℕ) → (with_more_nodes s n).nodes ≡ s.nodes + n
+unfolding with_more_nodes
 nodes-grown s n = refl

@@ -7,26 +7,26 @@ use Rattle.std.proofs.lemmas.Bool.{cases_eq, cases_lt, cases_order, ne_eqb}
 use Rattle.std.proofs.Math.ListN.{get_or-eq_default}
 use Rattle.std.proofs.Math.Seq.{get_or-append_seam}
 use Rattle.index_links.specs.declared.rings.Link.{Link}
-use Rattle.index_links.specs.Rings.{after_at, before_at, exchanged, AreRings}
+use Rattle.index_links.specs.Rings.{after_at, before_at, exchange, AreRings}
 
-pub exchanged-twice : (a b p : ℕ) → exchanged a b (exchanged a b p) ≡ p
-unfolding exchanged
+pub exchanged-twice : (a b p : ℕ) → exchange a b (exchange a b p) ≡ p
+unfolding exchange
 exchanged-twice a b p = grind (arith, nat_tests)
 
-pub exchanged-below : (a b p n : ℕ) → a < n → b < n → p < n → exchanged a b p < n
-unfolding exchanged
+pub exchanged-below : (a b p n : ℕ) → a < n → b < n → p < n → exchange a b p < n
+unfolding exchange
 exchanged-below a b p n a-in b-in p-in = grind (arith, nat_tests)
 
-pub exchanged-left : (a b : ℕ) → exchanged a b a ≡ b
-unfolding exchanged
+pub exchanged-left : (a b : ℕ) → exchange a b a ≡ b
+unfolding exchange
 exchanged-left a b = rw (eq-eqb a a refl) refl
 
-pub exchanged-right : (a b : ℕ) → exchanged a b b ≡ a
-unfolding exchanged
+pub exchanged-right : (a b : ℕ) → exchange a b b ≡ a
+unfolding exchange
 exchanged-right a b = elim (cases_eq b a) [ inl same ↦ rw (eq-eqb b a same) same | inr other ↦ rw (ne_eqb b a other, eq-eqb b b refl) refl ]
 
-pub exchanged-other : (a b p : ℕ) → (p ≡ a → ⊥) → (p ≡ b → ⊥) → exchanged a b p ≡ p
-unfolding exchanged
+pub exchanged-other : (a b p : ℕ) → (p ≡ a → ⊥) → (p ≡ b → ⊥) → exchange a b p ≡ p
+unfolding exchange
 exchanged-other a b p na nb = grind (arith, nat_tests)
 
 pub after-read : (links : List Link) (p : ℕ) (d : Link) → p < length links → (get_or links p d).after ≡ after_at links p
@@ -87,8 +87,8 @@ after-kept links now i v x is there read p =
     ∙ cond-same i (after_at now) x.after (read-after links now i x is there read) p
 
 -- what comes after each place, once two have exchanged it
-pub after-exchanged : (f : ℕ → ℕ) (a b v w p : ℕ) → v ≡ f a → w ≡ f b → cond (eqb p b) v (cond (eqb p a) w (f p)) ≡ f (exchanged a b p)
-unfolding exchanged
+pub after-exchanged : (f : ℕ → ℕ) (a b v w p : ℕ) → v ≡ f a → w ≡ f b → cond (eqb p b) v (cond (eqb p a) w (f p)) ≡ f (exchange a b p)
+unfolding exchange
 after-exchanged f a b v w p v-is w-is = elim (cases_eq p b) [
   | inl same ↦ elim (cases_eq p a) [
     | inl also ↦ rw (eq-eqb p b same, eq-eqb p a also) (v-is ∙ ap f (sym also ∙ same))
@@ -102,8 +102,8 @@ after-exchanged f a b v w p v-is w-is = elim (cases_eq p b) [
 
 -- what comes before each place then
 pub before-exchanged : (links : List Link) → AreRings links → (a b v w p : ℕ) → v ≡ after_at links a → w ≡ after_at links b →
-    cond (eqb p w) a (cond (eqb p v) b (before_at links p)) ≡ exchanged a b (before_at links p)
-unfolding exchanged
+    cond (eqb p w) a (cond (eqb p v) b (before_at links p)) ≡ exchange a b (before_at links p)
+unfolding exchange
 before-exchanged links r a b v w p v-is w-is = elim (cases_eq p w) [
   | inl same ↦
       let here : before_at links p ≡ b = ap (before_at links) (same ∙ w-is) ∙ r.back b in
@@ -124,12 +124,12 @@ before-exchanged links r a b v w p v-is w-is = elim (cases_eq p w) [
 
 -- rings stay rings where two places exchange what comes after them
 pub rings-exchanged : (old new : List Link) (a b : ℕ) → AreRings old → a < length old → b < length old → length new ≡ length old →
-    ((p : ℕ) → after_at new p ≡ after_at old (exchanged a b p)) → ((p : ℕ) → before_at new p ≡ exchanged a b (before_at old p)) → AreRings new
+    ((p : ℕ) → after_at new p ≡ after_at old (exchange a b p)) → ((p : ℕ) → before_at new p ≡ exchange a b (before_at old p)) → AreRings new
 rings-exchanged old new a b r a-in b-in long after before = record {
-  ahead = λ p there. rw (after p, long) (r.ahead (exchanged a b p) (exchanged-below a b p (length old) a-in b-in (omega (arith, long))));
+  ahead = λ p there. rw (after p, long) (r.ahead (exchange a b p) (exchanged-below a b p (length old) a-in b-in (omega (arith, long))));
   behind = λ p there. rw (before p, long) (exchanged-below a b (before_at old p) (length old) a-in b-in (r.behind p (omega (arith, long))));
-  back = λ p. before (after_at new p) ∙ ap (λ q. exchanged a b (before_at old q)) (after p) ∙ ap (exchanged a b) (r.back (exchanged a b p)) ∙ exchanged-twice a b p;
-  forth = λ p. after (before_at new p) ∙ ap (λ q. after_at old (exchanged a b q)) (before p) ∙ ap (after_at old) (exchanged-twice a b (before_at old p)) ∙ r.forth p;
+  back = λ p. before (after_at new p) ∙ ap (λ q. exchange a b (before_at old q)) (after p) ∙ ap (exchange a b) (r.back (exchange a b p)) ∙ exchanged-twice a b p;
+  forth = λ p. after (before_at new p) ∙ ap (λ q. after_at old (exchange a b q)) (before p) ∙ ap (after_at old) (exchanged-twice a b (before_at old p)) ∙ r.forth p;
 }
 
 pub after-past : (links : List Link) (p : ℕ) → length links ≤ p → after_at links p ≡ p

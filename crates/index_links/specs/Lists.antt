@@ -28,20 +28,20 @@ unfoldable pub empty_lists : ℕ → ℕ → LinkedLists
 empty_lists nodes lists = record { nodes = nodes; lists = replicate lists [] }
 
 -- more nodes, which are in no list
-unfoldable pub grown : LinkedLists → ℕ → LinkedLists
-grown s more = record { nodes = s.nodes + more; lists = s.lists }
+unfoldable pub with_more_nodes : LinkedLists → ℕ → LinkedLists
+with_more_nodes s more = record { nodes = s.nodes + more; lists = s.lists }
 
 -- node x at the end of list l
-unfoldable pub pushed : LinkedLists → ℕ → ℕ → LinkedLists
-pushed s l x = record { nodes = s.nodes; lists = slice_set s.lists l (list_at s l ++ x ∷ []) }
+unfoldable pub with_node_at_end : LinkedLists → ℕ → ℕ → LinkedLists
+with_node_at_end s l x = record { nodes = s.nodes; lists = slice_set s.lists l (list_at s l ++ x ∷ []) }
 
 -- node x in no list
-unfoldable pub unlinked : LinkedLists → ℕ → LinkedLists
-unlinked s x = record { nodes = s.nodes; lists = map (without x) s.lists }
+unfoldable pub without_node : LinkedLists → ℕ → LinkedLists
+without_node s x = record { nodes = s.nodes; lists = map (without x) s.lists }
 
 -- the nodes of list start at the end of list end
-unfoldable pub moved : LinkedLists → ℕ → ℕ → LinkedLists
-moved s start end = record { nodes = s.nodes; lists = slice_set (slice_set s.lists end (list_at s end ++ list_at s start)) start [] }
+unfoldable pub with_list_at_end : LinkedLists → ℕ → ℕ → LinkedLists
+with_list_at_end s start end = record { nodes = s.nodes; lists = slice_set (slice_set s.lists end (list_at s end ++ list_at s start)) start [] }
 
 -- each node in a list is one of the nodes, and stands there alone
 pub record AreApart (s : LinkedLists) : Type 0 where

@@ -13,8 +13,8 @@ unfoldable pub before_at : List Link → ℕ → ℕ
 before_at links p = (slice_index_or links p (record { before = p; after = p })).before
 
 -- p, with left and right exchanged
-unfoldable pub exchanged : ℕ → ℕ → ℕ → ℕ
-exchanged left right p = cond (eqb p left) right (cond (eqb p right) left p)
+unfoldable pub exchange : ℕ → ℕ → ℕ → ℕ
+exchange left right p = cond (eqb p left) right (cond (eqb p right) left p)
 
 -- the node at place p, and none for a head
 unfoldable pub node_of : ℕ → ℕ → Option ℕ

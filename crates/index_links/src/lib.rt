@@ -12,7 +12,7 @@ mod tests {
     use super::Links;
     use std::test::Fail;
 
-    #[tactic(auto, unfolding(crate::specs::Lists::list_at, crate::specs::Lists::is_among, crate::specs::Lists::is_listed, crate::specs::Lists::without, crate::specs::Lists::empty_lists, crate::specs::Lists::pushed, crate::specs::Lists::unlinked, crate::specs::Lists::grown, crate::specs::Lists::moved))]
+    #[tactic(auto, unfolding(crate::specs::Lists::list_at, crate::specs::Lists::is_among, crate::specs::Lists::is_listed, crate::specs::Lists::without, crate::specs::Lists::empty_lists, crate::specs::Lists::with_node_at_end, crate::specs::Lists::without_node, crate::specs::Lists::with_more_nodes, crate::specs::Lists::with_list_at_end))]
     #[test]
     fn five_nodes_in_two_lists(rt: HostRuntime) -> Result<(), Fail> {
         let mut links = Links::make(rt.alloc(), 5, 2)?;

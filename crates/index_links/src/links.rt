@@ -1,5 +1,5 @@
 ghost use Rattle.std.specs.Prelude.{◌≡◌, ◌≢◌, ℕ, ◌+◌, ◌<◌, ◌^◌, true, false, length, slice_get, IfOk, IfSome, OnOk, OnErr};
-ghost use Rattle.index_links.specs.Lists.{list_at, is_among, is_listed, empty_lists, grown, pushed, unlinked, moved, AreApart};
+ghost use Rattle.index_links.specs.Lists.{list_at, is_among, is_listed, empty_lists, with_more_nodes, with_node_at_end, without_node, with_list_at_end, AreApart};
 
 use crate::moves::{append, extend, is_in_list, join, take_out};
 use crate::rings::{Rings, node_at};
@@ -43,7 +43,7 @@ impl Links {
     /// Adds `nodes` nodes, which are in no list. The error is want of memory, and nothing has then changed.
     pub fn grow(&mut self, nodes: u32) -> Result<(), AllocError>
         requires { self.old.nodes + nodes < 2 ^ 32 }
-        ensures ok { OnOk result (self.new ≡ grown self.old nodes) }
+        ensures ok { OnOk result (self.new ≡ with_more_nodes self.old nodes) }
         ensures err { OnErr result (self.new ≡ self.old) }
         ensures apart { AreApart self.new }
     {
@@ -55,7 +55,7 @@ impl Links {
         requires list { list < length self.old.lists }
         requires node { node < self.old.nodes }
         requires unlisted { is_listed self.old node ≡ false }
-        ensures value { self.new ≡ pushed self.old list node }
+        ensures value { self.new ≡ with_node_at_end self.old list node }
         ensures apart { AreApart self.new }
     {
         append(&mut self.rings, self.heads, list, node);
@@ -65,7 +65,7 @@ impl Links {
     pub fn unlink(&mut self, node: u32) -> bool
         requires { node < self.old.nodes }
         ensures listed { result ≡ is_listed self.old node }
-        ensures value { self.new ≡ unlinked self.old node }
+        ensures value { self.new ≡ without_node self.old node }
         ensures apart { AreApart self.new }
     {
         let listed = is_in_list(&self.rings, self.heads, node);
@@ -98,7 +98,7 @@ impl Links {
         requires from { from < length self.old.lists }
         requires to { to < length self.old.lists }
         requires differ { from ≢ to }
-        ensures value { self.new ≡ moved self.old from to }
+        ensures value { self.new ≡ with_list_at_end self.old from to }
         ensures apart { AreApart self.new }
     {
         join(&mut self.rings, self.heads, from, to);

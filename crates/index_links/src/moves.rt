@@ -1,6 +1,6 @@
 //! What each call makes of a linked table, over its links and the number of its heads.
 ghost use Rattle.std.specs.Prelude.{◌≡◌, ◌≢◌, ℕ, ◌+◌, ◌<◌, ◌^◌, false, OnOk, OnErr};
-ghost use Rattle.index_links.specs.Lists.{is_listed, grown, pushed, unlinked, moved};
+ghost use Rattle.index_links.specs.Lists.{is_listed, with_more_nodes, with_node_at_end, without_node, with_list_at_end};
 ghost use Rattle.index_links.specs.Rings.{lists_of, AreLinked};
 
 use crate::rings::Rings;
@@ -11,7 +11,7 @@ pub fn extend(rings: &mut Rings, heads: usize, nodes: u32) -> Result<(), AllocEr
     requires linked { AreLinked rings.old heads }
     requires few { (lists_of rings.old heads).nodes + nodes < 2 ^ 32 }
     ensures linked { AreLinked rings.new heads }
-    ensures ok { OnOk result (lists_of rings.new heads ≡ grown (lists_of rings.old heads) nodes) }
+    ensures ok { OnOk result (lists_of rings.new heads ≡ with_more_nodes (lists_of rings.old heads) nodes) }
     ensures err { OnErr result (rings.new ≡ rings.old) }
 {
     rings.grow(nodes as usize)?;
@@ -25,7 +25,7 @@ pub fn append(rings: &mut Rings, heads: usize, list: u32, node: u32)
     requires node { node < (lists_of rings.old heads).nodes }
     requires unlisted { is_listed (lists_of rings.old heads) node ≡ false }
     ensures linked { AreLinked rings.new heads }
-    ensures lists { lists_of rings.new heads ≡ pushed (lists_of rings.old heads) list node }
+    ensures lists { lists_of rings.new heads ≡ with_node_at_end (lists_of rings.old heads) list node }
 {
     let last = rings.before(list as usize);
     rings.splice(last, heads + node as usize);
@@ -47,7 +47,7 @@ pub fn take_out(rings: &mut Rings, heads: usize, node: u32)
     requires linked { AreLinked rings.old heads }
     requires node { node < (lists_of rings.old heads).nodes }
     ensures linked { AreLinked rings.new heads }
-    ensures lists { lists_of rings.new heads ≡ unlinked (lists_of rings.old heads) node }
+    ensures lists { lists_of rings.new heads ≡ without_node (lists_of rings.old heads) node }
 {
     let place = heads + node as usize;
     let before = rings.before(place);
@@ -61,7 +61,7 @@ pub fn join(rings: &mut Rings, heads: usize, from: u32, to: u32)
     requires to { to < heads }
     requires differ { from ≢ to }
     ensures linked { AreLinked rings.new heads }
-    ensures lists { lists_of rings.new heads ≡ moved (lists_of rings.old heads) from to }
+    ensures lists { lists_of rings.new heads ≡ with_list_at_end (lists_of rings.old heads) from to }
 {
     let (from, to) = (from as usize, to as usize);
     let last = rings.before(to);

@@ -1,5 +1,5 @@
 ghost use Rattle.std.specs.Prelude.{◌≡◌, ℕ, ◌+◌, ◌<◌, ◌^◌, cond, eqb, length, OnOk, OnErr, []};
-ghost use Rattle.index_links.specs.Rings.{after_at, before_at, exchanged, node_of, AreRings};
+ghost use Rattle.index_links.specs.Rings.{after_at, before_at, exchange, node_of, AreRings};
 
 use std::alloc::{AllocError, Global};
 use std::marker::Model;
@@ -99,7 +99,7 @@ impl Rings {
         requires left { left < length self.old }
         requires right { right < length self.old }
         ensures rings { AreRings self.new }
-        ensures after { (p : ℕ) → after_at self.new p ≡ after_at self.old (exchanged left right p) }
+        ensures after { (p : ℕ) → after_at self.new p ≡ after_at self.old (exchange left right p) }
         ensures long { length self.new ≡ length self.old }
     {
         let after_left = self.after(left);

@@ -3,7 +3,7 @@ use Rattle.std.specs.Prelude.{ℕ, ◌+◌, ◌*◌, ◌==◌, ◌&&◌, Bool, n
 use Rattle.std.specs.List.{list_any, enumerate_from}
 use Rattle.std.specs.Option.{option_map}
 use Rattle.mbr_records.specs.declared.partition_record.MbrRecord.{MbrRecord}
-use Rattle.mbr_records.specs.Record.{record_of, is_data, is_extended, is_on_medium, is_used, number_at, shares_block}
+use Rattle.mbr_records.specs.Record.{record_of, is_data, is_extended, is_on_medium, is_used_record, four_byte_number, records_share_block}
 
 -- what a master boot record tells
 pub record Fields : Type 0 where
@@ -19,28 +19,28 @@ abbrev pub four_records : List ℕ → List MbrRecord
 four_records block = map (λ i. record_of (slice_range block (446 + 16 * i) (462 + 16 * i))) (0 ∷ 1 ∷ 2 ∷ 3 ∷ [])
 
 -- the fields of the block: the disk signature is at byte 440 (UEFI 2.10, 5.2.1)
-abbrev pub fields_of : List ℕ → Fields
-fields_of block = record { signature = number_at 440 block; records = four_records block }
+abbrev pub boot_fields : List ℕ → Fields
+boot_fields block = record { signature = four_byte_number 440 block; records = four_records block }
 
 -- the master boot record in the block, where it is marked
 abbrev pub mbr_of : List ℕ → Option Fields
-mbr_of block = if is_marked block then Some (fields_of block) else None
+mbr_of block = if is_marked block then Some (boot_fields block) else None
 
 -- the record at place i, of the four from 0 on
 abbrev pub numbered_record : ℕ → Fields → MbrRecord
 numbered_record i mbr = slice_index_or mbr.records i (record { boot = 0; os_type = 0; start = 0; size = 0 })
 
 -- the record at place i shares a block with another used record
-abbrev pub overlaps_another : List MbrRecord → ℕ → MbrRecord → Bool
-overlaps_another records i r = list_any (λ (j, s). not (j == i) && is_used s && shares_block r s) (enumerate_from 0 records)
+abbrev pub overlaps_another_record : List MbrRecord → ℕ → MbrRecord → Bool
+overlaps_another_record records i r = list_any (λ (j, s). not (j == i) && is_used_record s && records_share_block r s) (enumerate_from 0 records)
 
 -- the record at place i gives a partition of a medium of so many blocks (own profile)
-abbrev pub gives_partition : ℕ → List MbrRecord → ℕ → MbrRecord → Bool
-gives_partition blocks records i r = is_data r && is_on_medium blocks r && not (overlaps_another records i r)
+abbrev pub record_gives_partition : ℕ → List MbrRecord → ℕ → MbrRecord → Bool
+record_gives_partition blocks records i r = is_data r && is_on_medium blocks r && not (overlaps_another_record records i r)
 
 -- which of the records give a partition
-abbrev pub usable_of : ℕ → List MbrRecord → List Bool
-usable_of blocks records = map (λ (i, r). gives_partition blocks records i r) (enumerate_from 0 records)
+abbrev pub usable_records : ℕ → List MbrRecord → List Bool
+usable_records blocks records = map (λ (i, r). record_gives_partition blocks records i r) (enumerate_from 0 records)
 
 -- where the extended partition begins, and how many blocks it has (own profile)
 abbrev pub extended_of : ℕ → List MbrRecord → Option (ℕ × ℕ)

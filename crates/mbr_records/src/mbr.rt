@@ -1,5 +1,5 @@
 ghost use Rattle.std.specs.Prelude.{ℕ, ◌≡◌, ◌+◌, ◌≤◌, true, IfSome, slice_get};
-ghost use Rattle.mbr_records.specs.Block.{gives_partition, is_marked, overlaps_another, usable_of};
+ghost use Rattle.mbr_records.specs.Block.{record_gives_partition, is_marked, overlaps_another_record, usable_records};
 
 use crate::partition_record::MbrRecord;
 use byteorder::{ByteOrder, LittleEndian};
@@ -23,7 +23,7 @@ impl Model for Mbr {
 impl Mbr {
     ghost use Rattle.std.specs.List.{list_any};
     ghost use Rattle.mbr_records.specs.Record.{is_protective};
-    ghost use Rattle.mbr_records.specs.Block.{extended_of, fields_of, mbr_of};
+    ghost use Rattle.mbr_records.specs.Block.{extended_of, boot_fields, mbr_of};
 
     /// The record in the first 512 bytes of a block. None exactly where bytes 510 and 511 are not 55 AA (UEFI 2.10, 5.2.1).
     pub fn read(block: &[u8; 512]) -> Option<Mbr>
@@ -36,7 +36,7 @@ impl Mbr {
     }
 
     fn fields(block: &[u8; 512]) -> Mbr
-        ensures { result ≡ fields_of block.now }
+        ensures { result ≡ boot_fields block.now }
     {
         Mbr {
             signature: LittleEndian::read_u32(&block[440..444]),
@@ -73,7 +73,7 @@ impl Mbr {
     /// Which records give a partition of a medium of so many blocks: a used record of a type other than 05, 0F and EE, whose end
     /// is at most the medium's and which shares no block with another used record (own profile).
     pub fn usable(&self, blocks: u64) -> [bool; 4]
-        ensures exact { result ≡ usable_of blocks self.now.records }
+        ensures exact { result ≡ usable_records blocks self.now.records }
         ensures inside { (i : ℕ) → slice_get result i ≡ Some true →
             IfSome (slice_get self.now.records i) (λ r. r.start + r.size ≤ blocks) }
     {
@@ -102,7 +102,7 @@ fn is_marked(block: &[u8; 512]) -> bool
 
 /// Which of the four records give a partition of a medium of so many blocks.
 fn usable_flags(records: &[MbrRecord; 4], blocks: u64) -> [bool; 4]
-    ensures { result ≡ usable_of blocks records.now }
+    ensures { result ≡ usable_records blocks records.now }
 {
     let [first, second, third, fourth] = *records;
     [
@@ -115,14 +115,14 @@ fn usable_flags(records: &[MbrRecord; 4], blocks: u64) -> [bool; 4]
 
 /// Whether the record at this place gives a partition.
 fn gives_partition(records: &[MbrRecord; 4], blocks: u64, place: usize, entry: MbrRecord) -> bool
-    ensures { result ≡ gives_partition blocks records.now place entry }
+    ensures { result ≡ record_gives_partition blocks records.now place entry }
 {
     entry.is_data() && entry.is_on_medium(blocks) && !overlaps_another(records, place, entry)
 }
 
 /// Whether the record at this place shares a block with another used record.
 fn overlaps_another(records: &[MbrRecord; 4], place: usize, entry: MbrRecord) -> bool
-    ensures { result ≡ overlaps_another records.now place entry }
+    ensures { result ≡ overlaps_another_record records.now place entry }
 {
     records.iter().enumerate().any(|(i, other)| i != place
         && other.is_used()

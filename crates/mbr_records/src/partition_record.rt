@@ -28,7 +28,7 @@ pub struct MbrRecord {
 }
 
 impl MbrRecord {
-    ghost use Rattle.mbr_records.specs.Record.{HasBlock, has_extended_type, is_data, is_extended, is_on_medium, is_protective, is_used, record_of, shares_block};
+    ghost use Rattle.mbr_records.specs.Record.{IsBlockOfRecord, has_extended_type, is_data, is_extended, is_on_medium, is_protective, is_used_record, record_of, records_share_block};
 
     /// The record in the first 16 bytes (UEFI 2.10, 5.2.1).
     #[tactic(auto, unfolding(crate::specs::Record::record_of))]
@@ -46,7 +46,7 @@ impl MbrRecord {
 
     /// Whether it describes some blocks (own profile).
     pub(crate) fn is_used(self) -> bool
-        ensures { result ≡ is_used self }
+        ensures { result ≡ is_used_record self }
     {
         self.os_type != UNUSED && self.size != 0
     }
@@ -87,8 +87,8 @@ impl MbrRecord {
 
     /// Whether some block is one of both (own profile).
     pub(crate) fn shares_block(self, other: MbrRecord) -> bool
-        ensures exact { result ≡ shares_block self other }
-        ensures block { IsTrue result ↔ ((block : ℕ) × HasBlock self block × HasBlock other block) }
+        ensures exact { result ≡ records_share_block self other }
+        ensures block { IsTrue result ↔ ((block : ℕ) × IsBlockOfRecord self block × IsBlockOfRecord other block) }
     {
         let end = u64::from(self.start) + u64::from(self.size);
         let other_end = u64::from(other.start) + u64::from(other.size);

@@ -5,7 +5,7 @@ use Rattle.std.proofs.lemmas.List.{length-append, length-take, length-drop, leng
 use Rattle.std.proofs.Math.Nat.{mul-le-mul_left}
 use Rattle.byte_lists.proofs.Patched.{length-patch}
 use Rattle.byte_lists.specs.Patching.{patch}
-use Rattle.medium.specs.Blocks.{block_in, joined, block_over, overlay, AreHeldFrom}
+use Rattle.medium.specs.Blocks.{block_in, first_blocks, block_over, overlay, AreHeldFrom}
 
 -- a block lies among the blocks
 pub block-fits : (size b n : ℕ) → b < n → b * size + size ≤ n * size
@@ -15,10 +15,10 @@ block-fits size b n less = let above : b + 1 ≤ n = omega arith in omega (arith
 abbrev pub AreLong : (ℕ → List ℕ) → ℕ → ℕ → Type 0
 AreLong block size n = (b : ℕ) → b < n → length (block b) ≡ size
 
-pub length-joined : (block : ℕ → List ℕ) (size n : ℕ) → AreLong block size n → length (joined block n) ≡ n * size
-unfolding joined
+pub length-joined : (block : ℕ → List ℕ) (size n : ℕ) → AreLong block size n → length (first_blocks block n) ≡ n * size
+unfolding first_blocks
 length-joined block size zero long = omega arith
-length-joined block size (suc n) long = omega (arith, length-append (joined block n) (block n), length-joined block size n (λ b less. long b (omega arith)), long n (omega arith))
+length-joined block size (suc n) long = omega (arith, length-append (first_blocks block n) (block n), length-joined block size n (λ b less. long b (omega arith)), long n (omega arith))
 
 -- the first bytes of what lies in front
 take-drop-front : (n k : ℕ) (xs ys : List ℕ) → k + n ≤ length xs → take n (drop k (xs ++ ys)) ≡ take n (drop k xs)
@@ -33,34 +33,34 @@ take-drop-take n k m xs fits =
     subst (λ (x : ℕ). take n (drop k (take x xs)) ≡ take n (drop k xs)) (sym split) (ap (take n) (drop-take k (m - k) xs) ∙ take-take n (m - k) (drop k xs) (omega arith))
 
 -- a block of the joined blocks is that block
-pub block_of-joined : (block : ℕ → List ℕ) (size n b : ℕ) → AreLong block size n → b < n → block_in size (joined block n) b ≡ block b
-unfolding joined
+pub block_of-joined : (block : ℕ → List ℕ) (size n b : ℕ) → AreLong block size n → b < n → block_in size (first_blocks block n) b ≡ block b
+unfolding first_blocks
 block_of-joined block size zero b long less = absurd (omega arith)
 block_of-joined block size (suc n) b long less = ⊎_elim (λ same. last same) (λ apart. earlier (omega arith) (block_of-joined block size n b (λ q inside. long q (omega arith)) (omega arith))) (cases_eq b n) where
-  front : length (joined block n) ≡ n * size
+  front : length (first_blocks block n) ≡ n * size
   front = length-joined block size n (λ q below. long q (omega arith))
 
-  earlier : b < n → block_in size (joined block n) b ≡ block b → block_in size (joined block n ++ block n) b ≡ block b
-  earlier below is = take-drop-front size (b * size) (joined block n) (block n) (omega (arith, front, block-fits size b n below)) ∙ is
+  earlier : b < n → block_in size (first_blocks block n) b ≡ block b → block_in size (first_blocks block n ++ block n) b ≡ block b
+  earlier below is = take-drop-front size (b * size) (first_blocks block n) (block n) (omega (arith, front, block-fits size b n below)) ∙ is
 
-  last : b ≡ n → block_in size (joined block n ++ block n) b ≡ block b
-  last same = subst (λ (x : ℕ). block_in size (joined block n ++ block n) x ≡ block x) (sym same) (ap (take size) (drop_at (joined block n) (block n) (n * size) front) ∙ take_all size (block n) (omega (arith, long n (omega arith))))
+  last : b ≡ n → block_in size (first_blocks block n ++ block n) b ≡ block b
+  last same = subst (λ (x : ℕ). block_in size (first_blocks block n ++ block n) x ≡ block x) (sym same) (ap (take size) (drop_at (first_blocks block n) (block n) (n * size) front) ∙ take_all size (block n) (omega (arith, long n (omega arith))))
 
 -- bytes are their blocks
-pub joined-block_of : (block : ℕ → List ℕ) (size n : ℕ) (bytes : List ℕ) → length bytes ≡ n * size → ((b : ℕ) → b < n → block_in size bytes b ≡ block b) → bytes ≡ joined block n
-unfolding joined
+pub joined-block_of : (block : ℕ → List ℕ) (size n : ℕ) (bytes : List ℕ) → length bytes ≡ n * size → ((b : ℕ) → b < n → block_in size bytes b ≡ block b) → bytes ≡ first_blocks block n
+unfolding first_blocks
 joined-block_of block size zero [] long same = refl
 joined-block_of block size zero (x ∷ bytes) long same = absurd (omega arith)
 joined-block_of block size (suc n) bytes long same =
     let front = joined-block_of block size n (take (n * size) bytes) (omega (arith, length-take (n * size) bytes)) (λ b less. take-drop-take size (b * size) (n * size) bytes (block-fits size b n less) ∙ same b (omega arith)) in
     let last : drop (n * size) bytes ≡ block n = sym (take_all size (drop (n * size) bytes) (omega (arith, length-drop (n * size) bytes))) ∙ same n (omega arith) in
-    sym (take-append-drop (n * size) bytes) ∙ ap (λ (xs : List ℕ). xs ++ drop (n * size) bytes) front ∙ ap (λ (ys : List ℕ). joined block n ++ ys) last
+    sym (take-append-drop (n * size) bytes) ∙ ap (λ (xs : List ℕ). xs ++ drop (n * size) bytes) front ∙ ap (λ (ys : List ℕ). first_blocks block n ++ ys) last
 
 -- joined blocks depend on the blocks alone
-pub joined-same : (block other : ℕ → List ℕ) (n : ℕ) → ((b : ℕ) → b < n → block b ≡ other b) → joined block n ≡ joined other n
-unfolding joined
+pub joined-same : (block other : ℕ → List ℕ) (n : ℕ) → ((b : ℕ) → b < n → block b ≡ other b) → first_blocks block n ≡ first_blocks other n
+unfolding first_blocks
 joined-same block other zero same = refl
-joined-same block other (suc n) same = ap (λ (xs : List ℕ). xs ++ block n) (joined-same block other n (λ b less. same b (omega arith))) ∙ ap (λ (ys : List ℕ). joined other n ++ ys) (same n (omega arith))
+joined-same block other (suc n) same = ap (λ (xs : List ℕ). xs ++ block n) (joined-same block other n (λ b less. same b (omega arith))) ∙ ap (λ (ys : List ℕ). first_blocks other n ++ ys) (same n (omega arith))
 
 pub length-block_of : (size n b : ℕ) (bytes : List ℕ) → length bytes ≡ n * size → b < n → length (block_in size bytes b) ≡ size
 length-block_of size n b bytes long less = length-take-le size (drop (b * size) bytes) (omega (arith, length-drop (b * size) bytes, block-fits size b n less))

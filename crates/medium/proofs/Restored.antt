@@ -5,27 +5,27 @@ use Rattle.medium.proofs.Overlays.{length-overlay, overlay-none, overlay-saved, 
 use Rattle.medium.proofs.Held.{held-long}
 use Rattle.medium.specs.Blocks.{AreHeldFrom}
 use Rattle.medium.specs.BlockMap.{held_block}
-use Rattle.medium.specs.Cached.{restored, AreRestoredLong}
+use Rattle.medium.specs.Cached.{restoration, AreRestoredLong}
 use Rattle.medium.specs.Device.{Device, IsSame, IsShaped, StayPrepared, IsTold, AreToldAt, patch_told}
 use Rattle.medium.specs.declared.block_map.BlockMap.{BlockMap}
 
 -- nothing is put back
-pub restored-none : (saved : ℕ → Option (List ℕ)) (size n : ℕ) (now : Option (List ℕ)) → ((b : ℕ) → saved b ≡ None) → IsTold now (n * size) → restored saved size n now ≡ now
+pub restored-none : (saved : ℕ → Option (List ℕ)) (size n : ℕ) (now : Option (List ℕ)) → ((b : ℕ) → saved b ≡ None) → IsTold now (n * size) → restoration saved size n now ≡ now
 restored-none saved size n None none long = refl
 restored-none saved size n (Some now) none long = ap Some (overlay-none saved size n now none long)
 
 -- blocks that were saved as they are change nothing
-pub restored-saved : (saved other : ℕ → Option (List ℕ)) (size n : ℕ) (now : Option (List ℕ)) (block count : ℕ) (piece : List ℕ) → AreHeldFrom saved other block count size piece → ((b : ℕ) → block ≤ b → b < block + count → saved b ≡ None) → length piece ≡ count * size → AreToldAt now (block * size) piece → restored other size n now ≡ restored saved size n now
+pub restored-saved : (saved other : ℕ → Option (List ℕ)) (size n : ℕ) (now : Option (List ℕ)) (block count : ℕ) (piece : List ℕ) → AreHeldFrom saved other block count size piece → ((b : ℕ) → block ≤ b → b < block + count → saved b ≡ None) → length piece ≡ count * size → AreToldAt now (block * size) piece → restoration other size n now ≡ restoration saved size n now
 restored-saved saved other size n None block count piece from none long told = refl
 restored-saved saved other size n (Some now) block count piece from none long told = ap Some (overlay-saved saved other size n now block count piece from none (told ∙ ap (λ (k : ℕ). take k (drop (block * size) now)) long))
 
 -- a write to blocks that are all saved changes nothing
-pub restored-covered : (saved : ℕ → Option (List ℕ)) (size n : ℕ) (now : Option (List ℕ)) (block count : ℕ) (piece : List ℕ) → ((b : ℕ) → block ≤ b → b < block + count → IsSome (saved b)) → length piece ≤ count * size → block * size ≤ n * size → IsTold now (n * size) → restored saved size n (patch_told now (block * size) piece) ≡ restored saved size n now
+pub restored-covered : (saved : ℕ → Option (List ℕ)) (size n : ℕ) (now : Option (List ℕ)) (block count : ℕ) (piece : List ℕ) → ((b : ℕ) → block ≤ b → b < block + count → IsSome (saved b)) → length piece ≤ count * size → block * size ≤ n * size → IsTold now (n * size) → restoration saved size n (patch_told now (block * size) piece) ≡ restoration saved size n now
 restored-covered saved size n None block count piece covered fits inside long = refl
 restored-covered saved size n (Some now) block count piece covered fits inside long = ap Some (overlay-covered saved size n now block count piece covered fits (subst (λ (k : ℕ). block * size ≤ k) (sym long) inside))
 
 -- a saved block that is written back need no more be put back
-pub restored-let_go : (saved other : ℕ → Option (List ℕ)) (size n : ℕ) (now : Option (List ℕ)) (b : ℕ) (block : List ℕ) → saved b ≡ Some block → other b ≡ None → ((q : ℕ) → q ≢ b → other q ≡ saved q) → length block ≡ size → IsTold now (n * size) → b < n → restored other size n (patch_told now (b * size) block) ≡ restored saved size n now
+pub restored-let_go : (saved other : ℕ → Option (List ℕ)) (size n : ℕ) (now : Option (List ℕ)) (b : ℕ) (block : List ℕ) → saved b ≡ Some block → other b ≡ None → ((q : ℕ) → q ≢ b → other q ≡ saved q) → length block ≡ size → IsTold now (n * size) → b < n → restoration other size n (patch_told now (b * size) block) ≡ restoration saved size n now
 restored-let_go saved other size n None b block was none others sized long inside = refl
 restored-let_go saved other size n (Some now) b block was none others sized long inside = ap Some (overlay-let_go saved other size n now b block was none others sized long inside)
 
@@ -67,7 +67,7 @@ cache-after d d' prepared prepared' saved saved' cache same shaped stay size hel
   size_is = size ∙ cache.size ∙ sym same.size
 
 -- nothing was saved: what is kept is what is there
-pub kept-none : (cached : Bool) (saved : ℕ → Option (List ℕ)) (size n : ℕ) (now kept : Option (List ℕ)) → ((b : ℕ) → saved b ≡ None) → IsTold now (n * size) → kept ≡ now → (if cached then restored saved size n now else now) ≡ kept
+pub kept-none : (cached : Bool) (saved : ℕ → Option (List ℕ)) (size n : ℕ) (now kept : Option (List ℕ)) → ((b : ℕ) → saved b ≡ None) → IsTold now (n * size) → kept ≡ now → (if cached then restoration saved size n now else now) ≡ kept
 kept-none false saved size n now kept none told is = sym is
 kept-none true saved size n now kept none told is = restored-none saved size n now none told ∙ sym is
 

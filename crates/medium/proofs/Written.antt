@@ -5,7 +5,7 @@ use Rattle.std.proofs.Math.Nat.{mul-le-mul_left}
 use Rattle.medium.proofs.Overlays.{block-fits}
 use Rattle.medium.proofs.Restored.{restored-covered}
 use Rattle.medium.proofs.Sizes.{count-is}
-use Rattle.medium.specs.Cached.{restored, HasTried, HoldsOthers, IsWrittenInside}
+use Rattle.medium.specs.Cached.{restoration, HasTried, HoldsOthers, IsWrittenInside}
 use Rattle.medium.specs.Counts.{Rose}
 use Rattle.medium.specs.Device.{Device, IsShaped, IsTransfer, IsWrite, patch_told, written}
 use Rattle.medium.specs.declared.block_failed.BlockFailed.{BlockFailed}
@@ -24,7 +24,7 @@ on-ok (Ok x) a b c same is = is ∙ same
 on-ok (Err fault) a b c same is = tt
 
 -- it was written once all of it was saved
-pub written-after : (d0 d1 d2 : Device) (cached : Bool) (saved saved' : ℕ → Option (List ℕ)) (lba : ℕ) (bytes : List ℕ) (result : Result (Unit {0}) BlockFailed) → cached ≡ true → IsShaped d0 → (t : IsTransfer d0 lba (length bytes)) → HasTried d0 (Ok tt) d1 → ((b : ℕ) → lba ≤ b → b < lba + t.count → IsSome (saved' b)) → HoldsOthers lba (lba + t.count) saved saved' → restored saved' d0.size d0.blocks d0.now ≡ restored saved d0.size d0.blocks d0.now → IsWrite d1 lba bytes result d2 → IsWrittenInside d0 cached saved saved' lba bytes result d2
+pub written-after : (d0 d1 d2 : Device) (cached : Bool) (saved saved' : ℕ → Option (List ℕ)) (lba : ℕ) (bytes : List ℕ) (result : Result (Unit {0}) BlockFailed) → cached ≡ true → IsShaped d0 → (t : IsTransfer d0 lba (length bytes)) → HasTried d0 (Ok tt) d1 → ((b : ℕ) → lba ≤ b → b < lba + t.count → IsSome (saved' b)) → HoldsOthers lba (lba + t.count) saved saved' → restoration saved' d0.size d0.blocks d0.now ≡ restoration saved d0.size d0.blocks d0.now → IsWrite d1 lba bytes result d2 → IsWrittenInside d0 cached saved saved' lba bytes result d2
 written-after d0 d1 d2 cached saved saved' lba bytes result is_cached shaped t tried held others kept write = record {
   same = record {
     first = write.command.same.first ∙ tried.same.first;
@@ -33,7 +33,7 @@ written-after d0 d1 d2 cached saved saved' lba bytes result is_cached shaped t t
     cached = write.command.same.cached ∙ tried.same.cached;
   };
   now = now_is;
-  restored = λ c. ap (restored saved' d0.size d0.blocks) now_is ∙ restored-covered saved' d0.size d0.blocks d0.now lba t.count (written result d0.size bytes) held (omega (arith, length-written result d0.size bytes, t.whole)) inside shaped.told_now ∙ kept;
+  restored = λ c. ap (restoration saved' d0.size d0.blocks) now_is ∙ restored-covered saved' d0.size d0.blocks d0.now lba t.count (written result d0.size bytes) held (omega (arith, length-written result d0.size bytes, t.whole)) inside shaped.told_now ∙ kept;
   uncached = λ un b. absurd (true-false (sym is_cached ∙ un));
   held = λ count whole. subst (λ (n : ℕ). HoldsOthers lba (lba + n) saved saved') (same_count count whole) others;
   later = let first = tried.later in let second = write.command.later in omega arith;

@@ -6,9 +6,9 @@ abbrev pub block_in : ℕ → List ℕ → ℕ → List ℕ
 block_in size bytes b = take size (drop (b * size) bytes)
 
 -- the first n blocks, one after another
-unfoldable pub joined : (ℕ → List ℕ) → ℕ → List ℕ
-joined block zero = []
-joined block (suc n) = joined block n ++ block n
+unfoldable pub first_blocks : (ℕ → List ℕ) → ℕ → List ℕ
+first_blocks block zero = []
+first_blocks block (suc n) = first_blocks block n ++ block n
 
 -- the block that stands in place of a block of the bytes, or else that one
 abbrev pub block_over : (ℕ → Option (List ℕ)) → ℕ → List ℕ → ℕ → List ℕ
@@ -16,7 +16,7 @@ block_over held size bytes b = unwrap_or (held b) (block_in size bytes b)
 
 -- n blocks of bytes, with other blocks in place of some
 abbrev pub overlay : (ℕ → Option (List ℕ)) → ℕ → ℕ → List ℕ → List ℕ
-overlay held size n bytes = joined (block_over held size bytes) n
+overlay held size n bytes = first_blocks (block_over held size bytes) n
 
 -- so many blocks from this one on are now held, and are those of the piece
 pub record AreHeldFrom (held other : ℕ → Option (List ℕ)) (block count size : ℕ) (piece : List ℕ) : Type 0 where

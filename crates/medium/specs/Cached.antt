@@ -10,16 +10,16 @@ use Rattle.medium.specs.declared.block_failed.BlockFailed.{BlockFailed}
 use Rattle.medium.specs.declared.block_map.BlockMap.{BlockMap}
 
 -- told bytes with saved blocks put back
-abbrev pub restored : (ℕ → Option (List ℕ)) → ℕ → ℕ → Option (List ℕ) → Option (List ℕ)
-restored saved size n None = None
-restored saved size n (Some now) = Some (overlay saved size n now)
+abbrev pub restoration : (ℕ → Option (List ℕ)) → ℕ → ℕ → Option (List ℕ) → Option (List ℕ)
+restoration saved size n None = None
+restoration saved size n (Some now) = Some (overlay saved size n now)
 
 -- the device inside, with counts of its own; where it is cached, it keeps the bytes with the saved blocks put back
 abbrev pub cached_device : Device → Bool → (ℕ → Option (List ℕ)) → ℕ → ℕ → Device
 cached_device inner cached saved calls failed = record {
   first = inner.first;
   now = inner.now;
-  kept = if cached then restored saved inner.size inner.blocks inner.now else inner.now;
+  kept = if cached then restoration saved inner.size inner.blocks inner.now else inner.now;
   size = inner.size;
   blocks = inner.blocks;
   cached = cached;
@@ -42,7 +42,7 @@ pub record IsReady (ready : Type 0) (cached : Bool) (saved : BlockMap) (bytes si
 abbrev pub AreRestoredLong : (ℕ → Option (List ℕ)) → Device → Type 0
 AreRestoredLong saved d = (bytes : List ℕ) → d.now ≡ Some bytes → length (overlay saved d.size d.blocks bytes) ≡ d.blocks * d.size
 
-told-restored : (cached : Bool) (saved : ℕ → Option (List ℕ)) (size n : ℕ) (now : Option (List ℕ)) (bytes : ℕ) → IsTold now bytes → ((told : List ℕ) → now ≡ Some told → length (overlay saved size n told) ≡ bytes) → IsTold (if cached then restored saved size n now else now) bytes
+told-restored : (cached : Bool) (saved : ℕ → Option (List ℕ)) (size n : ℕ) (now : Option (List ℕ)) (bytes : ℕ) → IsTold now bytes → ((told : List ℕ) → now ≡ Some told → length (overlay saved size n told) ≡ bytes) → IsTold (if cached then restoration saved size n now else now) bytes
 told-restored false saved size n now bytes told long = told
 told-restored true saved size n None bytes told long = tt
 told-restored true saved size n (Some now) bytes told long = long now refl
@@ -62,7 +62,7 @@ cached_shaped inner cached saved calls failed shaped long = record {
   told_first = shaped.told_first;
   told_now = shaped.told_now;
   told_kept = told-restored cached saved inner.size inner.blocks inner.now (inner.blocks * inner.size) shaped.told_now long;
-  uncached = kept-uncached cached (restored saved inner.size inner.blocks inner.now) inner.now;
+  uncached = kept-uncached cached (restoration saved inner.size inner.blocks inner.now) inner.now;
 }
 
 -- commands were made inside that change no byte: they ended at the first that failed
@@ -82,7 +82,7 @@ HoldsOthers first end saved saved' = ((b : ℕ) → b < first → saved' b ≡ s
 pub record IsWrittenInside (old : Device) (cached : Bool) (saved saved' : ℕ → Option (List ℕ)) (lba : ℕ) (bytes : List ℕ) (result : Result (Unit {0}) BlockFailed) (new : Device) : Type 0 where
   pub same : IsSame old new
   pub now : new.now ≡ patch_told old.now (lba * old.size) (written result old.size bytes)
-  pub restored : cached ≡ true → restored saved' old.size old.blocks new.now ≡ restored saved old.size old.blocks old.now
+  pub restored : cached ≡ true → restoration saved' old.size old.blocks new.now ≡ restoration saved old.size old.blocks old.now
   pub uncached : cached ≡ false → (b : ℕ) → saved' b ≡ saved b
   pub held : (count : ℕ) → length bytes ≡ count * old.size → HoldsOthers lba (lba + count) saved saved'
   pub later : old.faults ≤ new.faults

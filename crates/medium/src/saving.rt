@@ -1,6 +1,6 @@
 ghost use Rattle.std.specs.Prelude.{◌≡◌, ℕ, ◌+◌, ◌*◌, ◌^◌, ◌<◌, ◌≤◌, cond, length, is_none, IsSome, None, OnOk, OnErr, Ok};
 ghost use Rattle.medium.specs.BlockMap.{held_block, HasPlaceFor};
-ghost use Rattle.medium.specs.Cached.{restored, HasTried, HoldsOthers, most_blocks};
+ghost use Rattle.medium.specs.Cached.{restoration, HasTried, HoldsOthers, most_blocks};
 ghost use Rattle.medium.specs.Counts.{adds, Rose};
 ghost use Rattle.medium.specs.Device.{IsSame, StayPrepared, failures};
 ghost use Rattle.medium.specs.Saving.{unsaved_runs, AreSavedTo, HasMade};
@@ -42,7 +42,7 @@ fn save_run<M: Medium>(
     ensures calls { (M.device inner.new).calls ≡ adds (M.device inner.old).calls 1 }
     ensures failed { (M.device inner.new).failed ≡ adds (M.device inner.old).failed (failures result) }
     ensures prepared { StayPrepared (M.prepared inner.old) (M.prepared inner.new) }
-    ensures restored { restored (held_block saved.new) saved.old.size (M.device inner.old).blocks (M.device inner.old).now ≡ restored (held_block saved.old) saved.old.size (M.device inner.old).blocks (M.device inner.old).now }
+    ensures restored { restoration (held_block saved.new) saved.old.size (M.device inner.old).blocks (M.device inner.old).now ≡ restoration (held_block saved.old) saved.old.size (M.device inner.old).blocks (M.device inner.old).now }
     ensures held { OnOk result ((b : ℕ) → first ≤ b → b < first + count → IsSome (held_block saved.new b)) }
     ensures others { HoldsOthers first (first + count) (held_block saved.old) (held_block saved.new) }
     ensures stay { (b : ℕ) → HasPlaceFor saved.old b → HasPlaceFor saved.new b }
@@ -72,7 +72,7 @@ fn save_from<M: Medium>(
     ensures tried { HasTried (M.device inner.old) result (M.device inner.new) }
     ensures made { HasMade (M.device inner.old) result (M.device inner.new) (cond (is_none (held_block saved.old block)) 1 0) }
     ensures prepared { StayPrepared (M.prepared inner.old) (M.prepared inner.new) }
-    ensures restored { restored (held_block saved.new) saved.old.size (M.device inner.old).blocks (M.device inner.old).now ≡ restored (held_block saved.old) saved.old.size (M.device inner.old).blocks (M.device inner.old).now }
+    ensures restored { restoration (held_block saved.new) saved.old.size (M.device inner.old).blocks (M.device inner.old).now ≡ restoration (held_block saved.old) saved.old.size (M.device inner.old).blocks (M.device inner.old).now }
     ensures held { OnOk result (IsSome (held_block saved.new block)) }
     ensures run { OnOk result (AreSavedTo (held_block saved.old) (held_block saved.new) block end (block + 1)) }
     ensures others { HoldsOthers block end (held_block saved.old) (held_block saved.new) }
@@ -102,7 +102,7 @@ pub fn save<M: Medium>(
     ensures tried { HasTried (M.device inner.old) result (M.device inner.new) }
     ensures made { HasMade (M.device inner.old) result (M.device inner.new) (unsaved_runs (held_block saved.old) first count) }
     ensures prepared { StayPrepared (M.prepared inner.old) (M.prepared inner.new) }
-    ensures restored { restored (held_block saved.new) saved.old.size (M.device inner.old).blocks (M.device inner.old).now ≡ restored (held_block saved.old) saved.old.size (M.device inner.old).blocks (M.device inner.old).now }
+    ensures restored { restoration (held_block saved.new) saved.old.size (M.device inner.old).blocks (M.device inner.old).now ≡ restoration (held_block saved.old) saved.old.size (M.device inner.old).blocks (M.device inner.old).now }
     ensures held { OnOk result ((b : ℕ) → first ≤ b → b < first + count → IsSome (held_block saved.new b)) }
     ensures others { HoldsOthers first (first + count) (held_block saved.old) (held_block saved.new) }
     ensures stay { (b : ℕ) → HasPlaceFor saved.old b → HasPlaceFor saved.new b }
@@ -121,7 +121,7 @@ pub fn write_back<M: Medium>(inner: &mut M, saved: &mut BlockMap) -> Result<(), 
     requires inside { (b : ℕ) → IsSome (held_block saved.old b) → b < (M.device inner.old).blocks }
     requires ready { (b : ℕ) → IsSome (held_block saved.old b) → M.prepared inner.old b }
     ensures same { IsSame (M.device inner.old) (M.device inner.new) }
-    ensures now { OnOk result ((M.device inner.new).now ≡ restored (held_block saved.old) saved.old.size (M.device inner.old).blocks (M.device inner.old).now) }
+    ensures now { OnOk result ((M.device inner.new).now ≡ restoration (held_block saved.old) saved.old.size (M.device inner.old).blocks (M.device inner.old).now) }
     ensures cause { OnErr result (Rose (M.device inner.old).faults (M.device inner.new).faults) }
     ensures quiet { OnOk result ((M.device inner.new).faults ≡ (M.device inner.old).faults) }
 {

@@ -9,7 +9,7 @@ use Rattle.std.specs.Prelude.{slice_get, slice_range, IfSome, Option}
 use Rattle.std.proofs.lemmas.List.{get_or-map, length-map}
 use Rattle.std.proofs.lemmas.List.FromFn.{get_or-enumerate_from, length-enumerate_from}
 use Rattle.std.proofs.lemmas.Option.{slice_get_read}
-use Rattle.gpt_headers.specs.Entry.{entry_in, gives_partition, usable_of}
+use Rattle.gpt_headers.specs.Entry.{entry_in, entry_gives_partition, usable_entries}
 use Rattle.gpt_headers.specs.Fields.{HeaderFields}
 use Rattle.partition_tables.specs.declared.table.Child.{Child}
 use Rattle.partition_tables.specs.GptTable.{child_of_entry, entry_children}
@@ -23,17 +23,17 @@ pub entry-same : (i s s' : ℕ) (a a' : List ℕ) → s ≡ s' → a ≡ a' → 
 entry-same i s s' a a' p q = ap (λ (n : ℕ). entry_in (slice_range a (i * n) (i * n + 128))) p ∙ ap (λ (l : List ℕ). entry_in (slice_range l (i * s') (i * s' + 128))) q
 
 -- the flags tell which entries give a child
-pub flags-long : (blocks : ℕ) (h : HeaderFields) (entries : List GptEntry) (flags : List Bool) → flags ≡ usable_of h blocks entries → length flags ≡ length entries
-flags-long blocks h entries flags is = ap length is ∙ (length-map (enumerate_from 0 entries) (λ (i, e). gives_partition h blocks entries i e) ∙ length-enumerate_from 0 entries)
+pub flags-long : (blocks : ℕ) (h : HeaderFields) (entries : List GptEntry) (flags : List Bool) → flags ≡ usable_entries h blocks entries → length flags ≡ length entries
+flags-long blocks h entries flags is = ap length is ∙ (length-map (enumerate_from 0 entries) (λ (i, e). entry_gives_partition h blocks entries i e) ∙ length-enumerate_from 0 entries)
 
-pub flag-is : (blocks : ℕ) (h : HeaderFields) (entries : List GptEntry) (flags : List Bool) (place : ℕ) (flag : Bool) (e : GptEntry) → flags ≡ usable_of h blocks entries → place < length entries → e ≡ get_or entries place e
-    → flag ≡ get_or flags place flag → flag ≡ gives_partition h blocks entries place e
+pub flag-is : (blocks : ℕ) (h : HeaderFields) (entries : List GptEntry) (flags : List Bool) (place : ℕ) (flag : Bool) (e : GptEntry) → flags ≡ usable_entries h blocks entries → place < length entries → e ≡ get_or entries place e
+    → flag ≡ get_or flags place flag → flag ≡ entry_gives_partition h blocks entries place e
 flag-is blocks h entries flags place flag e is within here at =
-    let test : ℕ × GptEntry → Bool = λ (i, f). gives_partition h blocks entries i f in
-    let one : get_or (map test (enumerate_from 0 entries)) place flag ≡ gives_partition h blocks entries (0 + place) (get_or entries place e) =
+    let test : ℕ × GptEntry → Bool = λ (i, f). entry_gives_partition h blocks entries i f in
+    let one : get_or (map test (enumerate_from 0 entries)) place flag ≡ entry_gives_partition h blocks entries (0 + place) (get_or entries place e) =
     get_or-map test (enumerate_from 0 entries) place (0, e) flag (omega (arith, length-enumerate_from 0 entries)) ∙ ap test (get_or-enumerate_from 0 entries place (0, e) within) in
     let same : 0 + place ≡ place = omega arith in
-    at ∙ (ap (λ (l : List Bool). get_or l place flag) is ∙ (one ∙ (ap (λ (i : ℕ). gives_partition h blocks entries i (get_or entries place e)) same ∙ ap (gives_partition h blocks entries place) (sym here))))
+    at ∙ (ap (λ (l : List Bool). get_or l place flag) is ∙ (one ∙ (ap (λ (i : ℕ). entry_gives_partition h blocks entries i (get_or entries place e)) same ∙ ap (entry_gives_partition h blocks entries place) (sym here))))
 
 pub entry-inside : (blocks : ℕ) (entries : List GptEntry) (flags : List Bool) (place : ℕ) (flag : Bool) (e : GptEntry)
     → ((i : ℕ) → slice_get flags i ≡ Some true → IfSome (slice_get entries i) (λ e. (e.first ≤ e.last) × (e.last < blocks))) → length flags ≡ length entries → place < length entries → e ≡ get_or entries place e

@@ -8,7 +8,7 @@ use Rattle.history.specs.Setup.{Setup, size_of}
 use Rattle.history_laws.specs.Ranges.{AreOutside, IsOutside, OutsideStays}
 use Rattle.partition_tables.specs.declared.table.Child.{Child}
 use Rattle.partition_tables.proofs.Lying.{children_lie}
-use Rattle.partition_children.specs.Children.{view_of}
+use Rattle.partition_children.specs.Children.{child_view}
 use Rattle.partition_children.specs.Law.{AreOfView, ChildRequestsStay, ChildViewsLie, IsBeside}
 
 -- blocks that end where the medium's whole blocks do
@@ -25,14 +25,14 @@ pub child_views_lie : ChildViewsLie
 child_views_lie bytes size media_id = λ i child below. bytes_within _ _ size (length bytes) (children_lie bytes size i child below)
 
 module _ (S : Setup) (child : Child) (k x : ℕ) (beside : IsBeside child (size_of S) x) where
-  outside-view : IsOutside (view_of child k (size_of S)) k x
+  outside-view : IsOutside (child_view child k (size_of S)) k x
   outside-view = by beside
     where
-      by : IsBeside child (size_of S) x → IsOutside (view_of child k (size_of S)) k x
+      by : IsBeside child (size_of S) x → IsOutside (child_view child k (size_of S)) k x
       by (inl below) = inr (inl below)
       by (inr behind) = inr (inr (omega arith))
 
-  are-outside : (H more : List Entry) → AreOfView (view_of child k (size_of S)) H more → AreOutside H more k x
+  are-outside : (H more : List Entry) → AreOfView (child_view child k (size_of S)) H more → AreOutside H more k x
   unfolding AreOfView AreOutside
   are-outside H [] all = tt
   are-outside H (e ∷ earlier) (of, all) =

@@ -13,7 +13,7 @@ use Rattle.partition_tables.specs.Blocks.{boot_record_at}
 use Rattle.partition_tables.specs.MbrTable.{chain_of, child_of_record, logical_in, logicals_of}
 use Rattle.partition_tables.specs.Law.{ChainIsFollowed}
 use Rattle.disk_core.specs.State.{State}
-use Rattle.partition_children.specs.Probing.{Made}
+use Rattle.partition_children.specs.Probing.{AreReadsMade}
 use Rattle.partition_children.specs.Reads.{chain_reads, record_read}
 use Rattle.partition_children.proofs.Stages.{made-none, made-on}
 
@@ -40,7 +40,7 @@ module _ (bytes : List ℕ) (size signature : ℕ) (extended : ℕ × ℕ) where
   pub record Front (old new : State) (k : ℕ) (fed : List (List ℕ)) (before now : List Child) (number : ℕ) : Type 0 where
     pub within : length fed ≤ length chain
     pub fed_is : fed ≡ map (boot_record_at bytes size) (take (length fed) chain)
-    pub made : Made old k (map (record_read size) (take (length fed) chain)) new
+    pub made : AreReadsMade old k (map (record_read size) (take (length fed) chain)) new
     pub children : now ≡ before ++ children_of (take (length fed) chain)
     pub numbered : number ≡ 5 + length (logicals (take (length fed) chain))
 
@@ -65,7 +65,7 @@ module _ (bytes : List ℕ) (size signature : ℕ) (extended : ℕ × ℕ) where
     next-at = ap (λ (f : List (List ℕ)). next_record_block (trail_of extended.0 extended.1 f)) front.fed_is ∙ law bytes size extended (length fed) front.within
 
     pub front-more : (own : ℕ) (block : List ℕ) (after : List Child) (number' : ℕ) → mid.setup ≡ old.setup → next_record_block (trail_of extended.0 extended.1 fed) ≡ Some own
-        → Made mid k (record_read size own ∷ []) new → block ≡ boot_record_at bytes size own → Adds own now after number number' → Front old new k (fed ++ block ∷ []) before after number'
+        → AreReadsMade mid k (record_read size own ∷ []) new → block ≡ boot_record_at bytes size own → Adds own now after number number' → Front old new k (fed ++ block ∷ []) before after number'
     front-more own block after number' setup next made is adds =
         let there : slice_get chain (length fed) ≡ Some own = sym next-at ∙ next in
         let below : length fed < length chain = slice_get_within chain (length fed) own there in
@@ -73,11 +73,11 @@ module _ (bytes : List ℕ) (size signature : ℕ) (extended : ℕ × ℕ) where
         let count : length (fed ++ block ∷ []) ≡ suc (length fed) = omega (arith, length-append fed (block ∷ [])) in
         let more : take (length (fed ++ block ∷ [])) chain ≡ owns ++ own ∷ [] =
         ap (λ (n : ℕ). take n chain) count ∙ (take-suc chain (length fed) own below ∙ ap (λ (x : ℕ). owns ++ x ∷ []) (get_or_from_slice_get chain (length fed) own own there)) in
-        let both : Made old k (map (record_read size) owns ++ record_read size own ∷ []) new = made-on old mid new k (map (record_read size) owns) (record_read size own ∷ []) setup front.made made in
+        let both : AreReadsMade old k (map (record_read size) owns ++ record_read size own ∷ []) new = made-on old mid new k (map (record_read size) owns) (record_read size own ∷ []) setup front.made made in
         record {
           within = omega (arith, count, below);
           fed_is = rw more (ap (λ (f : List (List ℕ)). f ++ block ∷ []) front.fed_is ∙ (ap (λ (b : List ℕ). map (boot_record_at bytes size) owns ++ b ∷ []) is ∙ sym (map-append (boot_record_at bytes size) owns (own ∷ []))));
-          made = subst (λ (reads : List (ℕ × ℕ)). Made old k reads new) (sym (ap (map (record_read size)) more ∙ map-append (record_read size) owns (own ∷ []))) both;
+          made = subst (λ (reads : List (ℕ × ℕ)). AreReadsMade old k reads new) (sym (ap (map (record_read size)) more ∙ map-append (record_read size) owns (own ∷ []))) both;
           children = (by adds more).0;
           numbered = (by adds more).1;
         }
@@ -100,11 +100,11 @@ module _ (bytes : List ℕ) (size signature : ℕ) (extended : ℕ × ℕ) where
             )
 
     -- where the chain has ended, all of it was read
-    pub front-whole : next_record_block (trail_of extended.0 extended.1 fed) ≡ None → Made old k (chain_reads bytes size extended) mid × (now ≡ before ++ logicals_of bytes size signature extended)
+    pub front-whole : next_record_block (trail_of extended.0 extended.1 fed) ≡ None → AreReadsMade old k (chain_reads bytes size extended) mid × (now ≡ before ++ logicals_of bytes size signature extended)
     front-whole ended =
         let past : length chain ≤ length fed = ends (sym next-at ∙ ended) in
         let all : take (length fed) chain ≡ chain = take_all (length fed) chain past in
-        (subst (λ (owns : List ℕ). Made old k (map (record_read size) owns) mid) all front.made, front.children ∙ ap (λ (owns : List ℕ). before ++ children_of owns) all)
+        (subst (λ (owns : List ℕ). AreReadsMade old k (map (record_read size) owns) mid) all front.made, front.children ∙ ap (λ (owns : List ℕ). before ++ children_of owns) all)
       where
         ends : slice_get chain (length fed) ≡ None → length chain ≤ length fed
         ends none = at_end chain (length fed) none

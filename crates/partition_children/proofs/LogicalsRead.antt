@@ -12,7 +12,7 @@ use Rattle.partition_tables.specs.MbrTable.{child_of_record, logical_in, logical
 use Rattle.partition_tables.proofs.Following.{chain_is_followed, logicals_are_given}
 use Rattle.disk_core.specs.State.{State}
 use Rattle.partition_children.specs.declared.reading.Target.{Target}
-use Rattle.partition_children.specs.Probing.{IsQuiet, Made, Stays}
+use Rattle.partition_children.specs.Probing.{IsQuiet, AreReadsMade, AddsEntriesAlone}
 use Rattle.partition_children.specs.Reads.{chain_reads, record_read}
 use Rattle.partition_children.proofs.Headers.{stays-then}
 use Rattle.partition_children.proofs.Logicals.{Adds, Front, front-more, front-none, front-whole, numbered_child}
@@ -37,7 +37,7 @@ none-given (Some l) e = cc
 
 -- some records of the chain were read
 pub record SoFar (old : State) (target : Target) (signature : ℕ) (begun : Trail) (before : List Child) (new : State) (chain : Trail) (now : List Child) (number : ℕ) : Type 0 where
-  pub stays : Stays old 0 new
+  pub stays : AddsEntriesAlone old 0 new
   pub fed : List (List ℕ)
   pub trail : chain ≡ trail_of begun.start begun.size fed
   pub few : number ≤ 5 + length fed
@@ -65,8 +65,8 @@ module _ (old : State) (target : Target) (signature : ℕ) (begun : Trail) (befo
     fed-count = ap count_of so_far.trail ∙ omega (arith, length-map so_far.fed link_of)
 
     -- one more record, and the child that it gives
-    module _ (new : State) (own : ℕ) (block : List ℕ) (next : next_record_block chain ≡ Some own) (stays : Stays mid 0 new)
-        (found : (bytes : List ℕ) → contents mid.setup k mid.entries ≡ Some bytes → Made mid k (record_read target.size own ∷ []) new × (block ≡ boot_record_at bytes target.size own))
+    module _ (new : State) (own : ℕ) (block : List ℕ) (next : next_record_block chain ≡ Some own) (stays : AddsEntriesAlone mid 0 new)
+        (found : (bytes : List ℕ) → contents mid.setup k mid.entries ≡ Some bytes → AreReadsMade mid k (record_read target.size own ∷ []) new × (block ≡ boot_record_at bytes target.size own))
         (chain' : Trail) (feeds : (start size : ℕ) (fed : List (List ℕ)) → chain ≡ trail_of start size fed → chain' ≡ trail_of start size (fed ++ block ∷ [])) where
       next-fed : next_record_block (trail_of begun.start begun.size so_far.fed) ≡ Some own
       next-fed = ap next_record_block (sym so_far.trail) ∙ next
@@ -106,6 +106,6 @@ module _ (old : State) (target : Target) (signature : ℕ) (begun : Trail) (befo
 
     -- the chain has ended
     pub so_far-whole : next_record_block chain ≡ None → (bytes : List ℕ) → contents old.setup k old.entries ≡ Some bytes
-        → Made old k (chain_reads bytes target.size extended) mid × (now ≡ before ++ logicals_of bytes target.size signature extended)
+        → AreReadsMade old k (chain_reads bytes target.size extended) mid × (now ≡ before ++ logicals_of bytes target.size signature extended)
     so_far-whole ended bytes holds =
         front-whole bytes target.size signature extended chain_is_followed old mid mid k so_far.fed before now number (so_far.front bytes holds) (ap next_record_block (sym so_far.trail) ∙ ended)

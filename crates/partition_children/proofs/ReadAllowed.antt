@@ -25,7 +25,7 @@ use Rattle.disk_io2.specs.Views.{whole_view}
 use Rattle.partition_children.specs.declared.reading.ReadFault.{ReadFault}
 use Rattle.partition_children.specs.declared.reading.ReadFault.TheVariants.{Device, Memory}
 use Rattle.partition_children.specs.Entries.{read_asked}
-use Rattle.partition_children.specs.Probing.{EndsRead, FailsToRead, IsIn, IsQuiet, Reads, Stays, failures_of}
+use Rattle.partition_children.specs.Probing.{EndsRead, FailsToRead, IsIn, IsQuiet, Reads, AddsEntriesAlone, read_failures}
 use Rattle.partition_children.proofs.Served.{Served, served}
 use Rattle.partition_children.proofs.ReadAnswers.{fails-so, failed-stays, reads-so, stays-so}
 
@@ -34,7 +34,7 @@ unfolding refusal_of
 unrefused S H k at n present in_ fits =
     rw (present, in_, eq-eqb k k refl, le-ltb (blocks_of S k * size_of S) (0 + blocks_of S k * size_of S) (omega arith), le-ltb (blocks_of S k * size_of S) at (omega arith), le-ltb (blocks_of S k * size_of S - at) n (omega arith)) refl
 
-pub stays-same : (s : State) → IsQuiet s → Stays s 0 s
+pub stays-same : (s : State) → IsQuiet s → AddsEntriesAlone s 0 s
 stays-same s quiet = record {
   setup = refl;
   more = [];
@@ -71,13 +71,13 @@ module _ (old new : State) (view : View) (k at : ℕ) (buffer : Vec ℕ) (n : �
         (reads-so old new k (at, length buffer.items) is quiet.drained b.items of-success (sym in_.named)
         (λ bytes holds. omega (arith, inside, contents-long old.setup k old.entries bytes is told legal holds)))
 
-    pub ok-stays : Stays old 0 new
+    pub ok-stays : AddsEntriesAlone old 0 new
     ok-stays = stays-so old new k (at, length buffer.items) is quiet.drained b.items of-success idle
 
   -- what is answered where it did not
   pub record Ended (fault : ReadFault) : Type 0 where
     pub ends : EndsRead old k (at, n) fault new
-    pub stays : Stays old (failures_of {X = ℕ} (Err fault)) new
+    pub stays : AddsEntriesAlone old (read_failures {X = ℕ} (Err fault)) new
 
   pub ended : (back : Refused) (fault : ReadFault) → BlockingSays old 0 view k (ask.Read at buffer) (Err back) new → (back.why ≡ why.Memory → fault ≡ Memory) → ((status : Status) → back.why ≡ why.Status status → fault ≡ Device) → Ended fault
   unfolding BlockingSays EndsRead
@@ -85,7 +85,7 @@ module _ (old new : State) (view : View) (k at : ℕ) (buffer : Vec ℕ) (n : �
     where
       by : (w : Why) → back.why ≡ w → FailsFor old 0 view k (ask.Read at buffer) w back.buffer.items new → Ended fault
       by why.Memory is_why forgets =
-          subst Ended (sym (memory is_why)) (record { ends = forgets.same; stays = subst (λ (s : State). Stays old 0 s) (sym forgets.same) (stays-same old quiet) })
+          subst Ended (sym (memory is_why)) (record { ends = forgets.same; stays = subst (λ (s : State). AddsEntriesAlone old 0 s) (sym forgets.same) (stays-same old quiet) })
       by (why.Status status) is_why (inl refuses) =
           let none = unrefused old.setup old.entries k at (length buffer.items) in_.present in_.named inside in
           let some = subst (λ (v : View). refusal_of old.setup old.entries v (read_asked (at, length buffer.items)) k ≡ Some status) is_whole refuses.refused in

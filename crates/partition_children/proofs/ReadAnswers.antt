@@ -22,7 +22,7 @@ use Rattle.disk_core.specs.Turns.{IsIdle}
 use Rattle.history_laws.specs.Serving.{AreWhileOpen, AreOwnInOrder, Continues, ends_in_fault}
 use Rattle.disk_io2.specs.Views.{whole_view}
 use Rattle.partition_children.specs.Entries.{after_read, get_of, gets_of, read_asked}
-use Rattle.partition_children.specs.Probing.{FailsToRead, Reads, Stays}
+use Rattle.partition_children.specs.Probing.{FailsToRead, Reads, AddsEntriesAlone}
 use Rattle.partition_children.proofs.Gets.{AreGets, Got, got-all, next-unit, open-sound}
 use Rattle.partition_children.proofs.Served.{Served}
 use Rattle.partition_children.proofs.Staying.{Commands, LastFails, read-stays}
@@ -57,7 +57,7 @@ module _ (old new : State) (k : ℕ) (read : ℕ × ℕ) (is : IsSetup old.setup
         by None holds = tt
         by (Some told) holds = told-back old.setup old.entries k read is drained s.cs s.legal s.open_ s.own bytes in_ all-got.gets s.marked s.got s.long told holds (fits told holds)
 
-    pub stays-so : IsIdle new.gates → Stays old 0 new
+    pub stays-so : IsIdle new.gates → AddsEntriesAlone old 0 new
     stays-so idle = read-stays old new view read Success false bytes 0 s (inl (refl, all-got.gets)) idle
 
   -- a read of which a command failed
@@ -104,6 +104,6 @@ module _ (old new : State) (k : ℕ) (read : ℕ × ℕ) (is : IsSetup old.setup
           ∙ ap (λ (cs : List Entry). Collect 0 t ∷ (cs ++ H)) (breaks.is_last ∙ ap (λ (cs : List Entry). Fault t (Get breaks.failed.block breaks.failed.count) 0 ∷ cs) breaks.got.commands);
     }
 
-    pub failed-stays : IsIdle new.gates → Stays old 1 new
+    pub failed-stays : IsIdle new.gates → AddsEntriesAlone old 1 new
     failed-stays idle =
         read-stays old new view read DeviceError true bytes 1 s (inr (refl, record { earlier = breaks.earlier; unit = breaks.failed; is = breaks.is_last; gets = breaks.got.gets })) idle

@@ -4,19 +4,19 @@ use Rattle.std.specs.List.{enumerate_from}
 use Rattle.std.proofs.lemmas.List.{get_or-map, length-map}
 use Rattle.std.proofs.lemmas.List.FromFn.{get_or-enumerate_from, length-enumerate_from}
 use Rattle.mbr_records.specs.declared.partition_record.MbrRecord.{MbrRecord}
-use Rattle.mbr_records.specs.Block.{Fields, gives_partition, usable_of}
+use Rattle.mbr_records.specs.Block.{Fields, record_gives_partition, usable_records}
 use Rattle.partition_tables.specs.declared.table.Child.{Child}
 use Rattle.partition_tables.specs.MbrTable.{child_of_record}
 
 -- the record at a place gives a child, and which one
 abbrev pub gives_child : ℕ → Fields → ℕ × MbrRecord → Bool
-gives_child blocks mbr (i, r) = gives_partition blocks mbr.records i r
+gives_child blocks mbr (i, r) = record_gives_partition blocks mbr.records i r
 
 abbrev pub child_at : Fields → ℕ × MbrRecord → Child
 child_at mbr (i, r) = child_of_record mbr.signature (i + 1) r (r.start, r.size)
 
 -- the flags tell which records give one
-pub records-flag : (blocks : ℕ) (mbr : Fields) (flags : List Bool) (place : ℕ) (r : MbrRecord) (b : Bool) → flags ≡ usable_of blocks mbr.records → place < length mbr.records → r ≡ get_or mbr.records place r
+pub records-flag : (blocks : ℕ) (mbr : Fields) (flags : List Bool) (place : ℕ) (r : MbrRecord) (b : Bool) → flags ≡ usable_records blocks mbr.records → place < length mbr.records → r ≡ get_or mbr.records place r
     → get_or flags place b ≡ gives_child blocks mbr (place, r)
 records-flag blocks mbr flags place r b is within here =
     let gives = gives_child blocks mbr in

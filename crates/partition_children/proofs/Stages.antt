@@ -17,15 +17,15 @@ use Rattle.partition_children.specs.declared.reading.Target.{Target}
 use Rattle.partition_children.specs.Entries.{after_read, after_reads}
 use Rattle.partition_children.specs.Reads.{record_read}
 use Rattle.partition_tables.specs.Blocks.{boot_record_at}
-use Rattle.partition_children.specs.Probing.{IsQuiet, IsTargetOf, Made, Reads, Stays}
+use Rattle.partition_children.specs.Probing.{IsQuiet, IsTargetOf, AreReadsMade, Reads, AddsEntriesAlone}
 
 -- one read
-pub made-one : (old new : State) (k : ℕ) (read : ℕ × ℕ) (b : List ℕ) → Reads old k read b new → Made old k (read ∷ []) new
+pub made-one : (old new : State) (k : ℕ) (read : ℕ × ℕ) (b : List ℕ) → Reads old k read b new → AreReadsMade old k (read ∷ []) new
 unfolding after_reads
 made-one old new k read b reads = reads.entries
 
 pub found-read : (old new : State) (k at n : ℕ) (r : Result (Vec ℕ) ReadFault) → IfOk r (λ b. Reads old k (at, n) b.items new) → (told : List ℕ) → contents old.setup k old.entries ≡ Some told
-    → IfOk r (λ b. Made old k ((at, n) ∷ []) new × (b.items ≡ slice_range told at (at + n)))
+    → IfOk r (λ b. AreReadsMade old k ((at, n) ∷ []) new × (b.items ≡ slice_range told at (at + n)))
 found-read old new k at n (Ok b) reads told holds =
     let same : AreToldAt (Some told) at b.items = subst (λ (o : Option (List ℕ)). AreToldAt o at b.items) holds reads.told in
     let count : length b.items ≡ at + n - at = omega (arith, reads.long) in
@@ -38,11 +38,11 @@ unfolding after_reads
 after-both S k H [] then = refl
 after-both S k H (read ∷ first) then = after-both S k (after_read S k H read) first then
 
-pub made-on : (a b c : State) (k : ℕ) (first then : List (ℕ × ℕ)) → b.setup ≡ a.setup → Made a k first b → Made b k then c → Made a k (first ++ then) c
+pub made-on : (a b c : State) (k : ℕ) (first then : List (ℕ × ℕ)) → b.setup ≡ a.setup → AreReadsMade a k first b → AreReadsMade b k then c → AreReadsMade a k (first ++ then) c
 made-on a b c k first then same one two =
     two ∙ (ap (λ (S : Setup). after_reads S k b.entries then) same ∙ (ap (λ (H : List Entry). after_reads a.setup k H then) one ∙ sym (after-both a.setup k a.entries first then)))
 
-pub made-none : (s : State) (k : ℕ) → Made s k [] s
+pub made-none : (s : State) (k : ℕ) → AreReadsMade s k [] s
 unfolding after_reads
 made-none s k = refl
 
@@ -51,14 +51,14 @@ collected-stays : (H : List Entry) (e : Entry) (t : ℕ) → was_collected H t �
 unfolding was_collected
 collected-stays H e t was = or_right (is_collect_of t e) (was_collected H t) was
 
-pub told-still : (old new : State) (k f : ℕ) → Stays old f new → (bytes : List ℕ) → contents new.setup k new.entries ≡ Some bytes → contents old.setup k old.entries ≡ Some bytes
+pub told-still : (old new : State) (k f : ℕ) → AddsEntriesAlone old f new → (bytes : List ℕ) → contents new.setup k new.entries ≡ Some bytes → contents old.setup k old.entries ≡ Some bytes
 told-still old new k f stays bytes holds = sym (stays.bytes k) ∙ subst (λ (S : Setup). contents S k new.entries ≡ Some bytes) stays.setup holds
 
-pub told-on : (old new : State) (k f : ℕ) → Stays old f new → (bytes : List ℕ) → contents old.setup k old.entries ≡ Some bytes → contents new.setup k new.entries ≡ Some bytes
+pub told-on : (old new : State) (k f : ℕ) → AddsEntriesAlone old f new → (bytes : List ℕ) → contents old.setup k old.entries ≡ Some bytes → contents new.setup k new.entries ≡ Some bytes
 told-on old new k f stays bytes holds = ap (λ (S : Setup). contents S k new.entries) stays.setup ∙ (stays.bytes k ∙ holds)
 
 -- a disk stays, and then stays
-pub stays-on : (a b c : State) (f g : ℕ) → Stays a f b → Stays b g c → Stays a (f + g) c
+pub stays-on : (a b c : State) (f g : ℕ) → AddsEntriesAlone a f b → AddsEntriesAlone b g c → AddsEntriesAlone a (f + g) c
 stays-on a b c f g one two = record {
   setup = two.setup ∙ one.setup;
   more = two.more ++ one.more;
@@ -80,7 +80,7 @@ stays-on a b c f g one two = record {
     collected-later (e ∷ more) H t was = collected-stays (more ++ H) e t (collected-later more H t was)
 
 -- the medium is still the one that is probed
-pub target-stays : (old new : State) (target : Target) (f : ℕ) → IsTargetOf old target → Stays old f new → IsTargetOf new target
+pub target-stays : (old new : State) (target : Target) (f : ℕ) → IsTargetOf old target → AddsEntriesAlone old f new → IsTargetOf new target
 target-stays old new target f is stays = record {
   is_in = record { present = stays.present ∙ is.is_in.present; named = stays.media_id ∙ is.is_in.named };
   whole = is.whole ∙ ap (λ (S : Setup). whole_view S target.view.media_id) (sym stays.setup);
@@ -94,12 +94,12 @@ target-stays old new target f is stays = record {
 
 -- the same where the read is named otherwise
 pub found-at : (old new : State) (k at n at' : ℕ) (r : Result (Vec ℕ) ReadFault) → at' ≡ at → IfOk r (λ b. Reads old k (at', n) b.items new) → (told : List ℕ) → contents old.setup k old.entries ≡ Some told
-    → IfOk r (λ b. Made old k ((at, n) ∷ []) new × (b.items ≡ slice_range told at (at + n)))
+    → IfOk r (λ b. AreReadsMade old k ((at, n) ∷ []) new × (b.items ≡ slice_range told at (at + n)))
 found-at old new k at n at' r same reads = found-read old new k at n r (subst (λ (a : ℕ). IfOk r (λ b. Reads old k (a, n) b.items new)) same reads)
 
 -- the first 512 bytes of a block that were read
 pub found-record : (old new : State) (k size lba at' n : ℕ) (b copied out : List ℕ) → at' ≡ lba * size → n ≡ 512 → Reads old k (at', 512) b new → copied ≡ b → out ≡ take n (drop 0 copied)
-    → (told : List ℕ) → contents old.setup k old.entries ≡ Some told → Made old k (record_read size lba ∷ []) new × (out ≡ boot_record_at told size lba)
+    → (told : List ℕ) → contents old.setup k old.entries ≡ Some told → AreReadsMade old k (record_read size lba ∷ []) new × (out ≡ boot_record_at told size lba)
 found-record old new k size lba at' n b copied out same count reads was is told holds =
     let at = lba * size in
     let reads_at : Reads old k (at, 512) b new = subst (λ (a : ℕ). Reads old k (a, 512) b new) same reads in

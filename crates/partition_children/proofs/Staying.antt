@@ -19,7 +19,7 @@ use Rattle.history_laws.proofs.MediaLemmas.{media-id-same, present-same}
 use Rattle.disk_core.specs.State.{State}
 use Rattle.disk_core.specs.Turns.{IsIdle}
 use Rattle.partition_children.specs.Entries.{get_of, read_asked}
-use Rattle.partition_children.specs.Probing.{IsQuiet, Stays}
+use Rattle.partition_children.specs.Probing.{IsQuiet, AddsEntriesAlone}
 use Rattle.partition_children.proofs.Gets.{AreGets}
 use Rattle.partition_children.proofs.Served.{Served}
 
@@ -110,7 +110,7 @@ collected-now t G = rw (eq-eqb t t refl) refl
 
 -- what a served read leaves of the disk
 pub read-stays : (old new : State) (view : View) (read : ℕ × ℕ) (status : Status) (failed : Bool) (bytes : List ℕ) (f : ℕ) (s : Served old.setup old.entries view read status failed bytes new)
-    → Commands (accepted old.entries) f s.cs → IsIdle new.gates → Stays old f new
+    → Commands (accepted old.entries) f s.cs → IsIdle new.gates → AddsEntriesAlone old f new
 read-stays old new view read status failed bytes f s all idle =
     let accept : Entry = Accept 0 view (read_asked read) [] in
     let t = accepted old.entries in

@@ -11,8 +11,8 @@ use Rattle.partition_tables.specs.declared.table.Origin.{Origin}
 use Rattle.partition_tables.specs.declared.table.Origin.TheVariants as origins
 
 -- the bytes of a child on the medium with this id, of blocks of this size
-abbrev pub view_of : Child → ℕ → ℕ → View
-view_of child media_id size =
+abbrev pub child_view : Child → ℕ → ℕ → View
+child_view child media_id size =
     record { start = child.first * size; length = child.blocks * size; media_id = media_id; index = child.number }
 
 -- which table names the child
@@ -21,29 +21,29 @@ format_of (origins.Mbr os_type signature boot) = formats.Mbr
 format_of (origins.Gpt kind unique attributes) = formats.Gpt
 
 -- the signature of its disk's master boot record, or its own GUID
-abbrev pub sign_of : Origin → Sign
-sign_of (origins.Mbr os_type signature boot) = signs.Mbr signature
-sign_of (origins.Gpt kind unique attributes) = signs.Guid unique
+abbrev pub origin_sign : Origin → Sign
+origin_sign (origins.Mbr os_type signature boot) = signs.Mbr signature
+origin_sign (origins.Gpt kind unique attributes) = signs.Guid unique
 
 -- the child as a device path names it
-abbrev pub node_of : Child → HardDrive
-node_of child = record {
+abbrev pub child_node : Child → HardDrive
+child_node child = record {
   number = child.number;
   start = child.first;
   size = child.blocks;
   format = format_of child.origin;
-  sign = sign_of child.origin;
+  sign = origin_sign child.origin;
 }
 
 -- no child before this place has this node
 abbrev pub AreOthersBefore : List Child → HardDrive → ℕ → Type 0
-AreOthersBefore children node place = (i : ℕ) (child : Child) → i < place → slice_get children i ≡ Some child → node_of child ≢ node
+AreOthersBefore children node place = (i : ℕ) (child : Child) → i < place → slice_get children i ≡ Some child → child_node child ≢ node
 
 -- the child at this place has this node, and none before it has
 pub record IsFirstWith (children : List Child) (node : HardDrive) (place : ℕ) : Type 0 where
   pub child : Child
   pub there : slice_get children place ≡ Some child
-  pub is : node_of child ≡ node
+  pub is : child_node child ≡ node
   pub others : AreOthersBefore children node place
 
 -- no two children have the same number
@@ -54,4 +54,4 @@ HaveOwnNumbers children =
 -- where they have not, the node of each child finds that child alone
 abbrev pub FindsItsChild : List Child → HardDrive → Option ℕ → Type 0
 FindsItsChild children node result =
-    (i : ℕ) (child : Child) → HaveOwnNumbers children → slice_get children i ≡ Some child → node_of child ≡ node → result ≡ Some i
+    (i : ℕ) (child : Child) → HaveOwnNumbers children → slice_get children i ≡ Some child → child_node child ≡ node → result ≡ Some i

@@ -9,13 +9,13 @@ use Rattle.history.specs.Contents.{contents, byte_at}
 use Rattle.history.specs.Room.{is_command_of}
 use Rattle.partition_tables.specs.declared.table.Child.{Child}
 use Rattle.partition_tables.specs.Table.{table_of}
-use Rattle.partition_children.specs.Children.{view_of}
+use Rattle.partition_children.specs.Children.{child_view}
 
 -- each child's view ends where the medium's bytes do, or before
 abbrev pub ChildViewsLie : Type 0
 ChildViewsLie =
     (bytes : List ℕ) (size media_id : ℕ)
-    → All (λ child. (view_of child media_id size).start + (view_of child media_id size).length ≤ length bytes) (table_of bytes size).children
+    → All (λ child. (child_view child media_id size).start + (child_view child media_id size).length ≤ length bytes) (table_of bytes size).children
 
 -- each of these entries that is a command is one of a request of this view; they stand on top of a history
 unfoldable pub AreOfView : View → List Entry → List Entry → Type 0
@@ -30,5 +30,5 @@ IsBeside child size x = (x < child.first * size) ⊎ ((child.first + child.block
 -- such a byte is as it was, whatever the requests of the child did
 abbrev pub ChildRequestsStay : Setup → List Entry → Type 0
 ChildRequestsStay S all =
-    (child : Child) (k x : ℕ) (more before : List Entry) → all ≡ more ++ before → AreOfView (view_of child k (size_of S)) before more → IsBeside child (size_of S) x
+    (child : Child) (k x : ℕ) (more before : List Entry) → all ≡ more ++ before → AreOfView (child_view child k (size_of S)) before more → IsBeside child (size_of S) x
     → byte_at (contents S k all) x ≡ byte_at (contents S k before) x

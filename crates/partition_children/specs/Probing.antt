@@ -40,7 +40,7 @@ pub record IsIn (s : State) (k : ℕ) : Type 0 where
 
 -- Entries were added, and every other thing stays: the setup, which medium is in, its bytes and those that are kept. Each new token was
 -- handed back, and so many commands failed.
-pub record Stays (old : State) (failed : ℕ) (new : State) : Type 0 where
+pub record AddsEntriesAlone (old : State) (failed : ℕ) (new : State) : Type 0 where
   pub setup : new.setup ≡ old.setup
   pub more : List Entry
   pub entries : new.entries ≡ more ++ old.entries
@@ -73,10 +73,10 @@ EndsRead old k read Device new = FailsToRead old k read new
 EndsRead old k read Memory new = new ≡ old
 
 -- how many commands fail where a call answers so
-abbrev pub failures_of : {X : Type 0} → Result X ReadFault → ℕ
-failures_of (Ok x) = 0
-failures_of (Err Device) = 1
-failures_of (Err Memory) = 0
+abbrev pub read_failures : {X : Type 0} → Result X ReadFault → ℕ
+read_failures (Ok x) = 0
+read_failures (Err Device) = 1
+read_failures (Err Memory) = 0
 
 -- the same of a probe
 abbrev pub probe_failures : Result Table ProbeFault → ℕ
@@ -86,8 +86,8 @@ probe_failures (Err ends.Device) = 1
 probe_failures (Err ends.Memory) = 0
 
 -- these reads were made one after the other, and nothing else
-abbrev pub Made : State → ℕ → List (ℕ × ℕ) → State → Type 0
-Made old k reads new = new.entries ≡ after_reads old.setup k old.entries reads
+abbrev pub AreReadsMade : State → ℕ → List (ℕ × ℕ) → State → Type 0
+AreReadsMade old k reads new = new.entries ≡ after_reads old.setup k old.entries reads
 
 -- the medium that is probed: it is in, and these are its view, its blocks and their size
 pub record IsTargetOf (s : State) (target : Target) : Type 0 where
@@ -104,7 +104,7 @@ pub record IsTargetOf (s : State) (target : Target) : Type 0 where
 abbrev pub Finds : {X : Type 0} → State → Target → (List ℕ → List (ℕ × ℕ)) → (List ℕ → X → Type 0) → Result X ReadFault → State → Type 0
 Finds old target reads value result new =
     (bytes : List ℕ) → contents old.setup target.view.media_id old.entries ≡ Some bytes
-    → IfOk result (λ x. Made old target.view.media_id (reads bytes) new × value bytes x)
+    → IfOk result (λ x. AreReadsMade old target.view.media_id (reads bytes) new × value bytes x)
 
 -- a good header with its array
 abbrev pub pair_of : GoodHeader → HeaderFields × List ℕ
@@ -118,4 +118,4 @@ part_read at count = if count == 0 then [] else (at, count) ∷ []
 abbrev pub IsProbeOf : State → Result Table ProbeFault → State → Type 0
 IsProbeOf old result new =
     (bytes : List ℕ) → contents old.setup (media_id_of old.entries) old.entries ≡ Some bytes
-    → IfOk result (λ table. Made old (media_id_of old.entries) (probe_reads bytes (size_of old.setup)) new × (table ≡ table_of bytes (size_of old.setup)))
+    → IfOk result (λ table. AreReadsMade old (media_id_of old.entries) (probe_reads bytes (size_of old.setup)) new × (table ≡ table_of bytes (size_of old.setup)))

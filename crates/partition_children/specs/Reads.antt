@@ -6,7 +6,7 @@ use Rattle.std.specs.Option.{option_map_or}
 use Rattle.mbr_records.specs.Block.{Fields, extended_of, mbr_of}
 use Rattle.mbr_records.specs.Record.{is_protective}
 use Rattle.gpt_headers.specs.Array.{array_range_of}
-use Rattle.gpt_headers.specs.Header.{fault_of, fields_of}
+use Rattle.gpt_headers.specs.Header.{header_fault, header_fields}
 use Rattle.partition_tables.specs.Blocks.{boot_record_at, medium_blocks, table_block}
 use Rattle.partition_tables.specs.GptTable.{good_header}
 use Rattle.partition_tables.specs.MbrTable.{chain_of}
@@ -23,7 +23,7 @@ array_read (Some (at, count)) = if count == 0 then [] else (at, count) ∷ []
 -- a block of one of the two headers, and its array where it passes every test
 abbrev pub block_reads : List ℕ → ℕ → ℕ → List ℕ → List (ℕ × ℕ)
 block_reads bytes size lba block =
-    (lba * size, size) ∷ (if is_none (fault_of lba block) then array_read (array_range_of (fields_of block) (medium_blocks bytes size) size) else [])
+    (lba * size, size) ∷ (if is_none (header_fault lba block) then array_read (array_range_of (header_fields block) (medium_blocks bytes size) size) else [])
 
 -- a place of a header that is not on the medium, or is block 0, is not read
 abbrev pub header_reads : List ℕ → ℕ → ℕ → List (ℕ × ℕ)

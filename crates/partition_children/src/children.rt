@@ -1,6 +1,6 @@
 ghost use Rattle.std.specs.Prelude.{◌≡◌, ◌≢◌, ◌*◌, ◌^◌, ◌<◌, ℕ, true, false, IfSome, IfNone, slice_get};
 ghost use Rattle.partition_tables.specs.declared.table.Child.{Child};
-ghost use Rattle.partition_children.specs.Children.{FindsItsChild, IsFirstWith, format_of, node_of, sign_of, view_of};
+ghost use Rattle.partition_children.specs.Children.{FindsItsChild, IsFirstWith, format_of, child_node, origin_sign, child_view};
 
 use device_path::{Format, HardDrive, Sign};
 use history::View;
@@ -11,7 +11,7 @@ use partition_tables::{Child, Origin, Table};
 pub fn view_of(child: &Child, media_id: u32, size: u32) -> View
     requires start { child.now.first * size < 2 ^ 64 }
     requires length { child.now.blocks * size < 2 ^ 64 }
-    ensures { result ≡ view_of child.now media_id size }
+    ensures { result ≡ child_view child.now media_id size }
 {
     View {
         start: child.first * u64::from(size),
@@ -24,7 +24,7 @@ pub fn view_of(child: &Child, media_id: u32, size: u32) -> View
 /// The child as a device path names it: by its number, its first block and its number of blocks, and by the signature of its
 /// disk's master boot record or by its own GUID (UEFI 2.10, 10.3.5.1).
 pub fn node_of(child: &Child) -> HardDrive
-    ensures { result ≡ node_of child.now }
+    ensures { result ≡ child_node child.now }
 {
     HardDrive {
         number: child.number,
@@ -47,7 +47,7 @@ fn format_of(origin: Origin) -> Format
 
 // The signature by which a child is known.
 fn sign_of(origin: Origin) -> Sign
-    ensures { result ≡ sign_of origin }
+    ensures { result ≡ origin_sign origin }
 {
     match origin {
         Origin::Mbr { signature, .. } => Sign::Mbr(signature),
@@ -60,7 +60,7 @@ fn sign_of(origin: Origin) -> Sign
 pub fn find(table: &Table, node: &HardDrive) -> Option<usize>
     ensures some { IfSome result (λ place. IsFirstWith table.now.children node.now place) }
     ensures none { IfNone result ((i : ℕ) (child : Child) →
-        slice_get table.now.children i ≡ Some child → node_of child ≢ node.now) }
+        slice_get table.now.children i ≡ Some child → child_node child ≢ node.now) }
     ensures own { FindsItsChild table.now.children node.now result }
 {
     for (place, child) in table.children.as_slice().iter().enumerate() {
@@ -73,8 +73,8 @@ pub fn find(table: &Table, node: &HardDrive) -> Option<usize>
 
 // Whether the node is the child's.
 fn has_node(child: &Child, node: &HardDrive) -> bool
-    ensures yes { result ≡ true → node_of child.now ≡ node.now }
-    ensures no { result ≡ false → node_of child.now ≢ node.now }
+    ensures yes { result ≡ true → child_node child.now ≡ node.now }
+    ensures no { result ≡ false → child_node child.now ≢ node.now }
 {
     node_of(child) == *node
 }

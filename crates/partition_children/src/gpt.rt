@@ -1,8 +1,8 @@
 ghost use Rattle.std.specs.Prelude.{◌≡◌, ◌+◌, ◌-◌, ◌*◌, ◌^◌, ◌≤◌, ◌<◌, ◌==◌, ◌&&◌, not, nat_lt, IfOk, IfErr, None, option_map, slice_range, length, vec_len};
 ghost use Rattle.gpt_headers.specs.Array.{array_range_of};
-ghost use Rattle.partition_tables.specs.GptTable.{child_of_entry, entries_of, entry_children, good_header, gpt_children, gpt_table, gpt_table_by, header_with_array};
+ghost use Rattle.partition_tables.specs.GptTable.{child_of_entry, array_entries, entry_children, good_header, gpt_children, gpt_table, gpt_table_by, header_with_array};
 ghost use Rattle.partition_children.specs.declared.reading.ReadFault.{ReadFault};
-ghost use Rattle.partition_children.specs.Probing.{Finds, IsQuiet, IsTargetOf, Stays, failures_of, pair_of, part_read};
+ghost use Rattle.partition_children.specs.Probing.{Finds, IsQuiet, IsTargetOf, AddsEntriesAlone, read_failures, pair_of, part_read};
 ghost use Rattle.partition_children.specs.Reads.{array_read, gpt_reads, header_reads};
 
 use crate::child_list::add;
@@ -23,7 +23,7 @@ pub fn gpt_table<M: Medium>(
 ) -> Result<Table, ReadFault>
     requires quiet { IsQuiet disk.old }
     requires target { IsTargetOf disk.old target.now }
-    ensures stays { Stays disk.old (failures_of result) disk.new }
+    ensures stays { AddsEntriesAlone disk.old (read_failures result) disk.new }
     ensures found { Finds disk.old target.now (λ bytes. gpt_reads bytes target.now.size)
         (λ bytes table. table ≡ gpt_table bytes target.now.size) result disk.new }
 {
@@ -41,7 +41,7 @@ fn backup_table<M: Medium>(
 ) -> Result<Table, ReadFault>
     requires quiet { IsQuiet disk.old }
     requires target { IsTargetOf disk.old target.now }
-    ensures stays { Stays disk.old (failures_of result) disk.new }
+    ensures stays { AddsEntriesAlone disk.old (read_failures result) disk.new }
     ensures found { Finds disk.old target.now (λ bytes. header_reads bytes target.now.size (target.now.blocks - 1))
         (λ bytes table. table ≡ gpt_table_by target.now.blocks None
         (good_header bytes target.now.size (target.now.blocks - 1))) result disk.new }
@@ -64,7 +64,7 @@ fn good_header<M: Medium>(
 ) -> Result<Option<GoodHeader>, ReadFault>
     requires quiet { IsQuiet disk.old }
     requires target { IsTargetOf disk.old target.now }
-    ensures stays { Stays disk.old (failures_of result) disk.new }
+    ensures stays { AddsEntriesAlone disk.old (read_failures result) disk.new }
     ensures found { Finds disk.old target.now (λ bytes. header_reads bytes target.now.size lba)
         (λ bytes good. option_map pair_of good ≡ good_header bytes target.now.size lba) result disk.new }
 {
@@ -94,7 +94,7 @@ fn with_array<M: Medium>(
 ) -> Result<Option<GoodHeader>, ReadFault>
     requires quiet { IsQuiet disk.old }
     requires target { IsTargetOf disk.old target.now }
-    ensures stays { Stays disk.old (failures_of result) disk.new }
+    ensures stays { AddsEntriesAlone disk.old (read_failures result) disk.new }
     ensures found { Finds disk.old target.now (λ bytes. array_read
         (array_range_of header target.now.blocks target.now.size))
         (λ bytes good. option_map pair_of good ≡ header_with_array bytes target.now.size header) result disk.new }
@@ -122,7 +122,7 @@ fn read_array<M: Medium>(
     requires target { IsTargetOf disk.old target.now }
     requires inside { at + length ≤ target.now.blocks * target.now.size }
     requires most { length ≤ 2 ^ 24 }
-    ensures stays { Stays disk.old (failures_of result) disk.new }
+    ensures stays { AddsEntriesAlone disk.old (read_failures result) disk.new }
     ensures long { IfOk result (λ array. vec_len array ≡ length) }
     ensures found { Finds disk.old target.now (λ bytes. part_read at length)
         (λ bytes array. array.items ≡ slice_range bytes at (at + length)) result disk.new }
@@ -157,7 +157,7 @@ fn table_by(
 // The entries of an array.
 fn entries_in(alloc: Global, good: &GoodHeader) -> Result<Vec<GptEntry>, AllocError>
     ensures entries { IfOk result (λ entries.
-        entries.items ≡ entries_of good.now.header good.now.array.items) }
+        entries.items ≡ array_entries good.now.header good.now.array.items) }
     ensures few { IfOk result (λ entries. length entries.items < 2 ^ 32) }
 {
     let size = good.header.entry_size() as usize;

@@ -5,7 +5,7 @@ ghost use Rattle.mbr_records.specs.Chain.{trail_of};
 ghost use Rattle.partition_tables.specs.declared.table.Origin.{Origin};
 ghost use Rattle.partition_tables.specs.declared.table.TableKind.{TableKind};
 ghost use Rattle.partition_tables.specs.MbrTable.{logicals_of, mbr_children, primaries_of};
-ghost use Rattle.partition_children.specs.Probing.{Finds, IsQuiet, IsTargetOf, Stays, failures_of};
+ghost use Rattle.partition_children.specs.Probing.{Finds, IsQuiet, IsTargetOf, AddsEntriesAlone, read_failures};
 ghost use Rattle.partition_children.specs.Reads.{chain_reads};
 
 use crate::child_list::add;
@@ -29,7 +29,7 @@ pub fn mbr_table<M: Medium>(
 ) -> Result<Table, ReadFault>
     requires quiet { IsQuiet disk.old }
     requires target { IsTargetOf disk.old target.now }
-    ensures stays { Stays disk.old (failures_of result) disk.new }
+    ensures stays { AddsEntriesAlone disk.old (read_failures result) disk.new }
     ensures found { Finds disk.old target.now (λ bytes. option_map_or
         (λ extended. chain_reads bytes target.now.size extended)
         (extended_of target.now.blocks mbr.now.records) [])
@@ -88,7 +88,7 @@ fn add_logicals<M: Medium>(
     requires target { IsTargetOf disk.old target.now }
     requires fresh { chain ≡ trail_of chain.start chain.size [] }
     requires inside { chain.start + chain.size ≤ target.now.blocks }
-    ensures stays { Stays disk.old (failures_of result) disk.new }
+    ensures stays { AddsEntriesAlone disk.old (read_failures result) disk.new }
     ensures found { Finds disk.old target.now (λ bytes. chain_reads bytes target.now.size (chain.start, chain.size))
         (λ bytes done. children.new.items ≡ children.old.items
         ++ logicals_of bytes target.now.size signature (chain.start, chain.size)) result disk.new }

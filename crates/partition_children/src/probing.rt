@@ -2,7 +2,7 @@ ghost use Rattle.std.specs.Prelude.{◌≡◌, ◌↔◌, false, Some, IfNone, I
 ghost use Rattle.history.specs.Eras.{is_present};
 ghost use Rattle.partition_tables.specs.Table.{table_by, table_of};
 ghost use Rattle.partition_children.specs.declared.probing.ProbeFault.{ProbeFault};
-ghost use Rattle.partition_children.specs.Probing.{Finds, IsProbeOf, IsQuiet, IsTargetOf, Stays, failures_of, probe_failures};
+ghost use Rattle.partition_children.specs.Probing.{Finds, IsProbeOf, IsQuiet, IsTargetOf, AddsEntriesAlone, read_failures, probe_failures};
 ghost use Rattle.partition_children.specs.Reads.{probe_reads, reads_by};
 
 use crate::gpt::gpt_table;
@@ -29,7 +29,7 @@ pub enum ProbeFault {
 /// Reads the partition table of the medium that is in (UEFI 2.10, chapter 5, and own profile).
 pub fn probe<M: Medium>(alloc: Global, disk: &mut Disk<M>) -> Result<Table, ProbeFault>
     requires { IsQuiet disk.old }
-    ensures stays { Stays disk.old (probe_failures result) disk.new }
+    ensures stays { AddsEntriesAlone disk.old (probe_failures result) disk.new }
     ensures no_media { IsErrOf result ProbeFault.NoMedia ↔ (is_present disk.old.entries ≡ false) }
     ensures found { IsProbeOf disk.old result disk.new }
 {
@@ -68,7 +68,7 @@ fn table_on<M: Medium>(
 ) -> Result<Table, ReadFault>
     requires quiet { IsQuiet disk.old }
     requires target { IsTargetOf disk.old target.now }
-    ensures stays { Stays disk.old (failures_of result) disk.new }
+    ensures stays { AddsEntriesAlone disk.old (read_failures result) disk.new }
     ensures found { Finds disk.old target.now (λ bytes. probe_reads bytes target.now.size)
         (λ bytes table. table ≡ table_of bytes target.now.size) result disk.new }
 {
@@ -91,7 +91,7 @@ fn table_by<M: Medium>(
 ) -> Result<Table, ReadFault>
     requires quiet { IsQuiet disk.old }
     requires target { IsTargetOf disk.old target.now }
-    ensures stays { Stays disk.old (failures_of result) disk.new }
+    ensures stays { AddsEntriesAlone disk.old (read_failures result) disk.new }
     ensures found { Finds disk.old target.now (λ bytes. reads_by bytes target.now.size (Some mbr.now))
         (λ bytes table. table ≡ table_by bytes target.now.size (Some mbr.now)) result disk.new }
 {

@@ -3,7 +3,7 @@ ghost use Rattle.disk_core.specs.declared.answers.Why.{Why};
 ghost use Rattle.efi_status.specs.declared.Status.{Status};
 ghost use Rattle.disk_io2.specs.Views.{whole_view};
 ghost use Rattle.partition_children.specs.declared.reading.ReadFault.{ReadFault};
-ghost use Rattle.partition_children.specs.Probing.{EndsRead, Finds, IsIn, IsQuiet, IsTargetOf, Reads, Stays, failures_of};
+ghost use Rattle.partition_children.specs.Probing.{EndsRead, Finds, IsIn, IsQuiet, IsTargetOf, Reads, AddsEntriesAlone, read_failures};
 ghost use Rattle.partition_children.specs.Reads.{record_read};
 ghost use Rattle.partition_tables.specs.Blocks.{boot_record_at, table_block};
 
@@ -58,7 +58,7 @@ pub fn read_bytes<M: Medium>(
     requires whole { target.now.view ≡ whole_view disk.old.setup target.now.view.media_id }
     requires most { length ≤ 2 ^ 24 }
     requires fits { at + length ≤ target.now.view.length }
-    ensures stays { Stays disk.old (failures_of result) disk.new }
+    ensures stays { AddsEntriesAlone disk.old (read_failures result) disk.new }
     ensures ok { IfOk result (λ bytes.
         Reads disk.old target.now.view.media_id (at, length) bytes.items disk.new) }
     ensures err { IfErr result (λ fault.
@@ -95,7 +95,7 @@ pub fn read_block<M: Medium>(
     requires quiet { IsQuiet disk.old }
     requires target { IsTargetOf disk.old target.now }
     requires inside { lba < target.now.blocks }
-    ensures stays { Stays disk.old (failures_of result) disk.new }
+    ensures stays { AddsEntriesAlone disk.old (read_failures result) disk.new }
     ensures long { IfOk result (λ block. length block.items ≡ target.now.size) }
     ensures found { Finds disk.old target.now
         (λ bytes. (lba * target.now.size, target.now.size) ∷ [])
@@ -115,7 +115,7 @@ pub fn read_record<M: Medium>(
     requires quiet { IsQuiet disk.old }
     requires target { IsTargetOf disk.old target.now }
     requires inside { lba < target.now.blocks }
-    ensures stays { Stays disk.old (failures_of result) disk.new }
+    ensures stays { AddsEntriesAlone disk.old (read_failures result) disk.new }
     ensures found { Finds disk.old target.now (λ bytes. record_read target.now.size lba ∷ [])
         (λ bytes block. block ≡ boot_record_at bytes target.now.size lba) result disk.new }
 {

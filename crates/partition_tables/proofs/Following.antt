@@ -14,7 +14,7 @@ use Rattle.mbr_records.specs.Record.{is_data}
 use Rattle.mbr_records.specs.Block.{Fields, mbr_of, numbered_record}
 use Rattle.mbr_records.specs.Chain.{count_of, is_inside, link_of, logical_at, may_visit, next_record_block, trail_of, visited_of}
 use Rattle.partition_tables.specs.Blocks.{boot_record_at}
-use Rattle.partition_tables.specs.MbrTable.{chain_of, name_at, trail_at}
+use Rattle.partition_tables.specs.MbrTable.{chain_of, next_name_at, trail_at}
 use Rattle.partition_tables.specs.Law.{ChainIsFollowed, LogicalsAreGiven}
 
 -- what a function gives for m numbers from a on, up to the first for which it gives nothing
@@ -49,9 +49,9 @@ fronts h a (suc m) = by_first (h a) refl (fronts h (a + 1) m)
 -- the next block by what was named last
 next_by_name : (bytes : List ℕ) (size : ℕ) (extended : ℕ × ℕ) (n : ℕ)
     → next_record_block (trail_at bytes size extended n)
-    ≡ option_and_then (λ block. if may_visit (trail_at bytes size extended n) block then Some block else None) (option_map (λ x. extended.0 + x) (name_at bytes size extended.0 n))
+    ≡ option_and_then (λ block. if may_visit (trail_at bytes size extended n) block then Some block else None) (option_map (λ x. extended.0 + x) (next_name_at bytes size extended.0 n))
 next_by_name bytes size extended n =
-    let name : ℕ → Option ℕ = λ k. name_at bytes size extended.0 k in
+    let name : ℕ → Option ℕ = λ k. next_name_at bytes size extended.0 k in
     let named = map name (range_with_len 0 (n + 1)) in
     let last : slice_index_or named (length named - 1) None ≡ name n =
     ap (λ k. slice_index_or named k None) (omega (arith, length-map-range_with_len name 0 (n + 1))) ∙ get_or-map-range_with_len name 0 (n + 1) n n None (omega arith) (omega arith) in
@@ -74,10 +74,10 @@ link_by_name bytes size start own (Some x) h = let same : start + x ≡ own = cc
 
 -- after 128 records there is no next one
 full : (bytes : List ℕ) (size : ℕ) (extended : ℕ × ℕ) (n : ℕ) → 128 ≤ n → next_record_block (trail_at bytes size extended n) ≡ None
-full bytes size extended n h = next_by_name bytes size extended n ∙ closed (name_at bytes size extended.0 n)
+full bytes size extended n h = next_by_name bytes size extended n ∙ closed (next_name_at bytes size extended.0 n)
   where
     count : 128 ≤ count_of (trail_at bytes size extended n)
-    count = omega (arith, length-map-range_with_len (λ k. name_at bytes size extended.0 k) 0 (n + 1))
+    count = omega (arith, length-map-range_with_len (λ k. next_name_at bytes size extended.0 k) 0 (n + 1))
 
     no_more : (a b : Bool) (fed block : ℕ) → 128 ≤ fed → (if a && b && nat_lt fed 128 then Some block else None) ≡ None
     no_more a b fed block few = grind (arith, nat_tests)
@@ -91,10 +91,10 @@ full bytes size extended n h = next_by_name bytes size extended n ∙ closed (na
 -- what the blocks of the chain name, as far as they were fed
 named_so_far : (bytes : List ℕ) (size : ℕ) (extended : ℕ × ℕ) (front : List ℕ) (each : (k : ℕ) → k < length front → slice_get front k ≡ next_record_block (trail_at bytes size extended k))
     (n : ℕ) → n ≤ length front
-    → Some 0 ∷ map link_of (map (λ own. boot_record_at bytes size own) (take n front)) ≡ map (λ k. name_at bytes size extended.0 k) (range_with_len 0 (n + 1))
+    → Some 0 ∷ map link_of (map (λ own. boot_record_at bytes size own) (take n front)) ≡ map (λ k. next_name_at bytes size extended.0 k) (range_with_len 0 (n + 1))
 named_so_far bytes size extended front each zero h = refl
 named_so_far bytes size extended front each (suc n) h =
-    let name : ℕ → Option ℕ = λ k. name_at bytes size extended.0 k in
+    let name : ℕ → Option ℕ = λ k. next_name_at bytes size extended.0 k in
     let boot : ℕ → List ℕ = λ own. boot_record_at bytes size own in
     let below : n < length front = omega arith in
     let own = get_or front n 0 in

@@ -6,7 +6,7 @@ use Rattle.std.specs.Option.{option_map_or}
 use Rattle.std.proofs.lemmas.Bool.Decides.{nat_tests}
 use Rattle.std.proofs.lemmas.List.Elements.{All-append, All-cons, All-head, All-map, All-nil, All-tail, All-weaker, filter_passes}
 use Rattle.mbr_records.specs.declared.partition_record.MbrRecord.{MbrRecord}
-use Rattle.mbr_records.specs.Block.{Fields, extended_of, gives_partition, mbr_of, overlaps_another, numbered_record}
+use Rattle.mbr_records.specs.Block.{Fields, extended_of, record_gives_partition, mbr_of, overlaps_another_record, numbered_record}
 use Rattle.mbr_records.specs.Chain.{logical_at}
 use Rattle.mbr_records.specs.Record.{is_data, is_extended, is_on_medium, is_protective}
 use Rattle.gpt_headers.specs.Entry as entries
@@ -15,7 +15,7 @@ use Rattle.partition_tables.specs.declared.table.Child.{Child}
 use Rattle.partition_tables.specs.declared.table.TableKind.TheVariants.{Mbr}
 use Rattle.partition_tables.specs.Blocks.{medium_blocks, boot_record_at}
 use Rattle.partition_tables.specs.MbrTable.{chain_of, child_of_record, logical_in, logicals_of, mbr_children, primaries_of, trail_at}
-use Rattle.partition_tables.specs.GptTable.{child_of_entry, entries_of, gpt_table_by, good_header, gpt_children, gpt_table}
+use Rattle.partition_tables.specs.GptTable.{child_of_entry, array_entries, gpt_table_by, good_header, gpt_children, gpt_table}
 use Rattle.partition_tables.specs.Table.{table_by, table_of}
 use Rattle.partition_tables.specs.Law.{ChildrenLieOnTheMedium}
 
@@ -31,8 +31,8 @@ middle_test a c m n h = grind (arith, nat_tests)
 
 primaries_lie : (limit : ℕ) (mbr : Fields) → All (λ c. Lies limit c) (primaries_of limit mbr)
 primaries_lie limit mbr =
-    all_made limit (λ (i, r). gives_partition limit mbr.records i r) (λ (i, r). child_of_record mbr.signature (i + 1) r (r.start, r.size))
-    (λ (i, r) h. middle_test (is_data r) (not (overlaps_another mbr.records i r)) (r.start + r.size) limit h) (enumerate_from 0 mbr.records)
+    all_made limit (λ (i, r). record_gives_partition limit mbr.records i r) (λ (i, r). child_of_record mbr.signature (i + 1) r (r.start, r.size))
+    (λ (i, r) h. middle_test (is_data r) (not (overlaps_another_record mbr.records i r)) (r.start + r.size) limit h) (enumerate_from 0 mbr.records)
 
 -- one more of what is some
 all_one : {Y : Type 0} (P : Y → Type 0) (o : Option Y) (ys : List Y) → IfSome o P → All P ys → All P (cons_option o ys)
@@ -107,10 +107,10 @@ last_on_medium a b c d e first last blocks h = grind (arith, nat_tests)
 entries_lie : (limit : ℕ) (good : HeaderFields × List ℕ) → All (λ c. Lies limit c) (gpt_children limit good)
 unfolding gpt_children
 entries_lie limit (h, array) =
-    all_made limit (λ (i, e). entries.gives_partition h limit (entries_of h array) i e) child_of_entry
+    all_made limit (λ (i, e). entries.gives_partition h limit (array_entries h array) i e) child_of_entry
     (λ (i, e) given. last_on_medium (entries.is_used e) (entries.is_usable_block h limit e.first) (nat_le h.first_usable e.last && nat_le e.last h.last_usable)
-    (not (entries.overlaps_another (entries_of h array) i e)) (not (entries.is_hidden e)) e.first e.last limit given)
-    (enumerate_from 0 (entries_of h array))
+    (not (entries.overlaps_another (array_entries h array) i e)) (not (entries.is_hidden e)) e.first e.last limit given)
+    (enumerate_from 0 (array_entries h array))
 
 gpt_lie : (limit : ℕ) (primary backup : Option (HeaderFields × List ℕ)) → All (λ c. Lies limit c) (gpt_table_by limit primary backup).children
 gpt_lie limit (Some good) backup = entries_lie limit good

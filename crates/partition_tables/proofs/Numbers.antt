@@ -5,7 +5,7 @@ use Rattle.std.specs.List.{enumerate_from, list_any}
 use Rattle.std.specs.Option.{option_map_or}
 use Rattle.std.proofs.lemmas.List.Elements.{All-cons, All-filter, All-head, All-map, All-nil, All-tail, All-weaker}
 use Rattle.mbr_records.specs.declared.partition_record.MbrRecord.{MbrRecord}
-use Rattle.mbr_records.specs.Block.{Fields, extended_of, fields_of, gives_partition, is_marked, mbr_of}
+use Rattle.mbr_records.specs.Block.{Fields, extended_of, boot_fields, record_gives_partition, is_marked, mbr_of}
 use Rattle.mbr_records.specs.Record.{is_protective}
 use Rattle.gpt_headers.specs.Entry as gpt
 use Rattle.gpt_headers.specs.Fields.{HeaderFields}
@@ -13,7 +13,7 @@ use Rattle.partition_tables.specs.declared.table.Child.{Child}
 use Rattle.partition_tables.specs.declared.table.TableKind.TheVariants.{Mbr}
 use Rattle.partition_tables.specs.Blocks.{medium_blocks, boot_record_at}
 use Rattle.partition_tables.specs.MbrTable.{chain_of, child_of_record, logical_in, logicals_of, mbr_children, primaries_of}
-use Rattle.partition_tables.specs.GptTable.{child_of_entry, entries_of, entry_children, gpt_table_by, good_header, gpt_children, gpt_table}
+use Rattle.partition_tables.specs.GptTable.{child_of_entry, array_entries, entry_children, gpt_table_by, good_header, gpt_children, gpt_table}
 use Rattle.partition_tables.specs.Table.{table_by, table_of}
 use Rattle.partition_tables.specs.Law.{NumbersAscend}
 
@@ -59,7 +59,7 @@ places_below {X} high n (x ∷ xs) h = All-cons (λ (p : ℕ × X). p.0 < high) 
 
 primaries_below : (blocks : ℕ) (mbr : Fields) → length mbr.records ≡ 4 → All (λ c. c.number < 5) (primaries_of blocks mbr)
 primaries_below blocks mbr four =
-    let q : ℕ × MbrRecord → Bool = λ (i, r). gives_partition blocks mbr.records i r in
+    let q : ℕ × MbrRecord → Bool = λ (i, r). record_gives_partition blocks mbr.records i r in
     All-map (λ c. c.number < 5) (λ (i, r). child_of_record mbr.signature (i + 1) r (r.start, r.size)) (filter q (enumerate_from 0 mbr.records))
     (All-weaker (λ p. p.0 < 4) (λ p. p.0 + 1 < 5) (λ p h. omega (arith, h)) (filter q (enumerate_from 0 mbr.records))
     (All-filter q (λ p. p.0 < 4) (enumerate_from 0 mbr.records) (places_below 4 0 mbr.records (omega arith))))
@@ -79,7 +79,7 @@ mbr_rise : (bytes : List ℕ) (size : ℕ) (mbr : Fields) → length mbr.records
 unfolding mbr_children
 mbr_rise bytes size mbr four =
     let blocks = medium_blocks bytes size in
-    let primaries = rises_kept 1 (λ (i, r). gives_partition blocks mbr.records i r) (λ (i, r). child_of_record mbr.signature (i + 1) r (r.start, r.size)) (λ p. refl) 0 mbr.records in
+    let primaries = rises_kept 1 (λ (i, r). record_gives_partition blocks mbr.records i r) (λ (i, r). child_of_record mbr.signature (i + 1) r (r.start, r.size)) (λ p. refl) 0 mbr.records in
     rises_append 0 5 (primaries_of blocks mbr) _ (rises_lower 1 0 (primaries_of blocks mbr) (omega arith) primaries) (primaries_below blocks mbr four) (omega arith)
     (by_extended (extended_of blocks mbr.records))
   where
@@ -90,7 +90,7 @@ mbr_rise bytes size mbr four =
 entries_rise : (blocks : ℕ) (good : HeaderFields × List ℕ) → Rises 0 (gpt_children blocks good)
 unfolding gpt_children
 entries_rise blocks (h, array) =
-    let entries = entries_of h array in
+    let entries = array_entries h array in
     rises_lower 1 0 (entry_children blocks h entries) (omega arith)
     (rises_kept 1 (λ (i, e). gpt.gives_partition h blocks entries i e) child_of_entry (λ p. refl) 0 entries)
 
@@ -107,7 +107,7 @@ table_rises bytes size (Some mbr) h = by_cover (list_any is_protective mbr.recor
     by_cover true = gpt_rise (medium_blocks bytes size) (good_header bytes size 1) (good_header bytes size (medium_blocks bytes size - 1))
     by_cover false = mbr_rise bytes size mbr h
 
-four_records : (b : Bool) (block : List ℕ) → IfSome (if b then Some (fields_of block) else None) (λ mbr. length mbr.records ≡ 4)
+four_records : (b : Bool) (block : List ℕ) → IfSome (if b then Some (boot_fields block) else None) (λ mbr. length mbr.records ≡ 4)
 four_records true block = refl
 four_records false block = tt
 

@@ -5,9 +5,9 @@ use Rattle.std.specs.List.{enumerate_from, range_with_len}
 use Rattle.crc_table.specs.Crc32.{crc32_of}
 use Rattle.gpt_headers.specs.declared.entry.GptEntry.{GptEntry}
 use Rattle.gpt_headers.specs.Array.{array_range_of}
-use Rattle.gpt_headers.specs.Entry.{entry_in, gives_partition}
+use Rattle.gpt_headers.specs.Entry.{entry_in, entry_gives_partition}
 use Rattle.gpt_headers.specs.Fields.{HeaderFields}
-use Rattle.gpt_headers.specs.Header.{fault_of, fields_of}
+use Rattle.gpt_headers.specs.Header.{header_fault, header_fields}
 use Rattle.gpt_headers.specs.Limits.{least_entry}
 use Rattle.partition_tables.specs.declared.table.Child.{Child}
 use Rattle.partition_tables.specs.declared.table.Origin.TheVariants.{Gpt}
@@ -28,12 +28,12 @@ header_with_array bytes size h =
 -- test, and the array is good too.
 unfoldable pub good_header : List ℕ → ℕ → ℕ → Option (HeaderFields × List ℕ)
 good_header bytes size lba =
-    if not (lba == 0) && nat_lt lba (medium_blocks bytes size) && is_none (fault_of lba (table_block bytes size lba))
-    then header_with_array bytes size (fields_of (table_block bytes size lba)) else None
+    if not (lba == 0) && nat_lt lba (medium_blocks bytes size) && is_none (header_fault lba (table_block bytes size lba))
+    then header_with_array bytes size (header_fields (table_block bytes size lba)) else None
 
 -- the entries in a header's array, each as its first 128 bytes tell it
-abbrev pub entries_of : HeaderFields → List ℕ → List GptEntry
-entries_of h array = map (λ i. entry_in (slice_range array (i * h.entry_size) (i * h.entry_size + least_entry))) (range_with_len 0 h.count)
+abbrev pub array_entries : HeaderFields → List ℕ → List GptEntry
+array_entries h array = map (λ i. entry_in (slice_range array (i * h.entry_size) (i * h.entry_size + least_entry))) (range_with_len 0 h.count)
 
 -- what entry i gives, from 1 on, where it gives a child: that with its number
 abbrev pub child_of_entry : ℕ × GptEntry → Child
@@ -42,10 +42,10 @@ child_of_entry (i, e) =
 
 -- the children of a header's entries, on a medium of so many blocks
 abbrev pub entry_children : ℕ → HeaderFields → List GptEntry → List Child
-entry_children blocks h entries = map child_of_entry (filter (λ (i, e). gives_partition h blocks entries i e) (enumerate_from 0 entries))
+entry_children blocks h entries = map child_of_entry (filter (λ (i, e). entry_gives_partition h blocks entries i e) (enumerate_from 0 entries))
 
 unfoldable pub gpt_children : ℕ → HeaderFields × List ℕ → List Child
-gpt_children blocks (h, array) = entry_children blocks h (entries_of h array)
+gpt_children blocks (h, array) = entry_children blocks h (array_entries h array)
 
 -- the table of a disk with a protective master boot record: that of the header at LBA 1 where it is good, else that of the header at the
 -- last LBA where this is

@@ -4,7 +4,7 @@ use Rattle.std.specs.Prelude.{ℕ, zero, suc, ◌+◌, List, [], ◌++◌, map, 
 use Rattle.std.specs.List.{enumerate_from, range_with_len}
 use Rattle.std.specs.Option.{option_map_or}
 use Rattle.mbr_records.specs.declared.partition_record.MbrRecord.{MbrRecord}
-use Rattle.mbr_records.specs.Block.{Fields, extended_of, gives_partition, mbr_of, numbered_record}
+use Rattle.mbr_records.specs.Block.{Fields, extended_of, record_gives_partition, mbr_of, numbered_record}
 use Rattle.mbr_records.specs.Chain.{Trail, link_of, logical_at, most_read, next_record_block}
 use Rattle.partition_tables.specs.declared.table.Child.{Child}
 use Rattle.partition_tables.specs.declared.table.Origin.TheVariants.{Mbr}
@@ -19,19 +19,19 @@ child_of_record signature number r (first, blocks) =
 abbrev pub primaries_of : ℕ → Fields → List Child
 primaries_of blocks mbr =
     map (λ (i, r). child_of_record mbr.signature (i + 1) r (r.start, r.size))
-    (filter (λ (i, r). gives_partition blocks mbr.records i r) (enumerate_from 0 mbr.records))
+    (filter (λ (i, r). record_gives_partition blocks mbr.records i r) (enumerate_from 0 mbr.records))
 
 -- What the extended partition and then each extended boot record names as the next, counted from the extended partition's start: the
 -- partition its own first block, each record what its second record tells.
-abbrev pub name_at : List ℕ → ℕ → ℕ → ℕ → Option ℕ
-name_at bytes size start zero = Some 0
-name_at bytes size start (suc n) =
-    option_and_then (λ place. link_of (boot_record_at bytes size (start + place))) (name_at bytes size start n)
+abbrev pub next_name_at : List ℕ → ℕ → ℕ → ℕ → Option ℕ
+next_name_at bytes size start zero = Some 0
+next_name_at bytes size start (suc n) =
+    option_and_then (λ place. link_of (boot_record_at bytes size (start + place))) (next_name_at bytes size start n)
 
 -- the chain of an extended partition after its first n records
 abbrev pub trail_at : List ℕ → ℕ → ℕ × ℕ → ℕ → Trail
 trail_at bytes size (start, count) n =
-    record { start = start; size = count; named = map (λ k. name_at bytes size start k) (range_with_len 0 (n + 1)) }
+    record { start = start; size = count; named = map (λ k. next_name_at bytes size start k) (range_with_len 0 (n + 1)) }
 
 -- the blocks of its extended boot records in order: up to the first place where no next one is read
 unfoldable pub chain_of : List ℕ → ℕ → ℕ × ℕ → List ℕ

@@ -16,7 +16,7 @@ use Rattle.script_text.specs.Limits.{most_request_bytes, most_name_bytes, most_d
 use Rattle.script_text.specs.Words.{lines_of}
 use Rattle.script_text.specs.Wording.{line_of_bytes}
 use Rattle.script_text.specs.Last.{on_last, last_is, has_some}
-use Rattle.script_text.specs.Planned.{new_disk, new_client, add_spare, add_client, add_order, add_last_order, has_client, is_new_name, is_group_size, asked_bytes, planned_disk, has_medium_room, planned_spare, has_client_room, planned_client, is_whole, takes_mark, is_well_aimed, has_room, planned_order, planned}
+use Rattle.script_text.specs.Planned.{new_disk, new_client, add_spare, add_client, add_order, add_last_order, has_client, is_new_name, is_group_size, asked_bytes, planned_disk, has_medium_room, planned_spare, has_client_room, planned_client, is_whole, takes_mark, is_well_aimed, has_room, planned_order, plans_behind}
 use Rattle.script_text.specs.Whole.{planned_if, line_says, at_line, lines_say, script_of}
 use Rattle.script_text.specs.Fitting.{IsName, AreNames, IsMedium, IsOrder, AreOrders, AreClients, IsDiskPlan, AreDisks}
 use Rattle.script_text.proofs.LastLemmas.{some_last, last_both, length_on_last}
@@ -201,8 +201,8 @@ order_fits plans next one mark all fits is =
       clients = clients_on_last (length disk.spares + 1) one (order_is (length disk.spares + 1) (medium_of mark) one (on_medium mark disk there) few fits) disk.clients d.clients;
     }) plans (aimed plans mark (was_true (has_client plans) has) (was_true (is_well_aimed plans mark) well)) all)
 
-line_keeps : (number : ℕ) (plans next : List DiskPlan) (one : Line) → AreDisks plans → IsLine one → planned number plans one ≡ Ok next → AreDisks next
-unfolding planned
+line_keeps : (number : ℕ) (plans next : List DiskPlan) (one : Line) → AreDisks plans → IsLine one → plans_behind number plans one ≡ Ok next → AreDisks next
+unfolding plans_behind
 line_keeps number plans next (Disk image size workers flags) all fits is = disk_fits plans next image size workers flags all fits is
 line_keeps number plans next (Spare image) all fits is = spare_fits plans next image all fits is
 line_keeps number plans next (Client part) all fits is = client_fits plans next number part all is

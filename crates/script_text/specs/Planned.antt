@@ -77,8 +77,8 @@ abbrev pub disk_bytes : DiskPlan → ℕ
 disk_bytes disk = sum_by client_bytes disk.clients
 
 -- the bytes that all lines ask for
-unfoldable pub requested : List DiskPlan → ℕ
-requested plans = sum_by disk_bytes plans
+unfoldable pub asked_bytes : List DiskPlan → ℕ
+asked_bytes plans = sum_by disk_bytes plans
 
 -- a group has 1, 2, 4 or 8 blocks
 abbrev pub is_group_size : ℕ → Bool
@@ -130,7 +130,7 @@ is_well_aimed plans (Some k) = last_is (takes_mark k) plans
 
 -- so many bytes may be asked for
 abbrev pub has_room : List DiskPlan → ℕ → Bool
-has_room plans n = nat_le n most_request_bytes && nat_le (requested plans + n) most_requested_bytes
+has_room plans n = nat_le n most_request_bytes && nat_le (asked_bytes plans + n) most_requested_bytes
 
 -- a further line of the last client
 unfoldable pub planned_order : List DiskPlan → Order → Option ℕ → Result (List DiskPlan) Reason
@@ -141,8 +141,8 @@ planned_order plans one mark =
     else Err Limit
 
 -- the plans behind the line of this number
-unfoldable pub planned : ℕ → List DiskPlan → Line → Result (List DiskPlan) Reason
-planned number plans (Disk image size workers flags) = planned_disk plans image size workers flags
-planned number plans (Spare image) = planned_spare plans image
-planned number plans (Client part) = planned_client number plans part
-planned number plans (Asks one mark) = planned_order plans one mark
+unfoldable pub plans_behind : ℕ → List DiskPlan → Line → Result (List DiskPlan) Reason
+plans_behind number plans (Disk image size workers flags) = planned_disk plans image size workers flags
+plans_behind number plans (Spare image) = planned_spare plans image
+plans_behind number plans (Client part) = planned_client number plans part
+plans_behind number plans (Asks one mark) = planned_order plans one mark

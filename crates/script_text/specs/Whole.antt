@@ -7,12 +7,12 @@ use Rattle.script_text.specs.declared.language.plans.DiskPlan.{DiskPlan}
 use Rattle.script_text.specs.Words.{lines_of}
 use Rattle.script_text.specs.Limits.{most_script_bytes}
 use Rattle.script_text.specs.Wording.{line_of_bytes}
-use Rattle.script_text.specs.Planned.{planned}
+use Rattle.script_text.specs.Planned.{plans_behind}
 use Rattle.script_text.specs.Replies.{◌>>=◌}
 
 abbrev pub planned_if : ℕ → List DiskPlan → Option Line → Result (List DiskPlan) Reason
 planned_if number plans None = Ok plans
-planned_if number plans (Some one) = planned number plans one
+planned_if number plans (Some one) = plans_behind number plans one
 
 -- the plans behind the line of this number
 unfoldable pub line_says : ℕ → List DiskPlan → List ℕ → Result (List DiskPlan) Reason

@@ -7,7 +7,7 @@ use Rattle.std.proofs.lemmas.Option.{slice_get-get_or, slice_get-map, slice_get_
 use Rattle.shared_disk.specs.declared.books.Books.{Books}
 use Rattle.shared_disk.specs.declared.books.Course.{Course}
 use Rattle.shared_disk.specs.declared.books.Slot.{Slot}
-use Rattle.shared_disk.specs.Inside.{ChangesCourse, AreSame, HasPlace, places_in}
+use Rattle.shared_disk.specs.Inside.{ChangesCourse, AreSame, HasLineMore, places_in}
 use Rattle.shared_disk.specs.Script.{places_at}
 use Rattle.std.proofs.lemmas.Bool.{cases_eq}
 
@@ -77,7 +77,7 @@ are-same b b' place Changes change same = record {
 }
 
 -- a course with one place more
-pub more-places : (b b' : Books) (place before : ℕ) (change : ChangesCourse b place (HasPlace before) b') → places_in b' ≡ slice_set (places_in b) place (places_at (places_in b) place ++ before ∷ [])
+pub more-places : (b b' : Books) (place before : ℕ) (change : ChangesCourse b place (HasLineMore before) b') → places_in b' ≡ slice_set (places_in b) place (places_at (places_in b) place ++ before ∷ [])
 more-places b b' place before change = list-same (places_in b') (slice_set (places_in b) place (places_at (places_in b) place ++ before ∷ [])) (λ i. slice_get-map places b'.courses.items i ∙ by i (cases_eq i place))
   where
     places : Course → List ℕ

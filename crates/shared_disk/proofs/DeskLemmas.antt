@@ -37,10 +37,10 @@ use Rattle.shared_disk.specs.declared.books.Buffer.{Buffer}
 use Rattle.shared_disk.specs.declared.books.Buffer.TheVariants.{Awaited, Kept, Gone}
 use Rattle.shared_disk.specs.declared.books.Slot.{Slot}
 use Rattle.shared_disk.specs.declared.clients.Stand.{Stand}
-use Rattle.shared_disk.specs.Lines.{Role, role_of, line_entry, answer_of, entry_if, with_entry, view_of}
-use Rattle.shared_disk.specs.Script.{Script, IsOpening, MayEnter, KeepsScript, places_at}
-use Rattle.shared_disk.specs.Desk.{DeskState, AreGivenBack, IsGivenBack, desk_over, given_at, Keeps, DoesLine, Takes, OnDisk, LineSays, LastSays}
-use Rattle.shared_disk.specs.Inside.{first_entries, buffer_in, end_in, slot_end, end_at, given_in, state_of, IsBufferOf, IsSlot, IsSound, AreBooksOf}
+use Rattle.shared_disk.specs.Lines.{Role, role_of, line_entry, answer_of, entry_if, with_line_entry, view_of}
+use Rattle.shared_disk.specs.Script.{Script, IsOpening, MayComeNext, KeepsScript, places_at}
+use Rattle.shared_disk.specs.Desk.{DeskState, AreGivenBack, IsHandedBack, desk_over, given_at, Keeps, DoesLine, TakesBack, OnDisk, LineSays, LastSays}
+use Rattle.shared_disk.specs.Inside.{first_entries, buffer_in, end_in, slot_end, end_at, given_in, desk_state, IsBufferOf, IsSlot, AreBooksSound, AreBooksOf}
 use Rattle.shared_disk.proofs.KeptLemmas.{keeps-enters, keeps-does, keeps-nothing}
 use Rattle.shared_disk.proofs.OpeningLemmas.{later-open}
 use Rattle.shared_disk.proofs.SoundLemmas.{first-entries-more, sound-entry}
@@ -68,7 +68,7 @@ line-no-collect S H t tag stand order.Eject x is = if-no-collect t _ (Eject tag)
 line-no-collect S H t tag stand order.Insert x is = if-no-collect t _ (Insert tag (media_id_of H + 1)) x refl is
 line-no-collect S H t tag stand (order.Protect on) x is = if-no-collect t true (Protect tag on) x refl is
 
-does-no-collect : (H : List Entry) (t : ℕ) (e : Option Entry) → ((x : Entry) → e ≡ Some x → is_collect_of t x ≡ false) → was_collected (with_entry e H) t ≡ was_collected H t
+does-no-collect : (H : List Entry) (t : ℕ) (e : Option Entry) → ((x : Entry) → e ≡ Some x → is_collect_of t x ≡ false) → was_collected (with_line_entry e H) t ≡ was_collected H t
 does-no-collect H t None none = refl
 does-no-collect H t (Some x) none = collected-same H x t (none x refl)
 
@@ -82,7 +82,7 @@ did-keeps old new i token e does keeps = record {
 }
 
 -- a token that was handed back
-pub takes-keeps : (old new : DeskState) (tag t : ℕ) → Takes old tag t new → ((done : ℕ → ℕ) → ((i : ℕ) → done i ≡ length (places_at old.places i)) → MayEnter old.disk.setup old.script old.disk.entries done (Collect tag t)) → Keeps old → Keeps new
+pub takes-keeps : (old new : DeskState) (tag t : ℕ) → TakesBack old tag t new → ((done : ℕ → ℕ) → ((i : ℕ) → done i ≡ length (places_at old.places i)) → MayComeNext old.disk.setup old.script old.disk.entries done (Collect tag t)) → Keeps old → Keeps new
 takes-keeps old new tag t takes may keeps = record {
   script = keeps-to old.disk.setup new.disk.setup old.script new.script old.places new.places _ new.disk.entries (ap (λ (s : State). s.setup) takes.collects.new_is) takes.script takes.places entries (keeps-enters old.disk.setup old.script old.places old.disk.entries (Collect tag t) keeps.script may);
   buffers = λ u later was. by u (subst (λ (d : Script). accepted d.opening ≤ u) takes.script later) (subst (λ H. was_collected H u ≡ true) entries was) (cases_eq u t);
@@ -149,7 +149,7 @@ unfolding MayFollow
 made-open S H t c Made may = command-open S H t c may
 made-open S H t c (Failed done) may = command-open S H t c may.0
 
-made-enters : (S : Setup) (d : Script) (H : List Entry) (done : ℕ → ℕ) (t : ℕ) (c : Command) (outcome : Outcome) → accepted d.opening ≤ t → MayEnter S d H done (entry_of (record { token = t; command = c }) outcome)
+made-enters : (S : Setup) (d : Script) (H : List Entry) (done : ℕ → ℕ) (t : ℕ) (c : Command) (outcome : Outcome) → accepted d.opening ≤ t → MayComeNext S d H done (entry_of (record { token = t; command = c }) outcome)
 made-enters S d H done t c Made later = later
 made-enters S d H done t c (Failed n) later = later
 
@@ -161,7 +161,7 @@ module _ (old new : State) (t : ℕ) (c : Command) (outcome : Outcome) (makes : 
   may = legal-last old.setup old.entries (entry_of (record { token = t; command = c }) outcome) legal
 
   made-sound : (b : Books) → AreBooksOf old b → AreBooksOf new b
-  made-sound b sound = subst (λ S. IsSound S new.entries b) (sym makes.setup) (subst (λ H. IsSound old.setup H b) (sym makes.entries)
+  made-sound b sound = subst (λ S. AreBooksSound S new.entries b) (sym makes.setup) (subst (λ H. AreBooksSound old.setup H b) (sym makes.entries)
       (sound-entry old.setup old.entries (entry_of (record { token = t; command = c }) outcome) b may (made-accept t c outcome) (λ u. made-collect u t c outcome) sound))
 
   made-script : (d : Script) (places : List (List ℕ)) → KeepsScript old.setup d places old.entries → KeepsScript new.setup d places new.entries
@@ -176,11 +176,11 @@ module _ (old new : State) (t : ℕ) (c : Command) (outcome : Outcome) (makes : 
   made-opening n le = rw makes.entries (first-entries-more n old.entries (entry_of (record { token = t; command = c }) outcome) le)
 
 pub moved-sound : (old new : State) (b : Books) → Moves old new → AreBooksOf old b → AreBooksOf new b
-moved-sound old new b (inl same) sound = subst (λ S. IsSound S new.entries b) (sym same.0) (subst (λ H. IsSound old.setup H b) (sym same.1) sound)
+moved-sound old new b (inl same) sound = subst (λ S. AreBooksSound S new.entries b) (sym same.0) (subst (λ H. AreBooksSound old.setup H b) (sym same.1) sound)
 moved-sound old new b (inr made) sound = made-sound old new made.0 made.1 made.2 made.3 b sound
 
-pub moved-says : (old new : State) (b : Books) (Says : State → State → Type 0) → Moves old new → AreBooksOf old b → Says old new → OnDisk (state_of old b) (state_of new b) Says
-unfolding state_of
+pub moved-says : (old new : State) (b : Books) (Says : State → State → Type 0) → Moves old new → AreBooksOf old b → Says old new → OnDisk (desk_state old b) (desk_state new b) Says
+unfolding desk_state
 moved-says old new b Says moves sound says = record { says = says; script = rw (by moves) refl; places = refl; given = refl }
   where
     by : Moves old new → first_entries b.opened new.entries ≡ first_entries b.opened old.entries
@@ -202,24 +202,24 @@ moved-keeps old new Says moves on keeps = record {
     collected (inr made) u = made-collected old.disk new.disk made.0 made.1 made.2 made.3 u
 
 -- how many clients there are
-pub roles-count : (disk : State) (b : Books) → length (state_of disk b).script.roles ≡ length b.clients.items
-unfolding state_of
+pub roles-count : (disk : State) (b : Books) → length (desk_state disk b).script.roles ≡ length b.clients.items
+unfolding desk_state
 roles-count disk b = length-map b.clients.items role_of
 
 -- each buffer that is kept is what its token gave back
-pub given-back : (disk : State) (b : Books) → AreBooksOf disk b → AreGivenBack (state_of disk b)
-unfolding state_of
+pub given-back : (disk : State) (b : Books) → AreBooksOf disk b → AreGivenBack (desk_state disk b)
+unfolding desk_state
 given-back disk b sound t bytes is = by (slice_get b.slots.items t) refl
   where
-    kept : (s : Slot) → IsSlot disk.setup disk.entries t s → (x : Buffer) → s.buffer ≡ x → buffer_in x ≡ Some bytes → (q : Request) × (status : Status) × IsGivenBack disk.setup disk.entries t bytes q status
+    kept : (s : Slot) → IsSlot disk.setup disk.entries t s → (x : Buffer) → s.buffer ≡ x → buffer_in x ≡ Some bytes → (q : Request) × (status : Status) × IsHandedBack disk.setup disk.entries t bytes q status
     kept s slot Awaited same none = cc
     kept s slot (Kept done) same some =
         let one : done.buffer ≡ bytes = cc in
         let given : IsBufferOf disk.setup disk.entries t (Kept done) = rw same at slot.buffer in
-        subst (λ x. (q : Request) × (status : Status) × IsGivenBack disk.setup disk.entries t x q status) one (given.0, done.status, given.1)
+        subst (λ x. (q : Request) × (status : Status) × IsHandedBack disk.setup disk.entries t x q status) one (given.0, done.status, given.1)
     kept s slot Gone same none = cc
 
-    by : (o : Option Slot) → slice_get b.slots.items t ≡ o → (q : Request) × (status : Status) × IsGivenBack disk.setup disk.entries t bytes q status
+    by : (o : Option Slot) → slice_get b.slots.items t ≡ o → (q : Request) × (status : Status) × IsHandedBack disk.setup disk.entries t bytes q status
     by None none = let bad : None ≡ Some bytes = sym (given-past b.slots.items t none) ∙ is in cc
     by (Some s) at = kept s (sound.slots t s at) s.buffer refl (sym (given-at b.slots.items t s at) ∙ is)
 
@@ -240,14 +240,14 @@ ended-so disk b sound t status is = by (slice_get b.slots.items t) refl is
     by (Some s) at some = kept s (sound.slots t s at) s.buffer refl some
 
 pub ended-tells : (disk : State) (b : Books) → AreBooksOf disk b → (t : ℕ) (o : Option Status) → o ≡ end_at b t
-    → IfSome o (λ status. mark_of (state_of disk b).disk.setup (state_of disk b).disk.entries t ≡ Some status)
-unfolding state_of
+    → IfSome o (λ status. mark_of (desk_state disk b).disk.setup (desk_state disk b).disk.entries t ≡ Some status)
+unfolding desk_state
 ended-tells disk b sound t None is = tt
 ended-tells disk b sound t (Some status) is = ended-so disk b sound t status (sym is)
 
 -- and it has a status exactly where its buffer is kept
-pub ended-where : (disk : State) (b : Books) (t : ℕ) → is_some (end_at b t) ≡ is_some (given_at (state_of disk b).given t)
-unfolding state_of
+pub ended-where : (disk : State) (b : Books) (t : ℕ) → is_some (end_at b t) ≡ is_some (given_at (desk_state disk b).given t)
+unfolding desk_state
 ended-where disk b t = by (slice_get b.slots.items t) refl
   where
     alike : (x : Buffer) → is_some (end_in x) ≡ is_some (buffer_in x)

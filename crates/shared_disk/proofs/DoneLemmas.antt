@@ -19,7 +19,7 @@ use Rattle.shared_disk.specs.declared.books.Buffer.TheVariants as buffer
 use Rattle.shared_disk.specs.declared.books.Slot.{Slot}
 use Rattle.shared_disk.specs.Lines.{answer_of}
 use Rattle.shared_disk.specs.Desk.{is_accept_of, given_at}
-use Rattle.shared_disk.specs.Inside.{buffer_in, places_in, IsSound, AreBooksOf, AreSame, IsRoomy, HasToken, ChangesCourse, AddsToken, DoesOn}
+use Rattle.shared_disk.specs.Inside.{buffer_in, places_in, AreBooksSound, AreBooksOf, AreSame, IsRoomy, HasToken, ChangesCourse, AddsToken, DoesOn}
 use Rattle.shared_disk.proofs.CourseLemmas.{same-places, are-same}
 use Rattle.shared_disk.proofs.SoundLemmas.{sound-entry, sound-changes, sound-token}
 use Rattle.shared_disk.proofs.TakingLemmas.{legal-last, legal-before}
@@ -35,7 +35,7 @@ revokes-same s s' same = record {
 }
 
 -- books with more room
-pub roomy-sound : (S : Setup) (H : List Entry) (b b' : Books) (place : ℕ) → IsSound S H b → ChangesCourse b place IsRoomy b' → IsSound S H b'
+pub roomy-sound : (S : Setup) (H : List Entry) (b b' : Books) (place : ℕ) → AreBooksSound S H b → ChangesCourse b place IsRoomy b' → AreBooksSound S H b'
 roomy-sound S H b b' place sound change = sound-changes S H b place IsRoomy b' sound change (λ client at course. course-roomy S H (place + 1) (length client.orders.items) change.was change.now change.changes course)
 
 pub roomy-same : (b b' : Books) (place : ℕ) → ChangesCourse b place IsRoomy b' → AreSame b b'
@@ -69,7 +69,7 @@ pub does-accept : (old new : State) (b roomy b' : Books) (place tag : ℕ) (view
 does-accept old new b roomy b' place tag view media_id asked bytes brought token tagged sound change accepts goes adds =
     let legal : IsLegal old.setup (Accept tag view asked bytes ∷ old.entries) = subst (λ (s : State). IsLegal s.setup s.entries) accepts.new_is accepts.legal in
     let adds_next : AddsToken roomy place tag (accepted old.entries) b' = subst (λ n. AddsToken roomy place tag n b') accepts.numbered adds in
-    let next : IsSound old.setup (Accept tag view asked bytes ∷ old.entries) b' = sound-token old.setup old.entries place tag view asked bytes roomy b' (legal-before old.setup old.entries (Accept tag view asked bytes) legal) (legal-last old.setup old.entries (Accept tag view asked bytes) legal) tagged (roomy-sound old.setup old.entries b roomy place sound change) adds_next in
+    let next : AreBooksSound old.setup (Accept tag view asked bytes ∷ old.entries) b' = sound-token old.setup old.entries place tag view asked bytes roomy b' (legal-before old.setup old.entries (Accept tag view asked bytes) legal) (legal-last old.setup old.entries (Accept tag view asked bytes) legal) tagged (roomy-sound old.setup old.entries b roomy place sound change) adds_next in
     let same : AreSame b roomy = roomy-same b roomy place change in
     record {
       entries = rw accepts.unrefused (ap (λ (s : State). s.entries) accepts.new_is);
@@ -82,7 +82,7 @@ does-accept old new b roomy b' place tag view media_id asked bytes brought token
       clients = adds.clients ∙ change.clients;
       places = token-places roomy b' place tag token.number adds ∙ same.places;
       given = λ t. rw (adds.slots, change.slots) (given-push b.slots.items (record { tag = tag; buffer = buffer.Awaited }) t refl);
-      sound = subst (λ (s : State). IsSound s.setup s.entries b') (sym accepts.new_is) next;
+      sound = subst (λ (s : State). AreBooksSound s.setup s.entries b') (sym accepts.new_is) next;
     }
 
 -- it was refused
@@ -90,7 +90,7 @@ pub does-refuse : (old new : State) (b roomy : Books) (place tag : ℕ) (view : 
     → Refuses old tag view media_id asked status brought handed new → GoesOn old new → DoesOn old b new roomy (Some (answer_of tag view asked bytes media_id (refusal_of old.setup old.entries view asked media_id))) None
 does-refuse old new b roomy place tag view media_id asked bytes brought handed status sound change refuses goes =
     let legal : IsLegal old.setup (Refuse tag view asked media_id status ∷ old.entries) = subst (λ (s : State). IsLegal s.setup s.entries) refuses.new_is refuses.legal in
-    let next : IsSound old.setup (Refuse tag view asked media_id status ∷ old.entries) roomy = sound-entry old.setup old.entries (Refuse tag view asked media_id status) roomy (legal-last old.setup old.entries (Refuse tag view asked media_id status) legal) refl (λ t. refl) (roomy-sound old.setup old.entries b roomy place sound change) in
+    let next : AreBooksSound old.setup (Refuse tag view asked media_id status ∷ old.entries) roomy = sound-entry old.setup old.entries (Refuse tag view asked media_id status) roomy (legal-last old.setup old.entries (Refuse tag view asked media_id status) legal) refl (λ t. refl) (roomy-sound old.setup old.entries b roomy place sound change) in
     let same : AreSame b roomy = roomy-same b roomy place change in
     record {
       entries = rw refuses.refused (ap (λ (s : State). s.entries) refuses.new_is);
@@ -103,7 +103,7 @@ does-refuse old new b roomy place tag view media_id asked bytes brought handed s
       clients = change.clients;
       places = same.places;
       given = λ t. rw same.given refl;
-      sound = subst (λ (s : State). IsSound s.setup s.entries roomy) (sym refuses.new_is) next;
+      sound = subst (λ (s : State). AreBooksSound s.setup s.entries roomy) (sym refuses.new_is) next;
     }
 
 -- nothing was done
@@ -119,7 +119,7 @@ does-nothing old new b sound same goes = record {
   clients = refl;
   places = refl;
   given = λ t. refl;
-  sound = subst (λ (s : State). IsSound s.setup s.entries b) (sym same) sound;
+  sound = subst (λ (s : State). AreBooksSound s.setup s.entries b) (sym same) sound;
 }
 
 -- one entry came that is no accept and no collect
@@ -127,7 +127,7 @@ pub does-entry : (old new : State) (b : Books) (e : Entry) → AreBooksOf old b 
     → new.devices ≡ old.devices → Revokes old.gates new.gates → GoesOn old new → DoesOn old b new b (Some e) None
 does-entry old new b e sound other none no_accept setup entries legal devices gates goes =
     let legal_now : IsLegal old.setup (e ∷ old.entries) = subst (λ S. IsLegal S (e ∷ old.entries)) setup (subst (λ H. IsLegal new.setup H) entries legal) in
-    let next : IsSound old.setup (e ∷ old.entries) b = sound-entry old.setup old.entries e b (legal-last old.setup old.entries e legal_now) other none sound in
+    let next : AreBooksSound old.setup (e ∷ old.entries) b = sound-entry old.setup old.entries e b (legal-last old.setup old.entries e legal_now) other none sound in
     record {
       entries = entries;
       accepts = sym no_accept;
@@ -139,5 +139,5 @@ does-entry old new b e sound other none no_accept setup entries legal devices ga
       clients = refl;
       places = refl;
       given = λ t. refl;
-      sound = subst (λ S. IsSound S new.entries b) (sym setup) (subst (λ H. IsSound old.setup H b) (sym entries) next);
+      sound = subst (λ S. AreBooksSound S new.entries b) (sym setup) (subst (λ H. AreBooksSound old.setup H b) (sym entries) next);
     }

@@ -18,7 +18,7 @@ use Rattle.history.specs.Marks.{mark_of, is_outstanding}
 use Rattle.history.specs.Rules.{MayFollow, IsLegal}
 use Rattle.history_laws.proofs.EndLemmas.{mark-stays, ended-read}
 use Rattle.history_laws.proofs.TokenLemmas.{request-stays, has_done-stays}
-use Rattle.shared_disk.specs.Desk.{IsGivenBack}
+use Rattle.shared_disk.specs.Desk.{IsHandedBack}
 use Rattle.shared_disk.proofs.OpeningLemmas.{collected-stays}
 
 -- an accepted token that is not outstanding stays so
@@ -34,7 +34,7 @@ closed-stays S H e t lt closed = by (mark_of S H t) refl
     by (Some status) is = rw (mark-stays S H e t status is) (and-false (nat_lt t (accepted (e ∷ H))))
 
 -- what an ended token gave back stays so
-pub given-stays : (S : Setup) (H : List Entry) (e : Entry) (t : ℕ) (buffer : List ℕ) (q : Request) (status : Status) → MayFollow S H e → IsGivenBack S H t buffer q status → IsGivenBack S (e ∷ H) t buffer q status
+pub given-stays : (S : Setup) (H : List Entry) (e : Entry) (t : ℕ) (buffer : List ℕ) (q : Request) (status : Status) → MayFollow S H e → IsHandedBack S H t buffer q status → IsHandedBack S (e ∷ H) t buffer q status
 given-stays S H e t buffer q status may given = record {
   named = request-stays H e t q given.named;
   marked = mark-stays S H e t status given.marked;

@@ -5,16 +5,16 @@ use Rattle.std.proofs.lemmas.List.{length-set}
 use Rattle.std.proofs.lemmas.Option.{slice_get_within}
 use Rattle.history.specs.declared.entry.Entry.{Entry}
 use Rattle.history.specs.Setup.{Setup}
-use Rattle.shared_disk.specs.Lines.{with_entry}
-use Rattle.shared_disk.specs.Script.{Script, Enters, Does, IsOpening, entries_by, places_by, done_by, with_place, DoesNext, MayEnter, Follows, places_at, KeepsScript}
+use Rattle.shared_disk.specs.Lines.{with_line_entry}
+use Rattle.shared_disk.specs.Script.{Script, Enters, Does, IsOpening, entries_by, places_by, line_count_by, with_place, DoesNext, MayComeNext, Follows, places_at, KeepsScript}
 
 -- an entry that is no line's
 pub keeps-enters : (S : Setup) (d : Script) (places : List (List ℕ)) (H : List Entry) (e : Entry) → KeepsScript S d places H
-    → ((done : ℕ → ℕ) → ((i : ℕ) → done i ≡ length (places_at places i)) → MayEnter S d H done e) → KeepsScript S d places (e ∷ H)
+    → ((done : ℕ → ℕ) → ((i : ℕ) → done i ≡ length (places_at places i)) → MayComeNext S d H done e) → KeepsScript S d places (e ∷ H)
 unfolding Follows entries_by places_by
 keeps-enters S d places H e keeps may = record {
   log = Enters e ∷ keeps.log;
-  follows = (keeps.follows, rw keeps.history (may (done_by d.opening keeps.log) (λ i. ap length (sym (keeps.at i)))));
+  follows = (keeps.follows, rw keeps.history (may (line_count_by d.opening keeps.log) (λ i. ap length (sym (keeps.at i)))));
   history = ap (λ h. e ∷ h) keeps.history;
   count = keeps.count;
   at = λ i. keeps.at i;
@@ -28,12 +28,12 @@ place-more places i k n lt = elim (cases_eq i k) [
 
 -- a line
 pub keeps-does : (S : Setup) (d : Script) (places : List (List ℕ)) (H : List Entry) (i : ℕ) (e : Option Entry) → KeepsScript S d places H → DoesNext S d.roles H i (length (places_at places i)) e
-    → KeepsScript S d (slice_set places i (places_at places i ++ length H ∷ [])) (with_entry e H)
+    → KeepsScript S d (slice_set places i (places_at places i ++ length H ∷ [])) (with_line_entry e H)
 unfolding Follows entries_by places_by
 keeps-does S d places H i e keeps does = record {
   log = Does i e ∷ keeps.log;
   follows = (keeps.follows, rw (keeps.history, ← keeps.at i) does);
-  history = ap (with_entry e) keeps.history;
+  history = ap (with_line_entry e) keeps.history;
   count = length-set places i (places_at places i ++ length H ∷ []) ∙ keeps.count;
   at = λ k. rw (keeps.history, ← keeps.at k) (place-more places i k (length H) (omega (arith, slice_get_within d.roles i does.role does.client, keeps.count)));
 }

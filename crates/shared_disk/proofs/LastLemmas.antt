@@ -13,8 +13,8 @@ use Rattle.shared_disk.specs.declared.books.Books.{Books}
 use Rattle.shared_disk.specs.declared.books.Slot.{Slot}
 use Rattle.shared_disk.specs.Lines.{first_left, has_tag}
 use Rattle.shared_disk.specs.Script.{AreOver}
-use Rattle.shared_disk.specs.Desk.{LastSays, Takes}
-use Rattle.shared_disk.specs.Inside.{is_awaited, roles_in, done_in, order_in, state_of, IsSlot, IsSound, AreBooksOf, AreSame}
+use Rattle.shared_disk.specs.Desk.{LastSays, TakesBack}
+use Rattle.shared_disk.specs.Inside.{is_awaited, roles_in, done_in, order_in, desk_state, IsSlot, AreBooksSound, AreBooksOf, AreSame}
 use Rattle.shared_disk.proofs.OwnLemmas.{first_from-least}
 use Rattle.shared_disk.proofs.CourseLemmas.{item-at}
 use Rattle.shared_disk.proofs.LineLemmas.{state-same}
@@ -32,8 +32,8 @@ unfolding first_open
 none-open S H closed = first_from-none (is_outstanding S H) 0 (accepted H) (λ t le lt. closed t (omega (arith, lt)))
 
 -- the books with other marks
-pub sound-marks : (S : Setup) (H : List Entry) (b : Books) (n m : ℕ) → IsSound S H b → n ≤ accepted H → m ≤ accepted H → ((t : ℕ) → t < n → is_outstanding S H t ≡ false) → ((t : ℕ) → t < m → was_collected H t ≡ true)
-    → IsSound S H (record { opened = b.opened; clients = b.clients; courses = b.courses; slots = b.slots; ended = n; collected = m })
+pub sound-marks : (S : Setup) (H : List Entry) (b : Books) (n m : ℕ) → AreBooksSound S H b → n ≤ accepted H → m ≤ accepted H → ((t : ℕ) → t < n → is_outstanding S H t ≡ false) → ((t : ℕ) → t < m → was_collected H t ≡ true)
+    → AreBooksSound S H (record { opened = b.opened; clients = b.clients; courses = b.courses; slots = b.slots; ended = n; collected = m })
 sound-marks S H b n m sound n_few m_few closed collected = record {
   opened = sound.opened;
   opening = sound.opening;
@@ -53,10 +53,10 @@ sound-marks S H b n m sound n_few m_few closed collected = record {
 pub closed-before : (disk : State) (b : Books) → AreBooksOf disk b → (n : ℕ) → ((t : ℕ) → b.ended ≤ t → t < n → is_outstanding disk.setup disk.entries t ≡ false) → (t : ℕ) → t < n → is_outstanding disk.setup disk.entries t ≡ false
 closed-before disk b sound n before t lt = elim (cases_lt t b.ended) [ inl early ↦ sound.ended t early | inr late ↦ before t late lt ]
 
-pub own-tag : (S : Setup) (H : List Entry) (b : Books) (t : ℕ) (s : Slot) → IsSound S H b → t < length b.slots.items → s ≡ get_or b.slots.items t s → has_tag s.tag (request H t) ≡ true
+pub own-tag : (S : Setup) (H : List Entry) (b : Books) (t : ℕ) (s : Slot) → AreBooksSound S H b → t < length b.slots.items → s ≡ get_or b.slots.items t s → has_tag s.tag (request H t) ≡ true
 own-tag S H b t s sound lt is = let slot : IsSlot S H t s = sound.slots t s (item-at b.slots.items t s lt is) in slot.tagged
 
-module _ (S : Setup) (H : List Entry) (b : Books) (sound : IsSound S H b) (m : ℕ) (before : (t : ℕ) (s : Slot) → b.collected ≤ t → t < m → slice_get b.slots.items t ≡ Some s → is_awaited s.buffer ≡ false) (most : m ≤ length b.slots.items) where
+module _ (S : Setup) (H : List Entry) (b : Books) (sound : AreBooksSound S H b) (m : ℕ) (before : (t : ℕ) (s : Slot) → b.collected ≤ t → t < m → slice_get b.slots.items t ≡ Some s → is_awaited s.buffer ≡ false) (most : m ≤ length b.slots.items) where
   pub collected-before : (t : ℕ) → t < m → was_collected H t ≡ true
   collected-before t lt = elim (cases_lt t b.collected) [
     | inl early ↦ sound.collected t early
@@ -79,19 +79,19 @@ module _ (S : Setup) (H : List Entry) (b : Books) (sound : IsSound S H b) (m : �
       (first_from-least (λ t. not (was_collected H t)) (accepted H) m lt (ap not left) (λ u less. ap not (collected-before u less)), left)
 
 -- nothing may be collected: a line is left, a token is outstanding, or none is left
-pub last-line : (disk : State) (b b' : Books) (i : ℕ) → AreSame b b' → IsSome (order_in b i) → LastSays (state_of disk b) None (state_of disk b')
-unfolding LastSays state_of
+pub last-line : (disk : State) (b b' : Books) (i : ℕ) → AreSame b b' → IsSome (order_in b i) → LastSays (desk_state disk b) None (desk_state disk b')
+unfolding LastSays desk_state
 last-line disk b b' i same left = (inl (i, left), state-same disk b b' same)
 
-pub last-open : (disk : State) (b b' : Books) → AreSame b b' → IsSome (first_open disk.setup disk.entries) → LastSays (state_of disk b) None (state_of disk b')
-unfolding LastSays state_of
+pub last-open : (disk : State) (b b' : Books) → AreSame b b' → IsSome (first_open disk.setup disk.entries) → LastSays (desk_state disk b) None (desk_state disk b')
+unfolding LastSays desk_state
 last-open disk b b' same there = (inr (inl there), state-same disk b b' same)
 
-pub last-none : (disk : State) (b b' : Books) → AreSame b b' → first_left disk.entries ≡ None → LastSays (state_of disk b) None (state_of disk b')
-unfolding LastSays state_of
+pub last-none : (disk : State) (b b' : Books) → AreSame b b' → first_left disk.entries ≡ None → LastSays (desk_state disk b) None (desk_state disk b')
+unfolding LastSays desk_state
 last-none disk b b' same none = (inr (inr none), state-same disk b b' same)
 
 pub last-some : (old new : State) (b b1 b' : Books) (tag t : ℕ) → AreSame b b1 → AreOver (roles_in b) (done_in b) → first_open old.setup old.entries ≡ None → first_left old.entries ≡ Some t → has_tag tag (request old.entries t) ≡ true
-    → Takes (state_of old b1) tag t (state_of new b') → LastSays (state_of old b) (Some t) (state_of new b')
-unfolding LastSays state_of
-last-some old new b b1 b' tag t same over none least own takes = (tag, record { over = over; ended = none; least = least; own = own }, subst (λ s. Takes s tag t (state_of new b')) (state-same old b b1 same) takes)
+    → TakesBack (desk_state old b1) tag t (desk_state new b') → LastSays (desk_state old b) (Some t) (desk_state new b')
+unfolding LastSays desk_state
+last-some old new b b1 b' tag t same over none least own takes = (tag, record { over = over; ended = none; least = least; own = own }, subst (λ s. TakesBack s tag t (desk_state new b')) (state-same old b b1 same) takes)

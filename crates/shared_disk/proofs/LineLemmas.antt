@@ -16,13 +16,13 @@ use Rattle.disk_core.proofs.GoingOn.{protect_goes_on}
 use Rattle.shared_disk.specs.declared.clients.Client.{Client}
 use Rattle.shared_disk.specs.declared.books.Books.{Books}
 use Rattle.shared_disk.specs.declared.books.Course.{Course}
-use Rattle.shared_disk.specs.Lines.{role_of, line_entry, with_entry, has_tag, first_own_open, first_own_left}
+use Rattle.shared_disk.specs.Lines.{role_of, line_entry, with_line_entry, has_tag, first_own_open, first_own_left}
 use Rattle.shared_disk.specs.Script.{AreOwnOver, DoesNext, CollectsAtWait}
-use Rattle.shared_disk.specs.Desk.{done_of, DoesLine, Takes, LineSays}
+use Rattle.shared_disk.specs.Desk.{done_of, DoesLine, TakesBack, LineSays}
 use Rattle.shared_disk.specs.declared.answers.Line.TheVariants as line
 use Rattle.history.specs.Marks.{is_outstanding}
 use Rattle.history_laws.proofs.ScanLemmas.{first_from-some, first_from-fails}
-use Rattle.shared_disk.specs.Inside.{first_entries, roles_in, places_in, done_in, order_in, state_of, IsCourse, IsSound, AreBooksOf, AreSame, ChangesCourse, HasPlace, DoesOn, DoesOrder, WantsMemory}
+use Rattle.shared_disk.specs.Inside.{first_entries, roles_in, places_in, done_in, order_in, desk_state, IsCourse, AreBooksSound, AreBooksOf, AreSame, ChangesCourse, HasLineMore, DoesOn, DoesOrder, MayWantMemory}
 use Rattle.shared_disk.proofs.CourseLemmas.{more-places}
 use Rattle.shared_disk.proofs.SoundLemmas.{first-entries-more, sound-changes}
 use Rattle.shared_disk.proofs.DoneLemmas.{revokes-same}
@@ -32,8 +32,8 @@ some-same : {X : Type 0} (x y : X) → Some x ≡ Some y → x ≡ y
 some-same x y e = cc
 
 -- what callers see stays where the books are the same
-pub state-same : (disk : State) (b b' : Books) → AreSame b b' → state_of disk b' ≡ state_of disk b
-unfolding state_of
+pub state-same : (disk : State) (b b' : Books) → AreSame b b' → desk_state disk b' ≡ desk_state disk b
+unfolding desk_state
 state-same disk b b' same = rw (same.opened, same.clients, same.places, same.given) refl
 
 pub same-twice : (a b c : Books) → AreSame a b → AreSame b c → AreSame a c
@@ -45,7 +45,7 @@ same-twice a b c one other = record {
 }
 
 -- the opening history stays
-opening-same : (n : ℕ) (H : List Entry) (e : Option Entry) → n ≤ length H → first_entries n (with_entry e H) ≡ first_entries n H
+opening-same : (n : ℕ) (H : List Entry) (e : Option Entry) → n ≤ length H → first_entries n (with_line_entry e H) ≡ first_entries n H
 opening-same n H None le = refl
 opening-same n H (Some e) le = first-entries-more n H e le
 
@@ -66,15 +66,15 @@ left-client b i line next = by (slice_get b.clients.items i) refl
 done-is : (b : Books) (i : ℕ) (c : Course) → slice_get b.courses.items i ≡ Some c → done_in b i ≡ length c.places.items
 done-is b i c there = ap length (get_or_from_slice_get (places_in b) i c.places.items [] (slice_get-map (λ (x : Course). x.places.items) b.courses.items i ∙ ap (option_map (λ (x : Course). x.places.items)) there))
 
-pub room-left : (S : Setup) (H : List Entry) (b : Books) (i : ℕ) (line : Order) → IsSound S H b → order_in b i ≡ Some line → (c : Course) → slice_get b.courses.items i ≡ Some c → vec_len c.places < vec_capacity c.places
+pub room-left : (S : Setup) (H : List Entry) (b : Books) (i : ℕ) (line : Order) → AreBooksSound S H b → order_in b i ≡ Some line → (c : Course) → slice_get b.courses.items i ≡ Some c → vec_len c.places < vec_capacity c.places
 room-left S H b i line sound next c there =
     let left = left-client b i line next in
     let course : IsCourse S H (i + 1) (length left.0.orders.items) c = sound.courses i left.0 c left.1 there in
     omega (arith, course.room, slice_get_within left.0.orders.items (done_in b i) line left.2, done-is b i c there)
 
 -- the books after the line is noted
-pub place-sound : (S : Setup) (H : List Entry) (b b' : Books) (i before : ℕ) (line : Order) → IsSound S H b → (order_in b i ≡ Some line) → ChangesCourse b i (HasPlace before) b' → IsSound S H b'
-place-sound S H b b' i before line sound next change = sound-changes S H b i (HasPlace before) b' sound change (λ client at course.
+pub place-sound : (S : Setup) (H : List Entry) (b b' : Books) (i before : ℕ) (line : Order) → AreBooksSound S H b → (order_in b i ≡ Some line) → ChangesCourse b i (HasLineMore before) b' → AreBooksSound S H b'
+place-sound S H b b' i before line sound next change = sound-changes S H b i (HasLineMore before) b' sound change (λ client at course.
     let left = left-client b i line next in
     let same : left.0 ≡ client = some-same left.0 client (sym left.1 ∙ at) in
     let lt : length change.was.places.items < length client.orders.items = omega (arith, slice_get_within left.0.orders.items (done_in b i) line left.2, done-is b i change.was change.there, ap (λ (x : Client). length x.orders.items) same) in
@@ -97,8 +97,8 @@ order-still b b' i line clients places next = order-same b b' i clients places �
 
 -- a line was done and noted
 pub line-did : (old new : State) (b b1 b' : Books) (i before : ℕ) (e : Option Entry) (token : Option Token) → before ≡ length old.entries → b.opened ≤ length old.entries → DoesNext old.setup (roles_in b) old.entries i (done_in b i) e → DoesOn old b new b1 e token
-    → ChangesCourse b1 i (HasPlace before) b' → DoesLine (state_of old b) i token (state_of new b') e
-unfolding state_of
+    → ChangesCourse b1 i (HasLineMore before) b' → DoesLine (desk_state old b) i token (desk_state new b') e
+unfolding desk_state
 line-did old new b b1 b' i before e token is opened next does change = record {
   does = next;
   entries = does.entries;
@@ -133,8 +133,8 @@ does-same old b b' same sound = record {
     goes s = protect_goes_on s s 0 true (Err (record {})) refl
 
 -- a wait is done
-pub wait-did : (old : State) (b b1 b' : Books) (i before : ℕ) → before ≡ length old.entries → AreBooksOf old b → AreBooksOf old b1 → AreSame b b1 → order_in b i ≡ Some order.Wait → AreOwnOver old.setup old.entries (i + 1) → ChangesCourse b1 i (HasPlace before) b'
-    → DoesLine (state_of old b) i None (state_of old b') None
+pub wait-did : (old : State) (b b1 b' : Books) (i before : ℕ) → before ≡ length old.entries → AreBooksOf old b → AreBooksOf old b1 → AreSame b b1 → order_in b i ≡ Some order.Wait → AreOwnOver old.setup old.entries (i + 1) → ChangesCourse b1 i (HasLineMore before) b'
+    → DoesLine (desk_state old b) i None (desk_state old b') None
 unfolding line_entry
 wait-did old b b1 b' i before is sound sound1 same next own change =
     let left = left-client b i order.Wait next in
@@ -157,8 +157,8 @@ is-true None is = cc
 is-true (Some x) is = refl
 
 -- a token of a waiting client is outstanding
-pub wait-not-yet : (disk : State) (b b' : Books) (i : ℕ) → AreSame b b' → order_in b i ≡ Some order.Wait → true ≡ is_some (first_own_open disk.setup disk.entries (i + 1)) → LineSays (state_of disk b) i line.NotYet (state_of disk b')
-unfolding LineSays state_of
+pub wait-not-yet : (disk : State) (b b' : Books) (i : ℕ) → AreSame b b' → order_in b i ≡ Some order.Wait → true ≡ is_some (first_own_open disk.setup disk.entries (i + 1)) → LineSays (desk_state disk b) i line.NotYet (desk_state disk b')
+unfolding LineSays desk_state
 wait-not-yet disk b b' i same next waits = (next, is-true (first_own_open disk.setup disk.entries (i + 1)) waits, state-same disk b b' same)
 
 -- the least uncollected token of a client none of whose tokens is outstanding
@@ -179,20 +179,20 @@ own-left S H tag t least none =
     and-one true is = cc
     and-one false is = refl
 
-collects-at : (old : State) (b : Books) (i t : ℕ) → order_in b i ≡ Some order.Wait → false ≡ is_some (first_own_open old.setup old.entries (i + 1)) → Some t ≡ first_own_left old.entries (i + 1) → CollectsAtWait old.setup (state_of old b).script.roles old.entries i (done_of (state_of old b) i) t
-unfolding state_of
+collects-at : (old : State) (b : Books) (i t : ℕ) → order_in b i ≡ Some order.Wait → false ≡ is_some (first_own_open old.setup old.entries (i + 1)) → Some t ≡ first_own_left old.entries (i + 1) → CollectsAtWait old.setup (desk_state old b).script.roles old.entries i (done_of (desk_state old b) i) t
+unfolding desk_state
 collects-at old b i t next none least = record { next = next; ended = is-none _ none; least = sym least }
 
 -- it was handed back
 pub wait-collected : (old new : State) (b b1 b' : Books) (i tag t : ℕ) → tag ≡ i + 1 → AreSame b b1 → order_in b i ≡ Some order.Wait → false ≡ is_some (first_own_open old.setup old.entries (i + 1)) → Some t ≡ first_own_left old.entries (i + 1)
-    → Takes (state_of old b1) tag t (state_of new b') → LineSays (state_of old b) i (line.Collected t) (state_of new b')
-unfolding LineSays state_of
+    → TakesBack (desk_state old b1) tag t (desk_state new b') → LineSays (desk_state old b) i (line.Collected t) (desk_state new b')
+unfolding LineSays desk_state
 wait-collected old new b b1 b' i tag t tagged same next none least takes =
-    (collects-at old b i t next none least, subst (λ n. Takes (state_of old b) n t (state_of new b')) tagged (subst (λ s. Takes s tag t (state_of new b')) (state-same old b b1 same) takes))
+    (collects-at old b i t next none least, subst (λ n. TakesBack (desk_state old b) n t (desk_state new b')) tagged (subst (λ s. TakesBack s tag t (desk_state new b')) (state-same old b b1 same) takes))
 
 -- all of them were
 pub wait-done : (old : State) (b b1 b' : Books) (i before : ℕ) → before ≡ length old.entries → AreBooksOf old b → AreBooksOf old b1 → AreSame b b1 → order_in b i ≡ Some order.Wait → false ≡ is_some (first_own_open old.setup old.entries (i + 1)) → None ≡ first_own_left old.entries (i + 1)
-    → ChangesCourse b1 i (HasPlace before) b' → LineSays (state_of old b) i (line.Did None) (state_of old b')
+    → ChangesCourse b1 i (HasLineMore before) b' → LineSays (desk_state old b) i (line.Did None) (desk_state old b')
 unfolding LineSays
 wait-done old b b1 b' i before is sound sound1 same next none least change = (None, wait-did old b b1 b' i before is sound sound1 same next (record { ended = is-none _ none; collected = sym least }) change)
 
@@ -203,23 +203,23 @@ pub order-left : (old new : State) (b b' : Books) (i : ℕ) (token : Option Toke
 order-left old new b b' i token does = order-still b b' i does.next.order does.does.clients does.does.places (does-order old.setup old.entries b i does.entry does.next)
 
 -- a line was done and noted
-pub took-line : (old new : State) (b b1 b' : Books) (i before : ℕ) (token : Option Token) → before ≡ length old.entries → AreBooksOf old b → DoesOrder old b i new b1 token → ChangesCourse b1 i (HasPlace before) b' → LineSays (state_of old b) i (line.Did token) (state_of new b')
+pub took-line : (old new : State) (b b1 b' : Books) (i before : ℕ) (token : Option Token) → before ≡ length old.entries → AreBooksOf old b → DoesOrder old b i new b1 token → ChangesCourse b1 i (HasLineMore before) b' → LineSays (desk_state old b) i (line.Did token) (desk_state new b')
 unfolding LineSays
 took-line old new b b1 b' i before token is sound does change = (does.entry, line-did old new b b1 b' i before does.entry token is sound.opened does.next does.does change)
 
 -- memory ran out
-pub took-nothing : (old new : State) (b b' : Books) (i : ℕ) → WantsMemory (order_in b i) → new ≡ old → AreSame b b' → LineSays (state_of old b) i line.Memory (state_of new b')
-unfolding LineSays state_of
+pub took-nothing : (old new : State) (b b' : Books) (i : ℕ) → MayWantMemory (order_in b i) → new ≡ old → AreSame b b' → LineSays (desk_state old b) i line.Memory (desk_state new b')
+unfolding LineSays desk_state
 took-nothing old new b b' i wants disk same = by (order_in b i) refl wants
   where
-    now : state_of new b' ≡ state_of old b
-    now = ap (λ (d : State). state_of d b') disk ∙ state-same old b b' same
+    now : desk_state new b' ≡ desk_state old b
+    now = ap (λ (d : State). desk_state d b') disk ∙ state-same old b b' same
 
-    by : (o : Option Order) → order_in b i ≡ o → WantsMemory o → LineSays (state_of old b) i line.Memory (state_of new b')
+    by : (o : Option Order) → order_in b i ≡ o → MayWantMemory o → LineSays (desk_state old b) i line.Memory (desk_state new b')
     by None is wants = absurd wants
     by (Some order) is wants = (order, is, wants, now)
 
 -- no line is left
-pub took-none : (disk : State) (b : Books) (i : ℕ) → None ≡ order_in b i → LineSays (state_of disk b) i line.Ended (state_of disk b)
-unfolding LineSays state_of
+pub took-none : (disk : State) (b : Books) (i : ℕ) → None ≡ order_in b i → LineSays (desk_state disk b) i line.Ended (desk_state disk b)
+unfolding LineSays desk_state
 took-none disk b i none = (sym none, refl)

@@ -12,7 +12,7 @@ use Rattle.atomic_table.proofs.Lists.{at_set, at_snoc, set_again, set_else}
 use Rattle.shared_disk.specs.declared.log_rule.Item.{Item}
 use Rattle.shared_disk.specs.declared.log_rule.LogView.{LogView}
 use Rattle.shared_disk.specs.Log.{IsOld}
-use Rattle.shared_disk.specs.Pens.{Knows, AllKnow, IsKept, HasAdded, HasCounted, HasLooked, first_view, note_view, met_view, spent_view}
+use Rattle.shared_disk.specs.Pens.{KnowsLog, AllKnowLog, IsLogKept, HasAdded, HasCounted, HasLooked, first_view, note_view, met_view, spent_view}
 
 -- what was a beginning of the log is one of the log with more items
 old-more : (items old log : List Item) → IsOld old log → IsOld old (items ++ log)
@@ -27,8 +27,8 @@ written [] word one = absurd (omega arith)
 written (x ∷ xs) word one = refl
 
 -- the rule after a write, from what the seats know then
-kept-set : (words : List ℕ) (homes : List (Option (Unit {0}))) (views : List LogView) (pen word : ℕ) (log : List Item) → length words ≡ 1 → word ≡ length log → AllKnow pen log views
-    → IsKept (record { words = set words 0 word; homes = homes; views = views })
+kept-set : (words : List ℕ) (homes : List (Option (Unit {0}))) (views : List LogView) (pen word : ℕ) (log : List Item) → length words ≡ 1 → word ≡ length log → AllKnowLog pen log views
+    → IsLogKept (record { words = set words 0 word; homes = homes; views = views })
 kept-set words homes views pen word log single counts known = record {
   single = simp length-set single;
   pen = pen;
@@ -38,24 +38,24 @@ kept-set words homes views pen word log single counts known = record {
 }
 
 -- one seat's view is another
-known-set : (pen : ℕ) (log : List Item) (seat : ℕ) (v : LogView) (views : List LogView) → AllKnow pen log views → Knows pen log seat v → AllKnow pen log (set views seat v)
+known-set : (pen : ℕ) (log : List Item) (seat : ℕ) (v : LogView) (views : List LogView) → AllKnowLog pen log views → KnowsLog pen log seat v → AllKnowLog pen log (set views seat v)
 known-set pen log seat v views known new = record {
   at = λ i w at. ⊎_elim
-      (λ here. subst (λ (z : ℕ × LogView). Knows pen log z.0 z.1) (λ k. (sym here.0 k, here.1 k)) new)
+      (λ here. subst (λ (z : ℕ × LogView). KnowsLog pen log z.0 z.1) (λ k. (sym here.0 k, here.1 k)) new)
       (λ there. known.at i w there.1)
       (at_set views seat i v w at);
 }
 
 -- a note that has seen a beginning of the log
-note-knows : (pen : ℕ) (log : List Item) (seat : ℕ) (seen : List Item) → IsOld seen log → Knows pen log seat (record { pens = false; log = []; olds = []; seen = seen })
+note-knows : (pen : ℕ) (log : List Item) (seat : ℕ) (seen : List Item) → IsOld seen log → KnowsLog pen log seat (record { pens = false; log = []; olds = []; seen = seen })
 note-knows pen log seat seen old = record { only = λ h. absurd (cc); writes = λ h. absurd (cc); olds = All-nil (λ old. IsOld old log); seen = old }
 
 -- what the others know once the pen has added items
-known-added : (pen : ℕ) (items log : List Item) (v : LogView) (views : List LogView) → AllKnow pen log views → Knows pen log pen v → v.pens ≡ true
-    → AllKnow pen (items ++ log) (set views pen (record v { log = items ++ v.log }))
+known-added : (pen : ℕ) (items log : List Item) (v : LogView) (views : List LogView) → AllKnowLog pen log views → KnowsLog pen log pen v → v.pens ≡ true
+    → AllKnowLog pen (items ++ log) (set views pen (record v { log = items ++ v.log }))
 known-added pen items log v views known knew writes = record {
   at = λ i w at. ⊎_elim
-      (λ here. subst (λ (z : ℕ × LogView). Knows pen (items ++ log) z.0 z.1) (λ k. (sym here.0 k, here.1 k))
+      (λ here. subst (λ (z : ℕ × LogView). KnowsLog pen (items ++ log) z.0 z.1) (λ k. (sym here.0 k, here.1 k))
       (record { only = λ _. refl; writes = λ _. ap (λ l. items ++ l) (knew.writes writes); olds = olds-more items log v.olds knew.olds; seen = old-more items v.seen log knew.seen }))
       (λ there. let k = known.at i w there.1 in record {
         only = k.only;
@@ -68,13 +68,13 @@ known-added pen items log v views known knew writes = record {
 
 -- enter: the pen puts the new number of items into the word
 pub adds : (slots id word : ℕ) (items : List Item) (me : Me (Unit {0}) LogView) → me.0.pens ≡ true → word ≡ length items + length me.0.log
-    → Allows IsKept slots id me 0 (λ _. word) (λ _ after. HasAdded items me.0 after.0)
+    → Allows IsLogKept slots id me 0 (λ _. word) (λ _ after. HasAdded items me.0 after.0)
 adds slots id word items me writes counted s kept homes has fits =
     let after : LogView = record me.0 { log = items ++ me.0.log } in
     let knew = kept.known.at id me.0 has in
     let same : id ≡ kept.pen = knew.only writes in
-    let known = subst (λ i. AllKnow kept.pen (items ++ kept.log) (set s.views i after)) (sym same)
-    (known-added kept.pen items kept.log me.0 s.views kept.known (subst (λ i. Knows kept.pen kept.log i me.0) same knew) writes) in
+    let known = subst (λ i. AllKnowLog kept.pen (items ++ kept.log) (set s.views i after)) (sym same)
+    (known-added kept.pen items kept.log me.0 s.views kept.known (subst (λ i. KnowsLog kept.pen kept.log i me.0) same knew) writes) in
     let counts : word ≡ length (items ++ kept.log) = counted ∙ sym (length-append items me.0.log) ∙ ap (λ l. length (items ++ l)) (knew.writes writes) in (
       after,
       keeps,
@@ -84,7 +84,7 @@ adds slots id word items me writes counted s kept homes has fits =
     )
 
 -- the pen reads the word
-pub counts : (slots id : ℕ) (me : Me (Unit {0}) LogView) → me.0.pens ≡ true → Allows IsKept slots id me 0 (λ n. n) (λ word after. HasCounted me.0 word after.0)
+pub counts : (slots id : ℕ) (me : Me (Unit {0}) LogView) → me.0.pens ≡ true → Allows IsLogKept slots id me 0 (λ n. n) (λ word after. HasCounted me.0 word after.0)
 counts slots id me writes s kept homes has fits =
     let word : ℕ = get_or s.words 0 0 in
     let knew = kept.known.at id me.0 has in (
@@ -96,7 +96,7 @@ counts slots id me writes s kept homes has fits =
     )
 
 -- look: the pen compares what the notes had seen that it took in
-pub looks : (slots id : ℕ) (me : Me (Unit {0}) LogView) → me.0.pens ≡ true → Allows IsKept slots id me 0 (λ n. n) (λ _ after. HasLooked me.0 after.0)
+pub looks : (slots id : ℕ) (me : Me (Unit {0}) LogView) → me.0.pens ≡ true → Allows IsLogKept slots id me 0 (λ n. n) (λ _ after. HasLooked me.0 after.0)
 looks slots id me writes s kept homes has fits =
     let word : ℕ = get_or s.words 0 0 in
     let knew = kept.known.at id me.0 has in (
@@ -108,7 +108,7 @@ looks slots id me writes s kept homes has fits =
     )
 
 -- note: the pen's seat is split, and the new one has seen the whole log
-pub notes : (id : ℕ) (v : LogView) → v.pens ≡ true → Splits IsKept id v v (note_view v)
+pub notes : (id : ℕ) (v : LogView) → v.pens ≡ true → Splits IsLogKept id v v (note_view v)
 notes id v writes s kept has =
     let knew = kept.known.at id v has in
     let whole : IsOld v.log kept.log = record { more = []; is = sym (knew.writes writes) } in record {
@@ -119,13 +119,13 @@ notes id v writes s kept has =
       known = record {
         at = λ i w at. ⊎_elim
             (λ old. kept.known.at i w (rw set_again at old))
-            (λ (e : note_view v ≡ w). subst (Knows kept.pen kept.log i) e (note-knows kept.pen kept.log i v.log whole))
+            (λ (e : note_view v ≡ w). subst (KnowsLog kept.pen kept.log i) e (note-knows kept.pen kept.log i v.log whole))
             (at_snoc (set s.views id v) (note_view v) w i at);
       };
     }
 
 -- meet: the pen takes a note in, which is then spent
-pub meets : (id : ℕ) (v : LogView) (other : ℕ) (w : LogView) → Joins IsKept id v other w (met_view v w) spent_view
+pub meets : (id : ℕ) (v : LogView) (other : ℕ) (w : LogView) → Joins IsLogKept id v other w (met_view v w) spent_view
 meets id v other w s kept has apart there =
     let knew = kept.known.at id v has in
     let seen = (kept.known.at other w (sym (set_else s.views id other (met_view v w) apart) ∙ there)).seen in
@@ -141,12 +141,12 @@ meets id v other w s kept has apart there =
 none-old : IsOld [] []
 none-old = record { more = []; is = refl }
 
-known-first : (seat : ℕ) (v : LogView) → get_elem? (first_view ∷ []) seat ≡ some v → Knows 0 [] seat v
-known-first zero v at = subst (Knows 0 [] 0) (some-injective first_view v at) (record { only = λ _. refl; writes = λ _. refl; olds = All-nil (λ old. IsOld old []); seen = none-old })
+known-first : (seat : ℕ) (v : LogView) → get_elem? (first_view ∷ []) seat ≡ some v → KnowsLog 0 [] seat v
+known-first zero v at = subst (KnowsLog 0 [] 0) (some-injective first_view v at) (record { only = λ _. refl; writes = λ _. refl; olds = All-nil (λ old. IsOld old []); seen = none-old })
 known-first (suc seat) v at = absurd (cc)
 
 -- birth: the pen of an empty log
-pub begins : IsKept (opening (0 ∷ []) [] first_view)
+pub begins : IsLogKept (opening (0 ∷ []) [] first_view)
 begins = record {
   single = refl;
   pen = 0;

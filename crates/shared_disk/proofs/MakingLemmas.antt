@@ -16,8 +16,8 @@ use Rattle.shared_disk.specs.declared.books.Course.{Course}
 use Rattle.shared_disk.specs.declared.books.Slot.{Slot}
 use Rattle.shared_disk.specs.Lines.{roles_of, has_tag, own_before}
 use Rattle.shared_disk.specs.Script.{IsOpening, tag_of}
-use Rattle.shared_disk.specs.Desk.{AreClients, desk_over}
-use Rattle.shared_disk.specs.Inside.{first_entries, buffer_in, state_of, IsSlot, IsSound, IsNewCourse, AreNew}
+use Rattle.shared_disk.specs.Desk.{AreDeskClients, desk_over}
+use Rattle.shared_disk.specs.Inside.{first_entries, buffer_in, desk_state, IsSlot, AreBooksSound, IsNewCourse, AreNew}
 use Rattle.history_laws.proofs.TokenLemmas.{request-some}
 use Rattle.std.proofs.lemmas.List.Sums.{sum_by-append}
 
@@ -53,8 +53,8 @@ none-given n slots is = rw is (by n)
     by (suc n) = ap (λ xs. None ∷ xs) (by n)
 
 pub state-new : (disk : State) (clients : Vec Client) (courses : Vec Course) (slots : Vec Slot) (n : ℕ) → n ≡ length disk.entries → AreNew clients.items courses.items → slots.items ≡ replicate (accepted disk.entries) (record { tag = 0; buffer = Gone })
-    → state_of disk (record { opened = n; clients = clients; courses = courses; slots = slots; ended = 0; collected = 0 }) ≡ desk_over disk (roles_of clients.items)
-unfolding state_of
+    → desk_state disk (record { opened = n; clients = clients; courses = courses; slots = slots; ended = 0; collected = 0 }) ≡ desk_over disk (roles_of clients.items)
+unfolding desk_state
 state-new disk clients courses slots n is new gone = rw (first-all disk.entries n is, no-places clients.items courses.items new, none-given (accepted disk.entries) slots.items gone) refl
 
 -- no token of an opening has the tag of a client
@@ -86,8 +86,8 @@ past-slot zero t s at = cc
 past-slot (suc n) zero s at = (omega arith, sym (some-same (record { tag = 0; buffer = Gone }) s at))
 past-slot (suc n) (suc t) s at = let before : (t < n) × (s ≡ record { tag = 0; buffer = Gone }) = past-slot n t s at in (omega (arith, before.0), before.1)
 
-pub sound-new : (S : Setup) (H : List Entry) (clients : Vec Client) (courses : Vec Course) (slots : Vec Slot) (n : ℕ) → n ≡ length H → AreClients clients.items → IsOpening H → AreNew clients.items courses.items → slots.items ≡ replicate (accepted H) (record { tag = 0; buffer = Gone })
-    → IsSound S H (record { opened = n; clients = clients; courses = courses; slots = slots; ended = 0; collected = 0 })
+pub sound-new : (S : Setup) (H : List Entry) (clients : Vec Client) (courses : Vec Course) (slots : Vec Slot) (n : ℕ) → n ≡ length H → AreDeskClients clients.items → IsOpening H → AreNew clients.items courses.items → slots.items ≡ replicate (accepted H) (record { tag = 0; buffer = Gone })
+    → AreBooksSound S H (record { opened = n; clients = clients; courses = courses; slots = slots; ended = 0; collected = 0 })
 sound-new S H clients courses slots n is are opening new gone = record {
   opened = omega (arith, is);
   opening = rw (first-all H n is) opening;

@@ -11,54 +11,54 @@ use Rattle.shared_disk.specs.declared.books.Course.{Course}
 use Rattle.shared_disk.specs.declared.clients.Client.{Client}
 use Rattle.shared_disk.specs.Desk.{DeskState}
 use Rattle.shared_disk.specs.Script.{places_at}
-use Rattle.shared_disk.specs.Log.{entries_of, lines_of}
+use Rattle.shared_disk.specs.Log.{logged_entries, line_count_of}
 use Rattle.shared_disk.specs.Plate.{lines_from, log_of, IsLogOf}
 
-entries-append : (xs ys : List Item) → entries_of (xs ++ ys) ≡ entries_of xs ++ entries_of ys
-unfolding entries_of
+entries-append : (xs ys : List Item) → logged_entries (xs ++ ys) ≡ logged_entries xs ++ logged_entries ys
+unfolding logged_entries
 entries-append [] ys = refl
 entries-append (Happened e ∷ xs) ys = ap (λ es. e ∷ es) (entries-append xs ys)
 entries-append (LineOf k ∷ xs) ys = entries-append xs ys
 
-entries-happened : (H : List Entry) → entries_of (map Happened H) ≡ H
-unfolding entries_of
+entries-happened : (H : List Entry) → logged_entries (map Happened H) ≡ H
+unfolding logged_entries
 entries-happened [] = refl
 entries-happened (e ∷ H) = ap (λ es. e ∷ es) (entries-happened H)
 
-no-entries : (n tag : ℕ) → entries_of (replicate n (LineOf tag)) ≡ []
-unfolding entries_of
+no-entries : (n tag : ℕ) → logged_entries (replicate n (LineOf tag)) ≡ []
+unfolding logged_entries
 no-entries zero tag = refl
 no-entries (suc n) tag = no-entries n tag
 
-lines-append : (k : ℕ) (xs ys : List Item) → lines_of k (xs ++ ys) ≡ lines_of k xs + lines_of k ys
-unfolding lines_of
+lines-append : (k : ℕ) (xs ys : List Item) → line_count_of k (xs ++ ys) ≡ line_count_of k xs + line_count_of k ys
+unfolding line_count_of
 lines-append k [] ys = omega arith
 lines-append k (Happened e ∷ xs) ys = lines-append k xs ys
 lines-append k (LineOf j ∷ xs) ys = by (nat_eq j k) (lines-append k xs ys)
   where
-    by : (b : Bool) → lines_of k (xs ++ ys) ≡ lines_of k xs + lines_of k ys
-        → (if b then suc (lines_of k (xs ++ ys)) else lines_of k (xs ++ ys)) ≡ (if b then suc (lines_of k xs) else lines_of k xs) + lines_of k ys
+    by : (b : Bool) → line_count_of k (xs ++ ys) ≡ line_count_of k xs + line_count_of k ys
+        → (if b then suc (line_count_of k (xs ++ ys)) else line_count_of k (xs ++ ys)) ≡ (if b then suc (line_count_of k xs) else line_count_of k xs) + line_count_of k ys
     by true h = omega (arith, h)
     by false h = h
 
-no-lines : (k : ℕ) (H : List Entry) → lines_of k (map Happened H) ≡ 0
-unfolding lines_of
+no-lines : (k : ℕ) (H : List Entry) → line_count_of k (map Happened H) ≡ 0
+unfolding line_count_of
 no-lines k [] = refl
 no-lines k (e ∷ H) = no-lines k H
 
-own-lines : (n k tag : ℕ) → tag ≡ k → lines_of k (replicate n (LineOf tag)) ≡ n
-unfolding lines_of
+own-lines : (n k tag : ℕ) → tag ≡ k → line_count_of k (replicate n (LineOf tag)) ≡ n
+unfolding line_count_of
 own-lines zero k tag same = refl
 own-lines (suc n) k tag same = rw (eq-eqb tag k same) (ap (λ m. suc m) (own-lines n k tag same))
 
-other-lines : (n k tag : ℕ) → (tag ≡ k → ⊥) → lines_of k (replicate n (LineOf tag)) ≡ 0
-unfolding lines_of
+other-lines : (n k tag : ℕ) → (tag ≡ k → ⊥) → line_count_of k (replicate n (LineOf tag)) ≡ 0
+unfolding line_count_of
 other-lines zero k tag apart = refl
 other-lines (suc n) k tag apart = rw (ne_eqb tag k apart) (other-lines n k tag apart)
 
 -- the lines of an older tag are not among them
-later-lines : (k tag : ℕ) (rows : List (List ℕ)) → k < tag → lines_of k (lines_from tag rows) ≡ 0
-unfolding lines_of lines_from
+later-lines : (k tag : ℕ) (rows : List (List ℕ)) → k < tag → line_count_of k (lines_from tag rows) ≡ 0
+unfolding line_count_of lines_from
 later-lines k tag [] less = refl
 later-lines k tag (places ∷ rest) less =
     let a = lines-append k (lines_from (suc tag) rest) (replicate (length places) (LineOf tag)) in
@@ -66,22 +66,22 @@ later-lines k tag (places ∷ rest) less =
     let c = other-lines (length places) k tag (λ e. omega (arith, less, e)) in omega (arith, a, b, c)
 
 -- each client's are as many as its places
-lines-from : (k tag i : ℕ) (rows : List (List ℕ)) → k ≡ i + tag → lines_of k (lines_from tag rows) ≡ length (places_at rows i)
-unfolding lines_of lines_from
+lines-from : (k tag i : ℕ) (rows : List (List ℕ)) → k ≡ i + tag → line_count_of k (lines_from tag rows) ≡ length (places_at rows i)
+unfolding line_count_of lines_from
 lines-from k tag i [] is = refl
 lines-from k tag zero (places ∷ rest) is =
     let a = lines-append k (lines_from (suc tag) rest) (replicate (length places) (LineOf tag)) in
     let b = later-lines k (suc tag) rest (omega (arith, is)) in
     let c = own-lines (length places) k tag (omega (arith, is)) in
-    let here : lines_of k (lines_from (suc tag) rest ++ replicate (length places) (LineOf tag)) ≡ length places = omega (arith, a, b, c) in here
+    let here : line_count_of k (lines_from (suc tag) rest ++ replicate (length places) (LineOf tag)) ≡ length places = omega (arith, a, b, c) in here
 lines-from k tag (suc i) (places ∷ rest) is =
     let a = lines-append k (lines_from (suc tag) rest) (replicate (length places) (LineOf tag)) in
     let b = lines-from k (suc tag) i rest (omega (arith, is)) in
     let c = other-lines (length places) k tag (λ e. omega (arith, is, e)) in
-    let here : lines_of k (lines_from (suc tag) rest ++ replicate (length places) (LineOf tag)) ≡ length (places_at rest i) = omega (arith, a, b, c) in here
+    let here : line_count_of k (lines_from (suc tag) rest ++ replicate (length places) (LineOf tag)) ≡ length (places_at rest i) = omega (arith, a, b, c) in here
 
-no-entries-from : (tag : ℕ) (rows : List (List ℕ)) → entries_of (lines_from tag rows) ≡ []
-unfolding entries_of lines_from
+no-entries-from : (tag : ℕ) (rows : List (List ℕ)) → logged_entries (lines_from tag rows) ≡ []
+unfolding logged_entries lines_from
 no-entries-from tag [] = refl
 no-entries-from tag (places ∷ rest) = rw (entries-append (lines_from (suc tag) rest) (replicate (length places) (LineOf tag)), no-entries-from (suc tag) rest) (no-entries (length places) tag)
 

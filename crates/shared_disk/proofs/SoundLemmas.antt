@@ -23,8 +23,8 @@ use Rattle.shared_disk.specs.declared.books.Course.{Course}
 use Rattle.shared_disk.specs.declared.books.Slot.{Slot}
 use Rattle.shared_disk.specs.Lines.{has_tag, own_before}
 use Rattle.token_table.specs.declared.record.Done.{Done}
-use Rattle.shared_disk.specs.Desk.{IsGivenBack}
-use Rattle.shared_disk.specs.Inside.{first_entries, IsCourse, IsBufferOf, IsSlot, IsSound, HasToken, ChangesCourse, AddsToken, KeepsBuffer}
+use Rattle.shared_disk.specs.Desk.{IsHandedBack}
+use Rattle.shared_disk.specs.Inside.{first_entries, IsCourse, IsBufferOf, IsSlot, AreBooksSound, HasToken, ChangesCourse, AddsToken, KeepsBuffer}
 use Rattle.shared_disk.proofs.OwnLemmas.{get-push, own-more, own-same, IsOwnAt, own-at, own-before-same}
 use Rattle.shared_disk.proofs.OpeningLemmas.{collected-stays}
 use Rattle.shared_disk.proofs.GivenLemmas.{closed-stays, given-stays}
@@ -53,7 +53,7 @@ buffer-entry S H e t (Kept done) may other is = (is.0, given-stays S H e t done.
 buffer-entry S H e t Gone may other is = collected-same H e t other ∙ is
 
 -- the books after an entry that is no accept and no collect
-pub sound-entry : (S : Setup) (H : List Entry) (e : Entry) (b : Books) → MayFollow S H e → is_accept e ≡ false → ((t : ℕ) → is_collect_of t e ≡ false) → IsSound S H b → IsSound S (e ∷ H) b
+pub sound-entry : (S : Setup) (H : List Entry) (e : Entry) (b : Books) → MayFollow S H e → is_accept e ≡ false → ((t : ℕ) → is_collect_of t e ≡ false) → AreBooksSound S H b → AreBooksSound S (e ∷ H) b
 sound-entry S H e b may other none sound = record {
   opened = omega (arith, sound.opened);
   opening = rw (first-entries-more b.opened H e sound.opened) (sound.opening);
@@ -74,8 +74,8 @@ some-same : {X : Type 0} (x y : X) → Some x ≡ Some y → x ≡ y
 some-same x y e = cc
 
 -- the books where one course has changed
-pub sound-changes : (S : Setup) (H : List Entry) (b : Books) (place : ℕ) (Changes : Course → Course → Type 0) (b' : Books) → IsSound S H b → (change : ChangesCourse b place Changes b')
-    → ((client : Client) → slice_get b.clients.items place ≡ Some client → IsCourse S H (place + 1) (length client.orders.items) change.was → IsCourse S H (place + 1) (length client.orders.items) change.now) → IsSound S H b'
+pub sound-changes : (S : Setup) (H : List Entry) (b : Books) (place : ℕ) (Changes : Course → Course → Type 0) (b' : Books) → AreBooksSound S H b → (change : ChangesCourse b place Changes b')
+    → ((client : Client) → slice_get b.clients.items place ≡ Some client → IsCourse S H (place + 1) (length client.orders.items) change.was → IsCourse S H (place + 1) (length client.orders.items) change.now) → AreBooksSound S H b'
 sound-changes S H b place Changes b' sound change next = record {
   opened = rw change.opened (sound.opened);
   opening = rw change.opened (sound.opening);
@@ -145,8 +145,8 @@ course-other S H tag other lines view asked bytes c differs course = record {
 }
 
 -- the books after a request of a client was accepted
-pub sound-token : (S : Setup) (H : List Entry) (place tag : ℕ) (view : View) (asked : Asked) (bytes : List ℕ) (b b' : Books) → IsLegal S H → MayFollow S H (Accept tag view asked bytes) → tag ≡ place + 1 → IsSound S H b → AddsToken b place tag (accepted H) b'
-    → IsSound S (Accept tag view asked bytes ∷ H) b'
+pub sound-token : (S : Setup) (H : List Entry) (place tag : ℕ) (view : View) (asked : Asked) (bytes : List ℕ) (b b' : Books) → IsLegal S H → MayFollow S H (Accept tag view asked bytes) → tag ≡ place + 1 → AreBooksSound S H b → AddsToken b place tag (accepted H) b'
+    → AreBooksSound S (Accept tag view asked bytes ∷ H) b'
 sound-token S H place tag view asked bytes b b' legal may tagged sound adds = record {
   opened = omega (arith, adds.opened, sound.opened);
   opening = rw (adds.opened, first-entries-more b.opened H (Accept tag view asked bytes) sound.opened) (sound.opening);
@@ -183,8 +183,8 @@ sound-token S H place tag view asked bytes b b' legal may tagged sound adds = re
         })
 
 -- the books after a token was handed back, whose buffer they keep
-pub sound-keep : (S : Setup) (H : List Entry) (tag t : ℕ) (done : Done) (q : Request) (b b' : Books) → MayFollow S H (Collect tag t) → IsSound S H b → KeepsBuffer b t done b' → IsGivenBack S (Collect tag t ∷ H) t done.buffer q done.status
-    → IsSound S (Collect tag t ∷ H) b'
+pub sound-keep : (S : Setup) (H : List Entry) (tag t : ℕ) (done : Done) (q : Request) (b b' : Books) → MayFollow S H (Collect tag t) → AreBooksSound S H b → KeepsBuffer b t done b' → IsHandedBack S (Collect tag t ∷ H) t done.buffer q done.status
+    → AreBooksSound S (Collect tag t ∷ H) b'
 sound-keep S H tag t done q b b' may sound keeps given = record {
   opened = omega (arith, keeps.opened, sound.opened);
   opening = rw (keeps.opened, first-entries-more b.opened H (Collect tag t) sound.opened) (sound.opening);

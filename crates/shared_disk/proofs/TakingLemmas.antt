@@ -19,8 +19,8 @@ use Rattle.history_laws.proofs.NextLemmas.{outstanding-test}
 use Rattle.shared_disk.specs.declared.books.Books.{Books}
 use Rattle.shared_disk.specs.declared.books.Slot.{Slot}
 use Rattle.shared_disk.specs.declared.books.Buffer.TheVariants as slot
-use Rattle.shared_disk.specs.Desk.{IsGivenBack, Takes, given_at}
-use Rattle.shared_disk.specs.Inside.{buffer_in, state_of, IsSound, KeepsBuffer, AreBooksOf}
+use Rattle.shared_disk.specs.Desk.{IsHandedBack, TakesBack, given_at}
+use Rattle.shared_disk.specs.Inside.{buffer_in, desk_state, AreBooksSound, KeepsBuffer, AreBooksOf}
 use Rattle.shared_disk.proofs.SoundLemmas.{first-entries-more, sound-keep}
 use Rattle.shared_disk.proofs.SuccessLemmas.{success-moved}
 
@@ -62,7 +62,7 @@ module _ (old new : State) (tag t : ℕ) (status : Status) (buffer : List ℕ) (
   may : MayFollow old.setup old.entries (Collect tag t)
   may = legal-last old.setup old.entries (Collect tag t) legal
 
-  given : IsGivenBack old.setup (Collect tag t ∷ old.entries) t buffer q status
+  given : IsHandedBack old.setup (Collect tag t ∷ old.entries) t buffer q status
   given = record {
     named = request-stays old.entries (Collect tag t) t q collects.named;
     marked = mark-stays old.setup old.entries (Collect tag t) t status collects.marked;
@@ -75,13 +75,13 @@ module _ (old new : State) (tag t : ℕ) (status : Status) (buffer : List ℕ) (
   }
 
   pub takes-sound : (b b' : Books) → AreBooksOf old b → KeepsBuffer b t (record { status = status; buffer = buffer }) b' → AreBooksOf new b'
-  takes-sound b b' sound keeps = subst (λ (s : State). IsSound s.setup s.entries b') (sym collects.new_is) (sound-keep old.setup old.entries tag t (record { status = status; buffer = buffer }) q b b' may sound keeps given)
+  takes-sound b b' sound keeps = subst (λ (s : State). AreBooksSound s.setup s.entries b') (sym collects.new_is) (sound-keep old.setup old.entries tag t (record { status = status; buffer = buffer }) q b b' may sound keeps given)
 
   entries-is : new.entries ≡ Collect tag t ∷ old.entries
   entries-is = ap (λ (s : State). s.entries) collects.new_is
 
-  pub takes-token : (b b' : Books) → AreBooksOf old b → KeepsBuffer b t (record { status = status; buffer = buffer }) b' → Takes (state_of old b) tag t (state_of new b')
-  unfolding state_of
+  pub takes-token : (b b' : Books) → AreBooksOf old b → KeepsBuffer b t (record { status = status; buffer = buffer }) b' → TakesBack (desk_state old b) tag t (desk_state new b')
+  unfolding desk_state
   takes-token b b' sound keeps = record {
     status = status;
     buffer = buffer;

@@ -13,7 +13,7 @@ use Rattle.shared_disk.specs.declared.books.Buffer.TheVariants.{Awaited, Kept, G
 use Rattle.shared_disk.specs.declared.books.Course.{Course}
 use Rattle.shared_disk.specs.declared.books.Slot.{Slot}
 use Rattle.shared_disk.specs.Lines.{own_before, first_own_open, first_own_left}
-use Rattle.shared_disk.specs.Inside.{is_awaited, IsCourse, IsBufferOf, IsSlot, IsSound, IsRoomy}
+use Rattle.shared_disk.specs.Inside.{is_awaited, IsCourse, IsBufferOf, IsSlot, AreBooksSound, IsRoomy}
 use Rattle.shared_disk.proofs.OwnLemmas.{IsOwnAt, own-at, own-least, own-none}
 use Rattle.shared_disk.proofs.CourseLemmas.{item-at}
 
@@ -46,7 +46,7 @@ course-roomy S H tag lines c c' same course = record {
   collected = λ j t lt at. course.collected j t (rw same.collected at lt) (rw same.tokens at at);
 }
 
-module _ (S : Setup) (H : List Entry) (b : Books) (place : ℕ) (was : Course) (sound : IsSound S H b) (lt : place < length b.courses.items) (is : was ≡ get_or b.courses.items place was) where
+module _ (S : Setup) (H : List Entry) (b : Books) (place : ℕ) (was : Course) (sound : AreBooksSound S H b) (lt : place < length b.courses.items) (is : was ≡ get_or b.courses.items place was) where
   client-there : (client : Client) × (slice_get b.clients.items place ≡ Some client)
   client-there = there-is b.clients.items place (omega (arith, lt, sound.paired))
 

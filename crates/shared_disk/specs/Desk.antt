@@ -25,7 +25,7 @@ use Rattle.disk_core.specs.GoingOn.{GoesOn}
 use Rattle.shared_disk.specs.declared.clients.Client.{Client}
 use Rattle.shared_disk.specs.declared.answers.Line.{Line}
 use Rattle.shared_disk.specs.declared.answers.Line.TheVariants as line
-use Rattle.shared_disk.specs.Lines.{payload_bytes, Role, with_entry, first_own_open, first_left}
+use Rattle.shared_disk.specs.Lines.{payload_bytes, Role, with_line_entry, first_own_open, first_left}
 use Rattle.shared_disk.specs.Script.{Script, next_order, places_at, AreOver, DoesNext, CollectsAtWait, CollectsAtEnd, KeepsScript}
 
 -- the disk; the history at the beginning with the clients, which never change; for each client the places of the lines that it has done;
@@ -72,24 +72,24 @@ pub record IsBufferFor (asked : Asked) (payload : Payload) (buffer : List ℕ) :
   pub long : length buffer ≡ asked.length
   pub bytes : asked.kind ≡ Write → buffer ≡ payload_bytes asked.length payload
 
-abbrev pub IsOrder : Order → Type 0
-IsOrder (order.Request asked payload k) = IsAskedFor asked payload
-IsOrder order.Wait = Unit {0}
-IsOrder (order.Cancel k) = Unit {0}
-IsOrder order.Reset = Unit {0}
-IsOrder order.Eject = Unit {0}
-IsOrder order.Insert = Unit {0}
-IsOrder (order.Protect on) = Unit {0}
+abbrev pub IsDeskOrder : Order → Type 0
+IsDeskOrder (order.Request asked payload k) = IsAskedFor asked payload
+IsDeskOrder order.Wait = Unit {0}
+IsDeskOrder (order.Cancel k) = Unit {0}
+IsDeskOrder order.Reset = Unit {0}
+IsDeskOrder order.Eject = Unit {0}
+IsDeskOrder order.Insert = Unit {0}
+IsDeskOrder (order.Protect on) = Unit {0}
 
 -- at most 64 clients with at most 2^32 lines together
-pub record AreClients (clients : List Client) : Type 0 where
+pub record AreDeskClients (clients : List Client) : Type 0 where
   pub few : length clients ≤ 64
   pub lines : sum_by (λ client. length client.orders.items) clients ≤ 2 ^ 32
-  pub orders : All (λ client. All IsOrder client.orders.items) clients
+  pub orders : All (λ client. All IsDeskOrder client.orders.items) clients
 
 -- the desk gives this buffer for a token that was collected: a write's bytes as they came, and a read's each byte that was read; where the
 -- read succeeded that is each byte of its range
-pub record IsGivenBack (S : Setup) (H : List Entry) (t : ℕ) (buffer : List ℕ) (q : Request) (status : Status) : Type 0 where
+pub record IsHandedBack (S : Setup) (H : List Entry) (t : ℕ) (buffer : List ℕ) (q : Request) (status : Status) : Type 0 where
   pub named : request H t ≡ Some q
   pub marked : mark_of S H t ≡ Some status
   pub collected : was_collected H t ≡ true
@@ -100,7 +100,7 @@ pub record IsGivenBack (S : Setup) (H : List Entry) (t : ℕ) (buffer : List ℕ
 
 -- so each buffer that the desk gives
 abbrev pub AreGivenBack : DeskState → Type 0
-AreGivenBack s = (t : ℕ) (buffer : List ℕ) → given_at s.given t ≡ Some buffer → (q : Request) × (status : Status) × IsGivenBack s.disk.setup s.disk.entries t buffer q status
+AreGivenBack s = (t : ℕ) (buffer : List ℕ) → given_at s.given t ≡ Some buffer → (q : Request) × (status : Status) × IsHandedBack s.disk.setup s.disk.entries t buffer q status
 
 -- the desk has the buffer of each token that its clients have collected
 abbrev pub HasBuffers : DeskState → Type 0
@@ -150,7 +150,7 @@ pub record IsNewToken (old new : State) (token : Token) : Type 0 where
 -- client i has done its next line, with the entry that the line gives
 pub record DoesLine (old : DeskState) (i : ℕ) (token : Option Token) (new : DeskState) (e : Option Entry) : Type 0 where
   pub does : DoesNext old.disk.setup old.script.roles old.disk.entries i (done_of old i) e
-  pub entries : new.disk.entries ≡ with_entry e old.disk.entries
+  pub entries : new.disk.entries ≡ with_line_entry e old.disk.entries
   pub accepts : is_some token ≡ is_accept_of e
   pub numbered : IfSome token (IsNewToken old.disk new.disk)
   pub goes_on : GoesOn old.disk new.disk
@@ -161,7 +161,7 @@ pub record DoesLine (old : DeskState) (i : ℕ) (token : Option Token) (new : De
   pub given : (t : ℕ) → given_at new.given t ≡ given_at old.given t
 
 -- a token was handed back with this tag, and the desk keeps its buffer
-pub record Takes (old : DeskState) (tag t : ℕ) (new : DeskState) : Type 0 where
+pub record TakesBack (old : DeskState) (tag t : ℕ) (new : DeskState) : Type 0 where
   pub status : Status
   pub buffer : List ℕ
   pub asked : Request
@@ -185,7 +185,7 @@ wants_memory order.Insert = false
 -- the next line of client i: done, at a wait with a token handed back or with one outstanding, none left, or want of memory
 unfoldable pub LineSays : DeskState → ℕ → Line → DeskState → Type 0
 LineSays old i (line.Did token) new = (e : Option Entry) × DoesLine old i token new e
-LineSays old i (line.Collected t) new = CollectsAtWait old.disk.setup old.script.roles old.disk.entries i (done_of old i) t × Takes old (i + 1) t new
+LineSays old i (line.Collected t) new = CollectsAtWait old.disk.setup old.script.roles old.disk.entries i (done_of old i) t × TakesBack old (i + 1) t new
 LineSays old i line.NotYet new = (next_of old i ≡ Some order.Wait) × IsSome (first_own_open old.disk.setup old.disk.entries (i + 1)) × (new ≡ old)
 LineSays old i line.Ended new = (next_of old i ≡ None) × (new ≡ old)
 LineSays old i line.Memory new = (order : Order) × (next_of old i ≡ Some order) × (wants_memory order ≡ true) × (new ≡ old)
@@ -200,5 +200,5 @@ HasNoLast s = HasLine s ⊎ (IsSome (first_open s.disk.setup s.disk.entries) ⊎
 
 -- after the last line: the least uncollected token is handed back with its own tag, and none exactly where that may not be
 unfoldable pub LastSays : DeskState → Option ℕ → DeskState → Type 0
-LastSays old (Some t) new = (tag : ℕ) × CollectsAtEnd old.disk.setup old.script.roles old.disk.entries (done_of old) tag t × Takes old tag t new
+LastSays old (Some t) new = (tag : ℕ) × CollectsAtEnd old.disk.setup old.script.roles old.disk.entries (done_of old) tag t × TakesBack old tag t new
 LastSays old None new = HasNoLast old × (new ≡ old)

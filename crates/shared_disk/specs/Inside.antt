@@ -17,9 +17,9 @@ use Rattle.shared_disk.specs.declared.books.Buffer.{Buffer}
 use Rattle.shared_disk.specs.declared.books.Buffer.TheVariants.{Awaited, Kept, Gone}
 use Rattle.shared_disk.specs.declared.books.Course.{Course}
 use Rattle.shared_disk.specs.declared.books.Slot.{Slot}
-use Rattle.shared_disk.specs.Lines.{Role, roles_of, with_entry, has_tag, own_before}
+use Rattle.shared_disk.specs.Lines.{Role, roles_of, with_line_entry, has_tag, own_before}
 use Rattle.shared_disk.specs.Script.{IsOpening, next_order, places_at, DoesNext}
-use Rattle.shared_disk.specs.Desk.{DeskState, IsOrder, IsGivenBack, given_at, is_accept_of, IsNewToken, wants_memory}
+use Rattle.shared_disk.specs.Desk.{DeskState, IsDeskOrder, IsHandedBack, given_at, is_accept_of, IsNewToken, wants_memory}
 
 -- the oldest n entries
 unfoldable pub first_entries : ℕ → List Entry → List Entry
@@ -66,8 +66,8 @@ abbrev pub order_in : Books → ℕ → Option Order
 order_in b i = next_order (roles_in b) i (done_in b i)
 
 -- the desk as its callers see it
-unfoldable pub state_of : State → Books → DeskState
-state_of disk b = record {
+unfoldable pub desk_state : State → Books → DeskState
+desk_state disk b = record {
   disk = disk;
   script = record { opening = first_entries b.opened disk.entries; roles = roles_in b };
   places = places_in b;
@@ -87,7 +87,7 @@ pub record IsCourse (S : Setup) (H : List Entry) (tag lines : ℕ) (c : Course) 
 -- a buffer is awaited exactly where the token was not collected, and what is kept is what the token gave back
 abbrev pub IsBufferOf : Setup → List Entry → ℕ → Buffer → Type 0
 IsBufferOf S H t Awaited = was_collected H t ≡ false
-IsBufferOf S H t (Kept done) = (q : Request) × IsGivenBack S H t done.buffer q done.status
+IsBufferOf S H t (Kept done) = (q : Request) × IsHandedBack S H t done.buffer q done.status
 IsBufferOf S H t Gone = was_collected H t ≡ true
 
 pub record IsSlot (S : Setup) (H : List Entry) (t : ℕ) (s : Slot) : Type 0 where
@@ -95,11 +95,11 @@ pub record IsSlot (S : Setup) (H : List Entry) (t : ℕ) (s : Slot) : Type 0 whe
   pub buffer : IsBufferOf S H t s.buffer
 
 -- the opening history is the oldest entries; each client has its course, each token its slot; and the marks
-pub record IsSound (S : Setup) (H : List Entry) (b : Books) : Type 0 where
+pub record AreBooksSound (S : Setup) (H : List Entry) (b : Books) : Type 0 where
   pub opened : b.opened ≤ length H
   pub opening : IsOpening (first_entries b.opened H)
   pub few : length b.clients.items ≤ 64
-  pub orders : All (λ client. All IsOrder client.orders.items) b.clients.items
+  pub orders : All (λ client. All IsDeskOrder client.orders.items) b.clients.items
   pub lines : sum_by (λ client. length client.orders.items) b.clients.items ≤ 2 ^ 32
   pub paired : length b.courses.items ≡ length b.clients.items
   pub courses : (i : ℕ) (client : Client) (c : Course) → slice_get b.clients.items i ≡ Some client → slice_get b.courses.items i ≡ Some c → IsCourse S H (i + 1) (length client.orders.items) c
@@ -112,7 +112,7 @@ pub record IsSound (S : Setup) (H : List Entry) (b : Books) : Type 0 where
 
 -- the books of a disk are sound
 abbrev pub AreBooksOf : State → Books → Type 0
-AreBooksOf disk b = IsSound disk.setup disk.entries b
+AreBooksOf disk b = AreBooksSound disk.setup disk.entries b
 
 -- what callers see of the books stays
 pub record AreSame (b b' : Books) : Type 0 where
@@ -123,7 +123,7 @@ pub record AreSame (b b' : Books) : Type 0 where
 
 -- the disk has done what a line asks, with its entry or none, and the books know the token; the line is not yet noted
 pub record DoesOn (old : State) (b : Books) (new : State) (b' : Books) (e : Option Entry) (token : Option Token) : Type 0 where
-  pub entries : new.entries ≡ with_entry e old.entries
+  pub entries : new.entries ≡ with_line_entry e old.entries
   pub accepts : is_some token ≡ is_accept_of e
   pub numbered : IfSome token (IsNewToken old new)
   pub goes_on : GoesOn old new
@@ -149,7 +149,7 @@ pub record AreNew (clients : List Client) (courses : List Course) : Type 0 where
   pub each : (i : ℕ) (client : Client) (c : Course) → slice_get clients i ≡ Some client → slice_get courses i ≡ Some c → IsNewCourse client c
 
 -- there is room for one more token of a client
-pub record HasRoom (b : Books) (place : ℕ) : Type 0 where
+pub record HasTokenRoom (b : Books) (place : ℕ) : Type 0 where
   pub slots : vec_len b.slots < vec_capacity b.slots
   pub tokens : (c : Course) → slice_get b.courses.items place ≡ Some c → vec_len c.tokens < vec_capacity c.tokens
 
@@ -183,7 +183,7 @@ pub record HasToken (number : ℕ) (c c' : Course) : Type 0 where
   pub collected : c'.collected ≡ c.collected
 
 -- one line more is done
-pub record HasPlace (before : ℕ) (c c' : Course) : Type 0 where
+pub record HasLineMore (before : ℕ) (c c' : Course) : Type 0 where
   pub places : c'.places.items ≡ c.places.items ++ before ∷ []
   pub room : vec_capacity c'.places ≡ vec_capacity c.places
   pub tokens : c'.tokens ≡ c.tokens
@@ -219,9 +219,9 @@ pub record KeepsBuffer (b : Books) (number : ℕ) (done : Done) (b' : Books) : T
   pub others : (t : ℕ) → t ≢ number → slice_get b'.slots.items t ≡ slice_get b.slots.items t
 
 -- a line may want memory
-abbrev pub WantsMemory : Option Order → Type 0
-WantsMemory None = ⊥
-WantsMemory (Some order) = wants_memory order ≡ true
+abbrev pub MayWantMemory : Option Order → Type 0
+MayWantMemory None = ⊥
+MayWantMemory (Some order) = wants_memory order ≡ true
 
 -- the disk has done what the next line of client i asks
 pub record DoesOrder (old : State) (b : Books) (i : ℕ) (new : State) (b' : Books) (token : Option Token) : Type 0 where

@@ -73,9 +73,9 @@ line_entry S H tag stand order.Eject = entry_if (is_present H) (Eject tag)
 line_entry S H tag stand order.Insert = entry_if (is_insertable S H) (Insert tag (media_id_of H + 1))
 line_entry S H tag stand (order.Protect on) = Some (Protect tag on)
 
-abbrev pub with_entry : Option Entry → List Entry → List Entry
-with_entry None H = H
-with_entry (Some e) H = e ∷ H
+abbrev pub with_line_entry : Option Entry → List Entry → List Entry
+with_line_entry None H = H
+with_line_entry (Some e) H = e ∷ H
 
 abbrev pub has_tag : ℕ → Option Request → Bool
 has_tag tag None = false

@@ -6,16 +6,16 @@ use Rattle.shared_disk.specs.declared.log_rule.Item.{Item}
 use Rattle.shared_disk.specs.declared.log_rule.Item.TheVariants.{Happened, LineOf}
 
 -- the entries in it
-unfoldable pub entries_of : List Item → List Entry
-entries_of [] = []
-entries_of (Happened e ∷ log) = e ∷ entries_of log
-entries_of (LineOf k ∷ log) = entries_of log
+unfoldable pub logged_entries : List Item → List Entry
+logged_entries [] = []
+logged_entries (Happened e ∷ log) = e ∷ logged_entries log
+logged_entries (LineOf k ∷ log) = logged_entries log
 
 -- how many lines the client with tag k has done
-unfoldable pub lines_of : ℕ → List Item → ℕ
-lines_of k [] = 0
-lines_of k (Happened e ∷ log) = lines_of k log
-lines_of k (LineOf j ∷ log) = if nat_eq j k then suc (lines_of k log) else lines_of k log
+unfoldable pub line_count_of : ℕ → List Item → ℕ
+line_count_of k [] = 0
+line_count_of k (Happened e ∷ log) = line_count_of k log
+line_count_of k (LineOf j ∷ log) = if nat_eq j k then suc (line_count_of k log) else line_count_of k log
 
 -- the older log is a beginning of the other
 pub record IsOld (old log : List Item) : Type 0 where

@@ -19,23 +19,23 @@ pub record NoteEnd : Type 0 where
   pub seen : List Item
 
 -- What a seat knows of the log: only the pen's seat writes, and it wrote the log. What was seen is a beginning of it.
-pub record Knows (pen : ℕ) (log : List Item) (seat : ℕ) (v : LogView) : Type 0 where
+pub record KnowsLog (pen : ℕ) (log : List Item) (seat : ℕ) (v : LogView) : Type 0 where
   pub only : v.pens ≡ true → seat ≡ pen
   pub writes : v.pens ≡ true → v.log ≡ log
   pub olds : All (λ old. IsOld old log) v.olds
   pub seen : IsOld v.seen log
 
 -- each seat does
-pub record AllKnow (pen : ℕ) (log : List Item) (views : List LogView) : Type 0 where
-  pub at : (seat : ℕ) (v : LogView) → get_elem? views seat ≡ some v → Knows pen log seat v
+pub record AllKnowLog (pen : ℕ) (log : List Item) (views : List LogView) : Type 0 where
+  pub at : (seat : ℕ) (v : LogView) → get_elem? views seat ≡ some v → KnowsLog pen log seat v
 
 -- There is one word, and it is the number of items of the log of one pen.
-pub record IsKept (s : State (Unit {0}) LogView) : Type 0 where
+pub record IsLogKept (s : State (Unit {0}) LogView) : Type 0 where
   pub single : length s.words ≡ 1
   pub pen : ℕ
   pub log : List Item
   pub counts : slice_index s.words 0 ≡ length log
-  pub known : AllKnow pen log s.views
+  pub known : AllKnowLog pen log s.views
 
 -- the pen's view of an empty log
 abbrev pub first_view : LogView

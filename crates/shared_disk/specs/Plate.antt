@@ -4,7 +4,7 @@ use Rattle.atomic_table.specs.Seated.{TableId}
 use Rattle.shared_disk.specs.declared.log_rule.Item.{Item}
 use Rattle.shared_disk.specs.declared.log_rule.Item.TheVariants.{Happened, LineOf}
 use Rattle.shared_disk.specs.Desk.{DeskState, done_of}
-use Rattle.shared_disk.specs.Log.{entries_of, lines_of}
+use Rattle.shared_disk.specs.Log.{logged_entries, line_count_of}
 
 -- the table and the log of its pen; which ledger it has, and of how many parts
 pub record PlateState : Type 0 where
@@ -24,6 +24,6 @@ log_of s = lines_from 1 s.places ++ map Happened s.disk.entries
 
 -- a log as long as it has to be, of this history, with the lines that each client has done
 pub record IsLogOf (s : DeskState) (log : List Item) : Type 0 where
-  pub entries : entries_of log ≡ s.disk.entries
-  pub lines : (i : ℕ) → lines_of (i + 1) log ≡ done_of s i
+  pub entries : logged_entries log ≡ s.disk.entries
+  pub lines : (i : ℕ) → line_count_of (i + 1) log ≡ done_of s i
   pub long : length log ≡ sum_by length s.places + length s.disk.entries

@@ -8,7 +8,7 @@ use Rattle.history.specs.declared.order.Order.TheVariants as order
 use Rattle.history.specs.Setup.{Setup}
 use Rattle.history.specs.Tokens.{accepted, request, was_collected}
 use Rattle.history.specs.Next.{first_open}
-use Rattle.shared_disk.specs.Lines.{Role, line_entry, with_entry, has_tag, first_own_open, first_own_left, first_left}
+use Rattle.shared_disk.specs.Lines.{Role, line_entry, with_line_entry, has_tag, first_own_open, first_own_left, first_left}
 
 -- the tag of an entry, and 0 for a command
 abbrev pub tag_of : Entry → ℕ
@@ -42,7 +42,7 @@ pub data Deed : Type 0 where
 unfoldable pub entries_by : List Entry → List Deed → List Entry
 entries_by opening [] = opening
 entries_by opening (Enters e ∷ log) = e ∷ entries_by opening log
-entries_by opening (Does i e ∷ log) = with_entry e (entries_by opening log)
+entries_by opening (Does i e ∷ log) = with_line_entry e (entries_by opening log)
 
 abbrev pub with_place : Bool → ℕ → List ℕ → List ℕ
 with_place true place places = places ++ place ∷ []
@@ -55,8 +55,8 @@ places_by opening (Enters e ∷ log) i = places_by opening log i
 places_by opening (Does j e ∷ log) i = with_place (nat_eq j i) (length (entries_by opening log)) (places_by opening log i)
 
 -- how many lines it has done
-abbrev pub done_by : List Entry → List Deed → ℕ → ℕ
-done_by opening log i = length (places_by opening log i)
+abbrev pub line_count_by : List Entry → List Deed → ℕ → ℕ
+line_count_by opening log i = length (places_by opening log i)
 
 abbrev pub order_at : Option Role → ℕ → Option Order
 order_at None n = None
@@ -108,21 +108,21 @@ pub record CollectsAtEnd (S : Setup) (roles : List Role) (H : List Entry) (done 
   pub own : has_tag tag (request H t) ≡ true
 
 -- a command is of no token of the opening, and a collect is at a wait or at the end; every other entry is a line's
-abbrev pub MayEnter : Setup → Script → List Entry → (ℕ → ℕ) → Entry → Type 0
-MayEnter S d H done (Done t c) = accepted d.opening ≤ t
-MayEnter S d H done (Fault t c n) = accepted d.opening ≤ t
-MayEnter S d H done (Collect tag t) = ((i : ℕ) × (tag ≡ i + 1) × CollectsAtWait S d.roles H i (done i) t) ⊎ CollectsAtEnd S d.roles H done tag t
-MayEnter S d H done (Accept tag view asked bytes) = ⊥
-MayEnter S d H done (Refuse tag view asked media_id status) = ⊥
-MayEnter S d H done (Cancel tag view) = ⊥
-MayEnter S d H done (Reset tag) = ⊥
-MayEnter S d H done (Eject tag) = ⊥
-MayEnter S d H done (Insert tag media_id) = ⊥
-MayEnter S d H done (Protect tag on) = ⊥
+abbrev pub MayComeNext : Setup → Script → List Entry → (ℕ → ℕ) → Entry → Type 0
+MayComeNext S d H done (Done t c) = accepted d.opening ≤ t
+MayComeNext S d H done (Fault t c n) = accepted d.opening ≤ t
+MayComeNext S d H done (Collect tag t) = ((i : ℕ) × (tag ≡ i + 1) × CollectsAtWait S d.roles H i (done i) t) ⊎ CollectsAtEnd S d.roles H done tag t
+MayComeNext S d H done (Accept tag view asked bytes) = ⊥
+MayComeNext S d H done (Refuse tag view asked media_id status) = ⊥
+MayComeNext S d H done (Cancel tag view) = ⊥
+MayComeNext S d H done (Reset tag) = ⊥
+MayComeNext S d H done (Eject tag) = ⊥
+MayComeNext S d H done (Insert tag media_id) = ⊥
+MayComeNext S d H done (Protect tag on) = ⊥
 
 abbrev pub MayDo : Setup → Script → List Deed → Deed → Type 0
-MayDo S d log (Enters e) = MayEnter S d (entries_by d.opening log) (done_by d.opening log) e
-MayDo S d log (Does i e) = DoesNext S d.roles (entries_by d.opening log) i (done_by d.opening log i) e
+MayDo S d log (Enters e) = MayComeNext S d (entries_by d.opening log) (line_count_by d.opening log) e
+MayDo S d log (Does i e) = DoesNext S d.roles (entries_by d.opening log) i (line_count_by d.opening log i) e
 
 -- each deed may be done after those before it
 unfoldable pub Follows : Setup → Script → List Deed → Type 0

@@ -1,7 +1,7 @@
 ghost use Rattle.std.specs.Prelude.{◌≡◌, ℕ, ◌<◌, ◌^◌, sum_by, true, false, IsSome, Some, option_copied, slice_get, OnOk, length, vec_len, vec_capacity};
 ghost use Rattle.shared_disk.specs.declared.books.Course.{Course};
 ghost use Rattle.shared_disk.specs.Script.{AreOver};
-ghost use Rattle.shared_disk.specs.Inside.{end_at, order_in, done_in, roles_in, given_in, ChangesCourse, IsRoomy, HasRoom, HasToken, HasPlace, AddsToken, KeepsBuffer};
+ghost use Rattle.shared_disk.specs.Inside.{end_at, order_in, done_in, roles_in, given_in, ChangesCourse, IsRoomy, HasTokenRoom, HasToken, HasLineMore, AddsToken, KeepsBuffer};
 ghost use Rattle.shared_disk.specs.Desk.{given_at};
 
 use crate::clients::Client;
@@ -68,7 +68,7 @@ impl Course {
     /// Notes that a line was done before which so many entries stood.
     pub fn add_place(&mut self, before: u64)
         requires { vec_len self.old.places < vec_capacity self.old.places }
-        ensures { HasPlace before self.old self.new }
+        ensures { HasLineMore before self.old self.new }
     {
         self.places.push_reserved(before);
     }
@@ -158,7 +158,7 @@ impl Books {
     pub fn make_room(&mut self, place: usize) -> Result<(), AllocError>
         requires { place < length self.old.courses.items }
         ensures same { ChangesCourse self.old place IsRoomy self.new }
-        ensures room { OnOk result (HasRoom self.new place) }
+        ensures room { OnOk result (HasTokenRoom self.new place) }
     {
         self.courses[place].make_room()?;
         self.slots.reserve(1)
@@ -169,7 +169,7 @@ impl Books {
         requires there { place < length self.old.courses.items }
         requires room { (c : Course) → slice_get self.old.courses.items place ≡ Some c
             → vec_len c.places < vec_capacity c.places }
-        ensures { ChangesCourse self.old place (HasPlace before) self.new }
+        ensures { ChangesCourse self.old place (HasLineMore before) self.new }
     {
         self.courses[place].add_place(before);
     }
@@ -177,7 +177,7 @@ impl Books {
     /// Adds a token of a client.
     pub fn add_token(&mut self, place: usize, tag: u32, number: u64)
         requires there { place < length self.old.courses.items }
-        requires room { HasRoom self.old place }
+        requires room { HasTokenRoom self.old place }
         ensures { AddsToken self.old place tag number self.new }
     {
         self.slots.push_reserved(Slot {

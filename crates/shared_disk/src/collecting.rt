@@ -2,8 +2,8 @@ ghost use Rattle.std.specs.Prelude.{◌≡◌, ℕ, ◌<◌, ◌≤◌, true, fa
 ghost use Rattle.history.specs.Tokens.{accepted, was_collected};
 ghost use Rattle.history.specs.Marks.{is_outstanding};
 ghost use Rattle.shared_disk.specs.declared.books.Slot.{Slot};
-ghost use Rattle.shared_disk.specs.Desk.{LastSays, Takes};
-ghost use Rattle.shared_disk.specs.Inside.{AreBooksOf, is_awaited, state_of};
+ghost use Rattle.shared_disk.specs.Desk.{LastSays, TakesBack};
+ghost use Rattle.shared_disk.specs.Inside.{AreBooksOf, is_awaited, desk_state};
 
 use crate::books::{Books, Buffer, Slot};
 use disk_core::Disk;
@@ -16,7 +16,7 @@ pub fn collect_token<M: Medium>(disk: &mut Disk<M>, books: &mut Books, tag: u32,
     requires there { number < accepted disk.old.entries }
     requires uncollected { was_collected disk.old.entries number ≡ false }
     requires ended { is_outstanding disk.old.setup disk.old.entries number ≡ false }
-    ensures takes { Takes (state_of disk.old books.old) tag number (state_of disk.new books.new) }
+    ensures takes { TakesBack (desk_state disk.old books.old) tag number (desk_state disk.new books.new) }
     ensures sound { AreBooksOf disk.new books.new }
 {
     match disk.collect(tag, number) {
@@ -66,7 +66,7 @@ fn first_awaited(slots: &[Slot], from: usize) -> usize
 /// outstanding, or every token was collected.
 pub fn collect_least<M: Medium>(disk: &mut Disk<M>, books: &mut Books) -> Option<u64>
     requires { AreBooksOf disk.old books.old }
-    ensures says { LastSays (state_of disk.old books.old) result (state_of disk.new books.new) }
+    ensures says { LastSays (desk_state disk.old books.old) result (desk_state disk.new books.new) }
     ensures sound { AreBooksOf disk.new books.new }
 {
     if !books.is_over() {

@@ -6,7 +6,7 @@ ghost use Rattle.history.specs.Marks.{mark_of};
 ghost use Rattle.history.specs.Setup.{IsSetup};
 ghost use Rattle.shared_disk.specs.Lines.{roles_of};
 ghost use Rattle.shared_disk.specs.Script.{IsOpening};
-ghost use Rattle.shared_disk.specs.Desk.{AreClients, desk_over};
+ghost use Rattle.shared_disk.specs.Desk.{AreDeskClients, desk_over};
 
 use crate::answers::{DeskRefused, Line};
 use crate::books::Books;
@@ -32,11 +32,11 @@ pub struct Desk<M: Medium> {
 
 impl<M: Medium> Model for Desk<M> {
     ghost use Rattle.shared_disk.specs.Desk.{DeskState};
-    ghost use Rattle.shared_disk.specs.Inside.{state_of, AreBooksOf};
+    ghost use Rattle.shared_disk.specs.Inside.{desk_state, AreBooksOf};
 
     ghost Value = { DeskState };
 
-    ghost view = { λ d. state_of d.disk d.books };
+    ghost view = { λ d. desk_state d.disk d.books };
 
     ghost invariant = { λ d. AreBooksOf d.disk d.books };
 }
@@ -51,7 +51,7 @@ impl<M: Medium> Desk<M> {
         disk: Disk<M>,
         clients: Vec<Client>,
     ) -> Result<Desk<M>, DeskRefused<M>>
-        requires clients { AreClients clients.items }
+        requires clients { AreDeskClients clients.items }
         requires opening { IsOpening disk.entries }
         ensures desk { IfOk result (λ desk. desk ≡ desk_over disk (roles_of clients.items)) }
         ensures keeps { IfOk result Keeps }

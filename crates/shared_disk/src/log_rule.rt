@@ -28,9 +28,9 @@ pub(crate) struct LogView {
 pub(crate) struct CountsItems;
 
 impl TableRule<(), LogView, ()> for CountsItems {
-    ghost use Rattle.shared_disk.specs.Pens.{IsKept, first_view};
+    ghost use Rattle.shared_disk.specs.Pens.{IsLogKept, first_view};
 
-    ghost holds = { λ _. IsKept };
+    ghost holds = { λ _. IsLogKept };
 
     ghost first = { λ _. first_view };
 }

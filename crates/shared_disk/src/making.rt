@@ -3,8 +3,8 @@ ghost use Rattle.history.specs.Tokens.{accepted};
 ghost use Rattle.shared_disk.specs.declared.books.Buffer.{Buffer};
 ghost use Rattle.shared_disk.specs.Lines.{roles_of};
 ghost use Rattle.shared_disk.specs.Script.{IsOpening};
-ghost use Rattle.shared_disk.specs.Desk.{AreClients, Keeps, desk_over};
-ghost use Rattle.shared_disk.specs.Inside.{AreNew, AreBooksOf, state_of};
+ghost use Rattle.shared_disk.specs.Desk.{AreDeskClients, Keeps, desk_over};
+ghost use Rattle.shared_disk.specs.Inside.{AreNew, AreBooksOf, desk_state};
 
 use crate::books::{Books, Buffer, Course, Slot};
 use crate::clients::Client;
@@ -65,12 +65,12 @@ pub fn new_books<M: Medium>(
     disk: &Disk<M>,
     clients: Vec<Client>,
 ) -> Result<Books, Vec<Client>>
-    requires clients { AreClients clients.items }
+    requires clients { AreDeskClients clients.items }
     requires opening { IsOpening disk.now.entries }
     ensures state { IfOk result
-        (λ books. state_of disk.now books ≡ desk_over disk.now (roles_of clients.items)) }
+        (λ books. desk_state disk.now books ≡ desk_over disk.now (roles_of clients.items)) }
     ensures sound { IfOk result (AreBooksOf disk.now) }
-    ensures keeps { IfOk result (λ books. Keeps (state_of disk.now books)) }
+    ensures keeps { IfOk result (λ books. Keeps (desk_state disk.now books)) }
     ensures back { IfErr result (λ back. back ≡ clients) }
 {
     let entries = disk.history().entries();

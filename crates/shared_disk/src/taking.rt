@@ -1,7 +1,7 @@
 ghost use Rattle.std.specs.Prelude.{◌≡◌, ◌≢◌, ◌-◌, ◌≤◌, Some, IfOk, OnErr, IsSome, length};
 ghost use Rattle.history.specs.declared.order.Order.{Order};
 ghost use Rattle.shared_disk.specs.Desk.{LineSays};
-ghost use Rattle.shared_disk.specs.Inside.{AreBooksOf, AreSame, DoesOrder, order_in, state_of, WantsMemory};
+ghost use Rattle.shared_disk.specs.Inside.{AreBooksOf, AreSame, DoesOrder, order_in, desk_state, MayWantMemory};
 
 use crate::answers::Line;
 use crate::asking::{line_ask, line_view};
@@ -27,7 +27,7 @@ fn do_line<M: Medium>(
     requires left { IsSome (order_in books.old (client - 1)) }
     requires other { order_in books.old (client - 1) ≢ Some Order.Wait }
     ensures does { IfOk result (DoesOrder disk.old books.old (client - 1) disk.new books.new) }
-    ensures wants { OnErr result (WantsMemory (order_in books.old (client - 1))) }
+    ensures wants { OnErr result (MayWantMemory (order_in books.old (client - 1))) }
     ensures disk { OnErr result (disk.new ≡ disk.old) }
     ensures same { OnErr result (AreSame books.old books.new) }
     ensures sound { OnErr result (AreBooksOf disk.old books.new) }
@@ -83,8 +83,8 @@ pub fn take_line<M: Medium>(
     requires some { 1 ≤ client }
     requires there { client ≤ length books.old.clients.items }
     requires sound { AreBooksOf disk.old books.old }
-    ensures says { LineSays (state_of disk.old books.old) (client - 1) result
-        (state_of disk.new books.new) }
+    ensures says { LineSays (desk_state disk.old books.old) (client - 1) result
+        (desk_state disk.new books.new) }
     ensures sound { AreBooksOf disk.new books.new }
 {
     let place = client as usize - 1;

@@ -5,7 +5,7 @@ ghost use Rattle.history.specs.Marks.{is_outstanding};
 ghost use Rattle.shared_disk.specs.declared.books.Slot.{Slot};
 ghost use Rattle.shared_disk.specs.Lines.{first_own_open, first_own_left};
 ghost use Rattle.shared_disk.specs.Desk.{LineSays};
-ghost use Rattle.shared_disk.specs.Inside.{AreBooksOf, AreSame, is_awaited, order_in, state_of};
+ghost use Rattle.shared_disk.specs.Inside.{AreBooksOf, AreSame, is_awaited, order_in, desk_state};
 
 use crate::answers::Line;
 use crate::books::{Books, Buffer, Slot};
@@ -87,8 +87,8 @@ pub fn take_wait<M: Medium>(disk: &mut Disk<M>, books: &mut Books, client: u32) 
     requires sound { AreBooksOf disk.old books.old }
     requires there { client ≤ length books.old.clients.items }
     requires next { order_in books.old (client - 1) ≡ Some Order.Wait }
-    ensures says { LineSays (state_of disk.old books.old) (client - 1) result
-        (state_of disk.new books.new) }
+    ensures says { LineSays (desk_state disk.old books.old) (client - 1) result
+        (desk_state disk.new books.new) }
     ensures sound { AreBooksOf disk.new books.new }
 {
     let place = client as usize - 1;

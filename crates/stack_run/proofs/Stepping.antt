@@ -11,7 +11,7 @@ use Rattle.disk_core.specs.declared.answers.Stored.TheVariants as stored
 use Rattle.disk_core.specs.State.{State}
 use Rattle.disk_core.specs.Facts.{AreFacts}
 use Rattle.disk_core.specs.Calls.{is_fetched, StepSays, StoreSays}
-use Rattle.disk_core.specs.Turns.{IsIdle, TakesTurn, StepTurns, merged, StoresAtOnce}
+use Rattle.disk_core.specs.Turns.{IsIdle, TakesTurn, StepTurns, merge_of, StoresAtOnce}
 use Rattle.disk_core.proofs.TurnLemmas.{steps-turn, taken-lowers}
 use Rattle.disk_core.proofs.AtOnceLemmas.{answered}
 use Rattle.disk_core.proofs.IdleLemmas.{idle-stays}
@@ -53,7 +53,7 @@ module _ (old : State) (is : IsSetup old.setup) (facts : AreFacts old) (idle : I
       }
 
   -- a done fetch, and its store
-  pub stored-at-once : (mid new : State) (w w' : Lent) → StepSays old (step.Lent w) mid → w' ≡ merged w → StoreSays mid w' stored.Did new → StepsOnce old true new
+  pub stored-at-once : (mid new : State) (w w' : Lent) → StepSays old (step.Lent w) mid → w' ≡ merge_of w → StoreSays mid w' stored.Did new → StepsOnce old true new
   stored-at-once mid new w w' says merges stores = by (steps-turn old mid (step.Lent w) is facts idle.held idle.free says) (answered old is facts idle mid new w w' stored.Did says merges stores)
     where
       by : StepTurns old (step.Lent w) mid → StoresAtOnce old mid stored.Did new → StepsOnce old true new

@@ -1,5 +1,5 @@
 //! The worked rows, with values that were worked out by hand.
-#![tactic(auto, unfolding(block_gate::specs::Gates::gate_of, block_gate::specs::Gates::is_block_held, block_gate::specs::Gates::idle_gates, block_gate::specs::Gates::holding, block_gate::specs::Gates::releasing, block_gate::specs::Gates::without_ticket, index_links::specs::Lists::is_among, crate::specs::Subs::AreBelow))]
+#![tactic(auto, unfolding(block_gate::specs::Gates::gate_of, block_gate::specs::Gates::is_block_held, block_gate::specs::Gates::idle_gates, block_gate::specs::Gates::with_gate, block_gate::specs::Gates::without_hold, block_gate::specs::Gates::without_ticket, index_links::specs::Lists::is_among, crate::specs::Subs::AreBelow))]
 
 ghost use Rattle.std.specs.Prelude.{◌≡◌, ℕ, ◌+◌, ◌*◌, ◌<◌, ◌≤◌, ◌^◌, [], IfOk};
 ghost use Rattle.disk_split.specs.Units.{IsGeometry};

@@ -21,7 +21,7 @@ use Rattle.event_cell.specs.EventWord.{word_of}
 use Rattle.event_cell.specs.Ends.{SignallerEnd}
 use Rattle.token_table.specs.declared.record.NotThere.{NotThere}
 use Rattle.token_table.specs.declared.record.Mark.{Mark}
-use Rattle.token_table.specs.Records.{Records, record_at, request_at, changed, ended_record, without_record, mark_of_end, mark_of_record, mark_at, done_by, done_or_fault, done_at, word_for, IsShown, AreShown}
+use Rattle.token_table.specs.Records.{Records, record_at, request_at, with_change, ended_record, without_record, mark_of_end, mark_of_record, mark_at, done_by, done_or_fault, done_at, word_for, IsShown, AreShown}
 use Rattle.token_table.proofs.RecordsLemmas.{at-set, at-push}
 use Rattle.token_table.specs.Index.{slot_under, slot_of, records_of, IsIndexed}
 
@@ -98,8 +98,8 @@ kept-change index before after given key r is updates new = record {
 
 -- what each number has after a record was changed, or what it had was replaced
 pub changed-is : (change : Record → Record) (index : BTreeMap ℕ ℕ) (before after : Slab Record) (given n key : ℕ) (r : Record) (s : Records) → records_of index before given ≡ s → IsIndexed index before given → key_at nat_cmp index n ≡ Some key → get before key ≡ Some r → Updates before after key (Some (change r)) → IsShown (change r)
-    → (records_of index after given ≡ changed change s n) × IsIndexed index after given
-unfolding changed slot_of
+    → (records_of index after given ≡ with_change change s n) × IsIndexed index after given
+unfolding with_change slot_of
 changed-is change index before after given n key r s view is at has updates new =
     let old = records_of index before given in
     let slot = option_map change (record_at old n) in
@@ -109,7 +109,7 @@ changed-is change index before after given n key r s view is at has updates new 
       records-are index after given (set old n slot) indexed (length-set old n slot ∙ length-records_of index before given) (λ m. elim (cases_eq m n) [
         | inl same ↦ ap (λ k. slot_under after (key_at nat_cmp index k)) same ∙ ap (slot_under after) at ∙ updates.changed ∙ sym (ap (option_map change) had) ∙ sym (at-set old n m slot there ∙ rw (eq-eqb m n same) refl)
         | inr other ↦ slot-other before after key (Some (change r)) (key_at nat_cmp index m) updates (λ k found same. other (is.apart m n key (found ∙ ap Some same) at)) ∙ sym (record-at index before given m is) ∙ sym (at-set old n m slot there ∙ rw (ne_eqb m n other) refl)
-      ]) ∙ ap (λ rs. changed change rs n) view,
+      ]) ∙ ap (λ rs. with_change change rs n) view,
       indexed,
     )
 
@@ -287,14 +287,14 @@ left-of s n by r at left = subst (λ (o : Option Record). IfSome (option_map (λ
 -- the record under a key is changed, which still shows its mark
 pub rewritten-is : (change : Record → Record) → ((r : Record) → IsShown r → IsShown (change r)) → (index : BTreeMap ℕ ℕ) (slab : Slab Record) (given n key : ℕ) (r : Record) (s : Records) → records_of index slab given ≡ s → IsIndexed index slab given
     → key_at nat_cmp index n ≡ Some key → get slab key ≡ Some r
-    → (records_of index (with_value slab key (change r)) given ≡ changed change s n) × IsIndexed index (with_value slab key (change r)) given
+    → (records_of index (with_value slab key (change r)) given ≡ with_change change s n) × IsIndexed index (with_value slab key (change r)) given
 rewritten-is change kept index slab given n key r s view is at has =
     changed-is change index slab (with_value slab key (change r)) given n key r s view is at has (Updates-with_value slab key (change r) (ap is_some has)) (kept r (is.shown key r has))
 
 -- the request under a key ends
 pub ended-is : (status : Status) (index : BTreeMap ℕ ℕ) (slab : Slab Record) (given n key : ℕ) (r : Record) (e : SignallerEnd) (s : Records) → e ≡ record r.signaller { told = word_of status } → records_of index slab given ≡ s → IsIndexed index slab given
     → key_at nat_cmp index n ≡ Some key → get slab key ≡ Some r
-    → (records_of index (with_value slab key (record { request = r.request; ended = Some status; signaller = e })) given ≡ changed (ended_record status) s n)
+    → (records_of index (with_value slab key (record { request = r.request; ended = Some status; signaller = e })) given ≡ with_change (ended_record status) s n)
     × IsIndexed index (with_value slab key (record { request = r.request; ended = Some status; signaller = e })) given
 unfolding ended_record IsShown word_for
 ended-is status index slab given n key r e s told view is at has =

@@ -7,7 +7,7 @@ use Rattle.std.proofs.lemmas.List.{get_or_past, get_or-set_same, get_or-set_othe
 use Rattle.event_cell.specs.Ends.{SignallerEnd}
 use Rattle.token_table.specs.declared.record.Request.{Request}
 use Rattle.token_table.specs.declared.record.Record.{Record}
-use Rattle.token_table.specs.Records.{Records, record_at, new_record, added, changed, without_record}
+use Rattle.token_table.specs.Records.{Records, record_at, new_record, with_record, with_change, without_record}
 
 -- a place that is written
 pub at-set : (s : Records) (n m : ℕ) (slot : Option Record) → n < length s → record_at (set s n slot) m ≡ (if nat_eq m n then slot else record_at s m)
@@ -29,17 +29,17 @@ at-push s m slot = elim (cases_eq m (length s)) [
 ]
 
 -- a request that was added has its number, and the others have theirs
-pub record_at-added : (s : Records) (request : Request) (signaller : SignallerEnd) (m : ℕ) → record_at (added s request signaller) m ≡ (if nat_eq m (length s) then Some (new_record request signaller) else record_at s m)
-unfolding added
+pub record_at-added : (s : Records) (request : Request) (signaller : SignallerEnd) (m : ℕ) → record_at (with_record s request signaller) m ≡ (if nat_eq m (length s) then Some (new_record request signaller) else record_at s m)
+unfolding with_record
 record_at-added s request signaller m = at-push s m (Some (new_record request signaller))
 
-pub length-added : (s : Records) (request : Request) (signaller : SignallerEnd) → length (added s request signaller) ≡ length s + 1
-unfolding added
+pub length-added : (s : Records) (request : Request) (signaller : SignallerEnd) → length (with_record s request signaller) ≡ length s + 1
+unfolding with_record
 length-added s request signaller = length-append s (Some (new_record request signaller) ∷ [])
 
 -- a record that is changed, where it stands; the others stay
-pub record_at-changed : (change : Record → Record) (s : Records) (n m : ℕ) → n < length s → record_at (changed change s n) m ≡ (if nat_eq m n then option_map change (record_at s n) else record_at s m)
-unfolding changed
+pub record_at-changed : (change : Record → Record) (s : Records) (n m : ℕ) → n < length s → record_at (with_change change s n) m ≡ (if nat_eq m n then option_map change (record_at s n) else record_at s m)
+unfolding with_change
 record_at-changed change s n m there = at-set s n m (option_map change (record_at s n)) there
 
 -- a record that is handed out is gone; the others stay

@@ -28,12 +28,12 @@ unfoldable pub new_record : Request → SignallerEnd → Record
 new_record request signaller = record { request = request; ended = None; signaller = signaller }
 
 -- one request more
-unfoldable pub added : Records → Request → SignallerEnd → Records
-added s request signaller = s ++ Some (new_record request signaller) ∷ []
+unfoldable pub with_record : Records → Request → SignallerEnd → Records
+with_record s request signaller = s ++ Some (new_record request signaller) ∷ []
 
 -- the record with this number is changed
-unfoldable pub changed : (Record → Record) → Records → ℕ → Records
-changed change s n = slice_set s n (option_map change (record_at s n))
+unfoldable pub with_change : (Record → Record) → Records → ℕ → Records
+with_change change s n = slice_set s n (option_map change (record_at s n))
 
 -- so much less is left
 unfoldable pub lower_record : ℕ → Record → Record

@@ -1,6 +1,6 @@
 ghost use Rattle.std.specs.Prelude.{◌≡◌, ℕ, ◌-◌, ◌<◌, ◌≤◌, ◌^◌, [], length, Some, IfOk, IfErr, IfSome, OnOk, OnErr, option_copied};
 ghost use Rattle.token_table.specs.declared.record.Record.{Record};
-ghost use Rattle.token_table.specs.Records.{record_at, request_at, added, changed, fill_record, lower_record, ended_record, without_record, mark_at, done_at, AreShown};
+ghost use Rattle.token_table.specs.Records.{record_at, request_at, with_record, with_change, fill_record, lower_record, ended_record, without_record, mark_at, done_at, AreShown};
 ghost use Rattle.std.specs.Borrow.{Lends, Array, sem, u8 as byte};
 ghost use Rattle.std.specs.Option.{option_map};
 
@@ -53,7 +53,7 @@ impl Tokens {
         requires few { length self.old < 2 ^ 64 - 1 }
         requires silent { signaller.told ≡ 0 }
         ensures number { IfOk result (λ number. number ≡ length self.old) }
-        ensures added { OnOk result (self.new ≡ added self.old request signaller) }
+        ensures added { OnOk result (self.new ≡ with_record self.old request signaller) }
         ensures request { IfErr result (λ back. back.request ≡ request) }
         ensures signaller { IfErr result (λ back. back.signaller ≡ signaller) }
         ensures err { OnErr result (self.new ≡ self.old) }
@@ -113,7 +113,7 @@ impl Tokens {
     /// Lends the buffer of the request, which is outstanding, for filling. Nothing else changes.
     pub fn buffer_mut(&mut self, number: u64) -> &mut [u8]
         requires { mark_at self.old number ≡ Mark.Outstanding }
-        ensures* lends { sem 𝓛 (Lends the_row (Array byte 0) self.entry result (λ bytes. changed (λ r. fill_record r bytes) self.entry.now number)) }
+        ensures* lends { sem 𝓛 (Lends the_row (Array byte 0) self.entry result (λ bytes. with_change (λ r. fill_record r bytes) self.entry.now number)) }
         ensures value { Some result.now ≡ option_map (λ q. q.buffer) (request_at self.old number) }
     {
         let key = self.index[&number];
@@ -124,7 +124,7 @@ impl Tokens {
     pub fn lower(&mut self, number: u64, by: u64)
         requires outstanding { mark_at self.old number ≡ Mark.Outstanding }
         requires left { IfSome (request_at self.old number) (λ r. by ≤ r.left) }
-        ensures value { self.new ≡ changed (lower_record by) self.old number }
+        ensures value { self.new ≡ with_change (lower_record by) self.old number }
         ensures shown { AreShown self.new }
     {
         let key = self.index[&number];
@@ -134,7 +134,7 @@ impl Tokens {
     /// Ends the request, which is outstanding, with this status, and signals its event.
     pub fn end(&mut self, number: u64, status: Status)
         requires { mark_at self.old number ≡ Mark.Outstanding }
-        ensures value { self.new ≡ changed (ended_record status) self.old number }
+        ensures value { self.new ≡ with_change (ended_record status) self.old number }
         ensures shown { AreShown self.new }
     {
         let key = self.index[&number];

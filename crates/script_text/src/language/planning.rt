@@ -1,7 +1,7 @@
 ghost use Rattle.std.specs.Prelude.{◌≡◌};
 ghost use Rattle.medium.specs.Device.{is_block_size};
 ghost use Rattle.script_text.specs.Replies.{Says};
-ghost use Rattle.script_text.specs.Planned.{is_group_size, is_new_name, planned_disk, planned_spare, planned_client, planned_order, planned};
+ghost use Rattle.script_text.specs.Planned.{is_group_size, is_new_name, planned_disk, planned_spare, planned_client, planned_order, plans_behind};
 ghost use Rattle.script_text.specs.Whole.{line_says, planned_if};
 
 use crate::language::draft::{Draft, bytes_of};
@@ -31,9 +31,9 @@ pub fn take_line(
     }
 }
 
-#[tactic(auto, unfolding(crate::specs::Planned::planned))]
+#[tactic(auto, unfolding(crate::specs::Planned::plans_behind))]
 fn plan_line(alloc: Global, draft: Draft, number: u64, line: Line) -> Result<Draft, LineRefused>
-    ensures { Says (planned number draft line) result }
+    ensures { Says (plans_behind number draft line) result }
 {
     match line {
         Line::Disk {

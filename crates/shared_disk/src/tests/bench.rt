@@ -2,7 +2,7 @@
 
 ghost use Rattle.std.specs.Prelude.{◌≡◌, ◌<◌, ◌≤◌, false, [], All, IfOk, length, vec_len};
 ghost use Rattle.medium.specs.Device.{IsFresh};
-ghost use Rattle.shared_disk.specs.Desk.{IsOrder, AreClients};
+ghost use Rattle.shared_disk.specs.Desk.{IsDeskOrder, AreDeskClients};
 
 use crate::{Client, Desk, Line, Stand};
 use byte_lists::Bytes;
@@ -63,7 +63,7 @@ fn request(kind: Kind, at: u16, length: u16, payload: Payload) -> Order
 }
 
 fn order_of(alloc: Global, ask: Ask) -> Result<Order, AllocError>
-    ensures { IfOk result IsOrder }
+    ensures { IfOk result IsDeskOrder }
 {
     Ok(match ask {
         Ask::Text(at) => {
@@ -84,7 +84,7 @@ fn order_of(alloc: Global, ask: Ask) -> Result<Order, AllocError>
 
 // A client of the whole disk, with at most 16 lines.
 fn client_of(alloc: Global, asks: &[Ask]) -> Result<Client, AllocError>
-    ensures orders { IfOk result (λ client. All IsOrder client.orders.items) }
+    ensures orders { IfOk result (λ client. All IsDeskOrder client.orders.items) }
     ensures few { IfOk result (λ client. length client.orders.items ≤ 16) }
 {
     if asks.len() > 16 {
@@ -102,7 +102,7 @@ fn client_of(alloc: Global, asks: &[Ask]) -> Result<Client, AllocError>
 
 // At most 4 clients.
 fn clients_of(alloc: Global, rows: &[&[Ask]]) -> Result<Vec<Client>, AllocError>
-    ensures { IfOk result (λ clients. AreClients clients.items) }
+    ensures { IfOk result (λ clients. AreDeskClients clients.items) }
 {
     if rows.len() > 4 {
         return Err(AllocError);

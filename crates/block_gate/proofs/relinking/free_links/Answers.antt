@@ -1,5 +1,5 @@
 use Rattle.std.proofs.Common.{◌≡◌, ◌+◌, ◌∙◌, ◌∷◌, [], ◌++◌, true, false, length, arith, ap, sym}
-use Rattle.index_links.specs.Lists.{list_at, is_among, pushed, empty_lists}
+use Rattle.index_links.specs.Lists.{list_at, is_among, with_node_at_end, empty_lists}
 use Rattle.index_links.proofs.LinkedListsLemmas.{pushed-here, pushed-other, long-pushed, nodes-pushed}
 use Rattle.std.proofs.Common.{length-append}
 use Rattle.block_gate.proofs.Calls.{unlisted-new, below-more}
@@ -28,7 +28,7 @@ loop-node-preserved c =
     let (nodes, lists, long, held, gone, apart, below) = c.loop-node.invariant in
     let node = c.loop-node.node in
     let links = c.loop-node.links in
-    let is : c.push_back.new.self ≡ pushed links 0 node = c.push_back.ensures.value in
+    let is : c.push_back.new.self ≡ with_node_at_end links 0 node = c.push_back.ensures.value in
     let first : list_at c.push_back.new.self 0 ≡ list_at links 0 ++ node ∷ [] = ap (λ s. list_at s 0) is ∙ pushed-here links 0 node (omega arith) in (
       ap (λ s. s.nodes) is ∙ nodes-pushed links 0 node ∙ nodes,
       ap (λ s. length s.lists) is ∙ long-pushed links 0 node ∙ lists,

@@ -1,6 +1,6 @@
 use Rattle.std.proofs.Common.{◌≡◌, ◌≤◌, ◌++◌, ap, ◌∙◌, subst, sym, arith}
 use Rattle.history.specs.declared.entry.Entry.TheVariants.{Accept}
-use Rattle.token_table.specs.Records.{added, mark_at}
+use Rattle.token_table.specs.Records.{with_record, mark_at}
 use Rattle.token_table.specs.declared.record.Mark.{Mark}
 use Rattle.subtask_queue.specs.Subs.{subs_of_request, without_token}
 use Rattle.history_laws.specs.Costs.{left_at_first}
@@ -21,8 +21,8 @@ unfolding after_keep accepted_request after_accept
 returns-in-Ok-add-clause-ok c =
     let core = c.args.core.now in
     let room = c.args.room in
-    let tokens_is : c.add-2.new.self ≡ added core.tokens (accepted_request c.args.tag c.args.view.now c.args.asked room.from c.args.buffer.items) room.signaller =
-    c.in-Ok-add.ensures.added ∙ (λ i. added core.tokens (record { tag = c.args.tag; view = c.args.view.now; asked = c.args.asked; at = room.from; buffer = c.from_vec.ensures i; left = c.left_of-left.ensures i }) room.signaller) in
+    let tokens_is : c.add-2.new.self ≡ with_record core.tokens (accepted_request c.args.tag c.args.view.now c.args.asked room.from c.args.buffer.items) room.signaller =
+    c.in-Ok-add.ensures.added ∙ (λ i. with_record core.tokens (record { tag = c.args.tag; view = c.args.view.now; asked = c.args.asked; at = room.from; buffer = c.from_vec.ensures i; left = c.left_of-left.ensures i }) room.signaller) in
     let queue_is : c.add.new.self ≡ core.queue ++ subs_of_request core.blocks core.accepted c.args.asked.kind room.parts = c.in-Ok.ensures.ok in
     c.end_empty.ensures
     ∙ ap (λ n. after_empty_end n core.accepted c.enter_accept.new.core) c.left_of-left.ensures

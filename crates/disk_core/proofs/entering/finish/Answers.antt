@@ -1,7 +1,7 @@
 use Rattle.std.proofs.Common.{◌≡◌, ◌+◌, ◌-◌, ◌≤◌, subst, sym, arith}
 use Rattle.std.specs.Prelude.{count_by}
 use Rattle.token_table.specs.declared.record.Mark.{Mark}
-use Rattle.token_table.specs.Records.{mark_at, changed, lower_record}
+use Rattle.token_table.specs.Records.{mark_at, with_change, lower_record}
 use Rattle.subtask_queue.specs.Subs.{token_of, block_of, is_of, is_unit, without_first}
 use Rattle.disk_core.specs.Moves.{after_finish, with_entry}
 use Rattle.disk_core.proofs.Lowered.{lowered-open, count-without}
@@ -13,7 +13,7 @@ end_token-requires-clause-outstanding c =
     let tokens = c.args.core.now.tokens in
     let t = token_of c.args.unit.now in
     subst (λ core. mark_at core.tokens c.token-token.result ≡ Mark.Outstanding) (sym c.finish_unit.ensures)
-    (subst (λ u. mark_at (changed (lower_record c.args.bytes) tokens t) u ≡ Mark.Outstanding) (sym c.token-token.ensures) (lowered-open tokens t c.args.bytes c.requires.outstanding))
+    (subst (λ u. mark_at (with_change (lower_record c.args.bytes) tokens t) u ≡ Mark.Outstanding) (sym c.token-token.ensures) (lowered-open tokens t c.args.bytes c.requires.outstanding))
 
 pub end_token-requires-clause-owed : goal.end_token-requires-clause-owed
 unfolding after_finish with_entry

@@ -2,16 +2,16 @@ use Rattle.std.proofs.Common.{◌≡◌, ℕ, true, arith}
 use Rattle.std.specs.Prelude.{max}
 use Rattle.std.proofs.lemmas.Bool.Decides.{nat_tests}
 use Rattle.gpt_headers.specs.declared.entry.GptEntry.{GptEntry}
-use Rattle.gpt_headers.specs.Entry.{HasBlock, shares_block}
+use Rattle.gpt_headers.specs.Entry.{IsBlockOfEntry, entries_share_block}
 use Rattle.gpt_headers.proofs.law.shared_blocks_tell.Goals as goal
 
-own : (e f : GptEntry) → shares_block e f ≡ true → HasBlock e (max e.first f.first)
+own : (e f : GptEntry) → entries_share_block e f ≡ true → IsBlockOfEntry e (max e.first f.first)
 own e f h = (grind (arith, nat_tests), grind (arith, nat_tests))
 
-other : (e f : GptEntry) → shares_block e f ≡ true → HasBlock f (max e.first f.first)
+other : (e f : GptEntry) → entries_share_block e f ≡ true → IsBlockOfEntry f (max e.first f.first)
 other e f h = (grind (arith, nat_tests), grind (arith, nat_tests))
 
-shared : (e f : GptEntry) (block : ℕ) → HasBlock e block → HasBlock f block → shares_block e f ≡ true
+shared : (e f : GptEntry) (block : ℕ) → IsBlockOfEntry e block → IsBlockOfEntry f block → entries_share_block e f ≡ true
 shared e f block h k = grind (arith, nat_tests, h.0, h.1, k.0, k.1)
 
 pub returns : goal.returns

@@ -2,7 +2,7 @@ use Rattle.std.proofs.Common.{◌≡◌, ◌∙◌, arith}
 use Rattle.std.proofs.lemmas.Grind.{common_steps}
 use Rattle.gpt_headers.proofs.Places.{flags_more}
 use Rattle.gpt_headers.proofs.Inside.{lone_gives, usable_inside}
-use Rattle.gpt_headers.specs.Entry.{usable_of}
+use Rattle.gpt_headers.specs.Entry.{usable_entries}
 use Rattle.gpt_headers.proofs.partitions.usable.Goals as goal
 
 pub loop-place-preserved : goal.loop-place-preserved
@@ -17,5 +17,5 @@ loop-place-preserved c =
 
 pub returns-clause-inside : goal.returns-clause-inside
 returns-clause-inside c i given =
-    let exact : c.loop-place.flags.items ≡ usable_of c.args.header.now c.args.blocks c.args.entries.now = grind (arith, common_steps) in
+    let exact : c.loop-place.flags.items ≡ usable_entries c.args.header.now c.args.blocks c.args.entries.now = grind (arith, common_steps) in
     usable_inside c.args.header.now c.args.blocks c.args.entries.now c.loop-place.flags.items i exact given

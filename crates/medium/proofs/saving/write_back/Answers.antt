@@ -2,7 +2,7 @@ use Rattle.std.proofs.Common.{◌≡◌, ◌≢◌, ℕ, ◌*◌, List, Option, 
 use Rattle.std.proofs.lemmas.Bool.{cases_eq}
 use Rattle.medium.proofs.Restored.{restored-none, restored-let_go}
 use Rattle.medium.specs.BlockMap.{held_block}
-use Rattle.medium.specs.Cached.{restored}
+use Rattle.medium.specs.Cached.{restoration}
 use Rattle.medium.specs.Device.{IsTold, patch_told}
 use Rattle.medium.proofs.saving.write_back.Goals as goal
 
@@ -37,7 +37,7 @@ loop-block-preserved g c =
       size = c.let_go.ensures.size ∙ c.loop-block.invariant.size;
       inside = λ b is. c.loop-block.invariant.inside b (inside b is);
       ready = λ b is. c.in_ok-write_blocks.ensures.stay b (c.loop-block.invariant.ready b (inside b is));
-      restored = ap (restored (held_block new) size d0.blocks) patched ∙ restored-let_go (held_block old) (held_block new) size d0.blocks d.now block held was none others (c.in-Some-get.ensures.long ∙ c.loop-block.invariant.size) told (c.loop-block.invariant.inside block some) ∙ c.loop-block.invariant.restored;
+      restored = ap (restoration (held_block new) size d0.blocks) patched ∙ restored-let_go (held_block old) (held_block new) size d0.blocks d.now block held was none others (c.in-Some-get.ensures.long ∙ c.loop-block.invariant.size) told (c.loop-block.invariant.inside block some) ∙ c.loop-block.invariant.restored;
     }
 
 pub returns-clause-now : goal.returns-clause-now

@@ -3,7 +3,7 @@ use Rattle.partition_children.proofs.Entries.{entry-inside, flag-is, flags-long}
 use Rattle.partition_children.proofs.Places.{child-added, none-added}
 use Rattle.partition_children.proofs.gpt.entry_children.Goals.{then-index+in_ok-add, else-index}
 use Rattle.gpt_headers.specs.declared.entry.GptEntry.{GptEntry}
-use Rattle.gpt_headers.specs.Entry.{gives_partition}
+use Rattle.gpt_headers.specs.Entry.{entry_gives_partition}
 use Rattle.partition_tables.specs.GptTable.{child_of_entry}
 use Rattle.std.proofs.Common.{ℕ, Bool}
 use Rattle.partition_children.proofs.gpt.entry_children.Goals as goal
@@ -27,7 +27,7 @@ loop-place-preserved c =
     let entries = c.args.entries.now in
     let place = c.loop-place.place in
     let e = c.index-entries-place.result in
-    let gives : ℕ × GptEntry → Bool = λ (i, f). gives_partition c.args.header.now c.args.blocks entries i f in
+    let gives : ℕ × GptEntry → Bool = λ (i, f). entry_gives_partition c.args.header.now c.args.blocks entries i f in
     let flag = flag-is c.args.blocks c.args.header.now entries c.in_ok-flags.flags.items place c.index.result.now e c.in_ok-flags.ensures.exact (omega arith) c.index-entries-place.is c.index.ensures in
     elim c.if-index.branch [
       | then-index+in_ok-add w ↦

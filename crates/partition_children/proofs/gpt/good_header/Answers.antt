@@ -1,5 +1,5 @@
 use Rattle.std.proofs.Common.{ap, sym, ◌∙◌}
-use Rattle.gpt_headers.specs.Header.{fault_of, fields_of}
+use Rattle.gpt_headers.specs.Header.{header_fault, header_fields}
 use Rattle.partition_children.proofs.Headers.{blocks-told, size-some, no-place, no-header, stays-then, stays-whole}
 use Rattle.partition_children.proofs.Stages.{told-on}
 use Rattle.partition_children.proofs.gpt.good_header.Goals as goal
@@ -18,10 +18,10 @@ returns-in-Ok-clause-found g c bytes holds =
     let target = c.args.target.now in
     stays-whole c.args.disk.now c.read_block.new.disk c.with_array.new.disk target.view.media_id target.size c.args.lba target.blocks bytes c.in_ok-block.block.items c.in-Ok.header c.with_array.result
     (blocks-told bytes target.blocks target.size (size-some target.size c.requires.target.sized) (c.requires.target.long bytes holds)) c.in_ok-block.ensures.stays.setup (sym c.is_header_place.ensures ∙ c.if-not-is_header_place.false)
-    (c.in_ok-block.ensures.found bytes holds) (ap (fault_of c.args.lba) (sym c.deref.ensures.value) ∙ sym c.in-Ok.ensures.fault) (c.in-Ok.ensures.fields ∙ ap fields_of c.deref.ensures.value) (c.with_array.ensures.found bytes (told-on c.args.disk.now c.read_block.new.disk target.view.media_id 0 c.in_ok-block.ensures.stays bytes holds))
+    (c.in_ok-block.ensures.found bytes holds) (ap (header_fault c.args.lba) (sym c.deref.ensures.value) ∙ sym c.in-Ok.ensures.fault) (c.in-Ok.ensures.fields ∙ ap header_fields c.deref.ensures.value) (c.with_array.ensures.found bytes (told-on c.args.disk.now c.read_block.new.disk target.view.media_id 0 c.in_ok-block.ensures.stays bytes holds))
 
 pub returns-clause-found : goal.returns-clause-found
 returns-clause-found g c bytes holds =
     let target = c.args.target.now in
     no-header c.args.disk.now target.view.media_id target.size c.args.lba target.blocks bytes (blocks-told bytes target.blocks target.size (size-some target.size c.requires.target.sized) (c.requires.target.long bytes holds))
-    c.read_block.new.disk c.in_ok-block.block.items c.in-Err.field-0 (sym c.is_header_place.ensures ∙ c.if-not-is_header_place.false) (c.in_ok-block.ensures.found bytes holds) (ap (fault_of c.args.lba) (sym c.deref.ensures.value) ∙ sym c.in-Err.ensures.fault)
+    c.read_block.new.disk c.in_ok-block.block.items c.in-Err.field-0 (sym c.is_header_place.ensures ∙ c.if-not-is_header_place.false) (c.in_ok-block.ensures.found bytes holds) (ap (header_fault c.args.lba) (sym c.deref.ensures.value) ∙ sym c.in-Err.ensures.fault)

@@ -1,7 +1,7 @@
 use Rattle.std.proofs.Common.{ap, sym, ◌∙◌, subst, List}
 use Rattle.partition_tables.specs.declared.table.Child.{Child}
 use Rattle.disk_core.specs.State.{State}
-use Rattle.partition_children.specs.Probing.{Stays}
+use Rattle.partition_children.specs.Probing.{AddsEntriesAlone}
 use Rattle.partition_children.proofs.Headers.{blocks-told, size-some}
 use Rattle.partition_children.proofs.ReadAllowed.{stays-same}
 use Rattle.partition_children.proofs.Tables.{IsMbrTable, mbr-alone, mbr-chain}
@@ -11,8 +11,8 @@ use Rattle.partition_children.proofs.mbr.mbr_table.Goals as goal
 pub returns-clause-stays : goal.returns-clause-stays
 returns-clause-stays g c =
     elim c.match-extended.branch [
-      | in-Some+in_ok-add_logicals w ↦ subst (λ (s : State). Stays c.args.disk.now 0 s) (sym w.disk-is) w.in_ok-add_logicals.ensures.stays
-      | in_default w ↦ subst (λ (s : State). Stays c.args.disk.now 0 s) (sym w.disk-is) (stays-same c.args.disk.now c.requires.quiet)
+      | in-Some+in_ok-add_logicals w ↦ subst (λ (s : State). AddsEntriesAlone c.args.disk.now 0 s) (sym w.disk-is) w.in_ok-add_logicals.ensures.stays
+      | in_default w ↦ subst (λ (s : State). AddsEntriesAlone c.args.disk.now 0 s) (sym w.disk-is) (stays-same c.args.disk.now c.requires.quiet)
     ]
 
 pub returns-clause-found : goal.returns-clause-found

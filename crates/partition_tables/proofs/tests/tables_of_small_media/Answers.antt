@@ -1,6 +1,6 @@
 use Rattle.std.proofs.Common.{refl}
 use Rattle.mbr_records.specs.Record.{record_of}
-use Rattle.gpt_headers.specs.Header.{fault_of, has_signature}
+use Rattle.gpt_headers.specs.Header.{header_fault, begins_as_header}
 use Rattle.partition_tables.specs.MbrTable.{chain_of, mbr_children}
 use Rattle.partition_tables.specs.GptTable.{good_header}
 use Rattle.partition_tables.specs.Table.{table_of}
@@ -11,7 +11,7 @@ unfolding table_of
 returns-clause-plain c = refl
 
 pub returns-clause-damaged : goal.returns-clause-damaged
-unfolding table_of record_of good_header fault_of has_signature
+unfolding table_of record_of good_header header_fault begins_as_header
 returns-clause-damaged c = refl
 
 pub returns-clause-mbr : goal.returns-clause-mbr

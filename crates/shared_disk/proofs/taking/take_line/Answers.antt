@@ -2,7 +2,7 @@ use Rattle.std.proofs.Common.{◌∙◌, ◌-◌, sym, ap, subst, length, arith}
 use Rattle.std.specs.Global.{Vec}
 use Rattle.disk_core.specs.State.{State}
 use Rattle.shared_disk.specs.declared.clients.Client.{Client}
-use Rattle.shared_disk.specs.Inside.{IsSound}
+use Rattle.shared_disk.specs.Inside.{AreBooksSound}
 use Rattle.shared_disk.proofs.LineLemmas.{took-line, took-nothing, took-none, order-left, room-left, place-sound}
 use Rattle.shared_disk.proofs.taking.take_line.Goals as goal
 
@@ -24,5 +24,5 @@ returns-in-Ok g c = record {
 pub returns-in-Err : goal.returns-in-Err
 returns-in-Err g c = record {
   says = took-nothing c.args.disk.now c.do_line.new.disk c.args.books.now c.do_line.new.books (c.args.client - 1) c.in-Err.ensures.wants c.in-Err.ensures.disk c.in-Err.ensures.same;
-  sound = subst (λ (s : State). IsSound s.setup s.entries c.do_line.new.books) (sym c.in-Err.ensures.disk) c.in-Err.ensures.sound;
+  sound = subst (λ (s : State). AreBooksSound s.setup s.entries c.do_line.new.books) (sym c.in-Err.ensures.disk) c.in-Err.ensures.sound;
 }

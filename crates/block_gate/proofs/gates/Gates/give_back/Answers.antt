@@ -1,6 +1,6 @@
 use Rattle.std.proofs.Common.{◌≡◌, ◌∙◌, true, false, None, length, ap, sym, subst, refl, set}
 use Rattle.index_links.specs.Lists.{list_at, is_among}
-use Rattle.block_gate.specs.Gates.{Gate, gate_of, is_lent, taking, AreSound}
+use Rattle.block_gate.specs.Gates.{Gate, gate_of, is_lent, with_work_back, AreSound}
 use Rattle.block_gate.specs.Back.{IsGivenBack}
 use Rattle.block_gate.specs.Sets.{gate_at, gates_in, tickets_in}
 use Rattle.block_gate.proofs.Moves.{ticket-among}
@@ -35,7 +35,7 @@ returns-in-Some-clause-value c =
     let gone : is_among c.args.self.now.gone c.ticket.result ≡ true =
     subst (λ ts. is_among ts c.ticket.result ≡ true) (gone-is c.self.inside.sets.items c.self.inside.links c.self.inside.size c.args.self.now c.self.view_is) (subst (λ t. is_among (tickets_in c.self.inside.sets.items (list_at c.self.inside.links 2)) t ≡ true) f.ticket (ticket-among c.self.inside.sets.items (list_at c.self.inside.links 2) c.in-Some.node f.among)) in (
       ours-gone c.args.self.now c.args.work c.ticket.result c.ticket.ensures gone (ap length (sym c.bytes.ensures) ∙ c.if-bytes-self.false ∙ size-is c.self.inside.sets.items c.self.inside.links c.self.inside.size c.args.self.now c.self.view_is),
-      (home-so c.self.inside.sets.items c.self.inside.links c.relink.new.links c.self.inside.size c.in-Some.node c.ticket.result c.args.self.now c.index_mut.result.now c.take_back.new.self c.self.invariant c.self.view_is (found c.deref.result.now c.self.inside.sets.items (list_at c.self.inside.links 2) c.ticket.result c.in-Some.node c.find_set.result c.deref.ensures.value c.find_set.ensures.among c.find_set.ensures.value c.in-Some.is).among (found c.deref.result.now c.self.inside.sets.items (list_at c.self.inside.links 2) c.ticket.result c.in-Some.node c.find_set.result c.deref.ensures.value c.find_set.ensures.among c.find_set.ensures.value c.in-Some.is).ticket c.index_mut.ensures.value c.take_back.ensures c.relink.ensures.value c.relink.ensures.apart).shows ∙ ap (taking c.args.self.now) c.ticket.ensures,
+      (home-so c.self.inside.sets.items c.self.inside.links c.relink.new.links c.self.inside.size c.in-Some.node c.ticket.result c.args.self.now c.index_mut.result.now c.take_back.new.self c.self.invariant c.self.view_is (found c.deref.result.now c.self.inside.sets.items (list_at c.self.inside.links 2) c.ticket.result c.in-Some.node c.find_set.result c.deref.ensures.value c.find_set.ensures.among c.find_set.ensures.value c.in-Some.is).among (found c.deref.result.now c.self.inside.sets.items (list_at c.self.inside.links 2) c.ticket.result c.in-Some.node c.find_set.result c.deref.ensures.value c.find_set.ensures.among c.find_set.ensures.value c.in-Some.is).ticket c.index_mut.ensures.value c.take_back.ensures c.relink.ensures.value c.relink.ensures.apart).shows ∙ ap (with_work_back c.args.self.now) c.ticket.ensures,
     )
 
 pub returns-in-Some-clause-sound : goal.returns-in-Some-clause-sound
@@ -60,7 +60,7 @@ returns-then-is_out-clause-value c =
     ap (λ (g : Gate). g.out) (sym (read-set c.self.inside.sets.items c.self.inside.links c.self.inside.size 1 c.in-Some-find_set.node c.index.result.now c.self.invariant f.among c.index.ensures)) ∙ sym c.is_out.ensures ∙ c.if-is_out.true in
     let lent : is_lent (gate_of c.args.self.now.held c.ticket.result) ≡ true = ap (λ gs. is_lent (gate_of gs c.ticket.result)) (sym (held-is c.self.inside.sets.items c.self.inside.links c.self.inside.size c.args.self.now c.self.view_is)) ∙ ap is_lent f.gate ∙ out in (
       ours-held c.args.self.now c.args.work c.ticket.result c.ticket.ensures lent (ap length (sym c.bytes.ensures) ∙ c.if-bytes-self.false ∙ size-is c.self.inside.sets.items c.self.inside.links c.self.inside.size c.args.self.now c.self.view_is),
-      (in-so c.self.inside.sets.items c.self.inside.links c.self.inside.size c.in-Some-find_set.node c.ticket.result c.args.self.now c.index_mut-then-is_out.result.now c.take_back-then-is_out.new.self c.self.invariant c.self.view_is (found c.deref-2.result.now c.self.inside.sets.items (list_at c.self.inside.links 1) c.ticket.result c.in-Some-find_set.node c.find_set-2.result c.deref-2.ensures.value c.find_set-2.ensures.among c.find_set-2.ensures.value c.in-Some-find_set.is).among (found c.deref-2.result.now c.self.inside.sets.items (list_at c.self.inside.links 1) c.ticket.result c.in-Some-find_set.node c.find_set-2.result c.deref-2.ensures.value c.find_set-2.ensures.among c.find_set-2.ensures.value c.in-Some-find_set.is).ticket c.index_mut-then-is_out.ensures.value c.take_back-then-is_out.ensures).shows ∙ ap (taking c.args.self.now) c.ticket.ensures,
+      (in-so c.self.inside.sets.items c.self.inside.links c.self.inside.size c.in-Some-find_set.node c.ticket.result c.args.self.now c.index_mut-then-is_out.result.now c.take_back-then-is_out.new.self c.self.invariant c.self.view_is (found c.deref-2.result.now c.self.inside.sets.items (list_at c.self.inside.links 1) c.ticket.result c.in-Some-find_set.node c.find_set-2.result c.deref-2.ensures.value c.find_set-2.ensures.among c.find_set-2.ensures.value c.in-Some-find_set.is).among (found c.deref-2.result.now c.self.inside.sets.items (list_at c.self.inside.links 1) c.ticket.result c.in-Some-find_set.node c.find_set-2.result c.deref-2.ensures.value c.find_set-2.ensures.among c.find_set-2.ensures.value c.in-Some-find_set.is).ticket c.index_mut-then-is_out.ensures.value c.take_back-then-is_out.ensures).shows ∙ ap (with_work_back c.args.self.now) c.ticket.ensures,
     )
 
 pub returns-then-is_out-clause-sound : goal.returns-then-is_out-clause-sound

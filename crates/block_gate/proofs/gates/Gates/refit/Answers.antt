@@ -1,7 +1,7 @@
 use Rattle.std.proofs.Common.{◌≡◌, ◌+◌, ◌-◌, ◌∙◌, length, arith, ap, sym, subst, refl, set}
 use Rattle.index_links.specs.Lists.{list_at}
 use Rattle.index_links.proofs.LinkedListsLemmas.{among-at}
-use Rattle.block_gate.specs.Gates.{Gates, refitted, AreSound}
+use Rattle.block_gate.specs.Gates.{Gates, with_new_sets, AreSound}
 use Rattle.block_gate.specs.Sets.{gates_of}
 use Rattle.block_gate.proofs.Steps.{sound-of}
 use Rattle.block_gate.proofs.Views.{inside-of}
@@ -38,8 +38,8 @@ pub returns-in_err-refit-clause-err : goal.returns-in_err-refit-clause-err
 returns-in_err-refit-clause-err c =
     let (ordered, shown, counted, fits, few) = c.loop.invariant in
     let same : set c.loop.self-inside.sets.items c.in-Some.node c.refit.new.self ≡ c.loop.self-inside.sets.items = kept-get c.loop.self-inside.sets.items c.in-Some.node c.index_mut.result.now c.refit.new.self (inside-of c.loop.self-inside.sets.items c.loop.self-inside.links c.loop.self-inside.size 2 c.in-Some.node ordered (among-at (list_at c.loop.self-inside.links 2) 0 c.in-Some.node (sym c.first_gone.ensures ∙ c.in-Some.is))) c.index_mut.ensures.value c.in_err-refit.ensures.err in
-    let shows : gates_of (set c.loop.self-inside.sets.items c.in-Some.node c.refit.new.self) c.loop.self-inside.links c.loop.self-inside.size ≡ refitted c.args.self.now c.loop.count = ap (λ ss. gates_of ss c.loop.self-inside.links c.loop.self-inside.size) same ∙ shown in
-    on-err c.from_residual.result _ (shows ∙ left-after c.args.self.now c.loop.count fits ∙ ap (λ (g : Gates). refitted c.args.self.now (length c.args.self.now.gone - length g.gone)) (sym shows))
+    let shows : gates_of (set c.loop.self-inside.sets.items c.in-Some.node c.refit.new.self) c.loop.self-inside.links c.loop.self-inside.size ≡ with_new_sets c.args.self.now c.loop.count = ap (λ ss. gates_of ss c.loop.self-inside.links c.loop.self-inside.size) same ∙ shown in
+    on-err c.from_residual.result _ (shows ∙ left-after c.args.self.now c.loop.count fits ∙ ap (λ (g : Gates). with_new_sets c.args.self.now (length c.args.self.now.gone - length g.gone)) (sym shows))
 
 pub returns-in_err-refit-clause-sound : goal.returns-in_err-refit-clause-sound
 returns-in_err-refit-clause-sound c =
@@ -50,8 +50,8 @@ returns-in_err-refit-clause-sound c =
 pub loop-preserved : goal.loop-preserved
 loop-preserved c =
     let (ordered, shown, counted, fits, few) = c.loop.invariant in
-    let turns : TurnsSo (set c.loop.self-inside.sets.items c.in-Some.node c.refit.new.self) c.relink.new.links c.loop.self-inside.size (refitted (refitted c.args.self.now c.loop.count) 1) =
-    refits-so c.loop.self-inside.sets.items c.loop.self-inside.links c.relink.new.links c.loop.self-inside.size c.in-Some.node (refitted c.args.self.now c.loop.count) c.index_mut.result.now c.refit.new.self ordered shown (sym c.first_gone.ensures ∙ c.in-Some.is) c.index_mut.ensures.value c.in_ok-refit.ensures.ok c.relink.ensures.value c.relink.ensures.apart in (
+    let turns : TurnsSo (set c.loop.self-inside.sets.items c.in-Some.node c.refit.new.self) c.relink.new.links c.loop.self-inside.size (with_new_sets (with_new_sets c.args.self.now c.loop.count) 1) =
+    refits-so c.loop.self-inside.sets.items c.loop.self-inside.links c.relink.new.links c.loop.self-inside.size c.in-Some.node (with_new_sets c.args.self.now c.loop.count) c.index_mut.result.now c.refit.new.self ordered shown (sym c.first_gone.ensures ∙ c.in-Some.is) c.index_mut.ensures.value c.in_ok-refit.ensures.ok c.relink.ensures.value c.relink.ensures.apart in (
       turns.ordered,
       turns.shows ∙ refitted-more c.args.self.now c.loop.count,
       ap (λ n. n + 1) counted,

@@ -1,11 +1,11 @@
 use Rattle.std.proofs.Common.{◌≡◌, subst, option_copied}
 use Rattle.shared_disk.specs.Desk.{given_at, AreGivenBack}
-use Rattle.shared_disk.specs.Inside.{state_of}
+use Rattle.shared_disk.specs.Inside.{desk_state}
 use Rattle.shared_disk.proofs.DeskLemmas.{given-back}
 use Rattle.shared_disk.proofs.desk.Desk.given.Goals as goal
 
 pub returns-clause-buffer : goal.returns-clause-buffer
-unfolding state_of
+unfolding desk_state
 returns-clause-buffer g c = subst (λ s. option_copied c.given.result ≡ given_at s.given c.args.token) c.self.view_is c.given.ensures
 
 pub returns-clause-back : goal.returns-clause-back

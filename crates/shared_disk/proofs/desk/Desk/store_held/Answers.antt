@@ -1,7 +1,7 @@
 use Rattle.std.proofs.Common.{subst}
 use Rattle.disk_core.specs.Calls.{HeldStoreSays}
 use Rattle.shared_disk.specs.Desk.{Keeps, OnDisk}
-use Rattle.shared_disk.specs.Inside.{state_of}
+use Rattle.shared_disk.specs.Inside.{desk_state}
 use Rattle.shared_disk.proofs.DeskLemmas.{held-moves, moved-sound, moved-says, moved-keeps}
 use Rattle.shared_disk.proofs.desk.Desk.store_held.Goals as goal
 
@@ -9,8 +9,8 @@ pub invariant_of-self : goal.invariant_of-self
 invariant_of-self g c = moved-sound c.self.inside.disk c.store_held.new.self c.self.inside.books (held-moves c.self.inside.disk c.store_held.new.self c.args.ticket c.store_held.result c.store_held.ensures) c.self.invariant
 
 pub returns-clause-says : goal.returns-clause-says
-returns-clause-says g c = subst (λ s. OnDisk s (state_of c.store_held.new.self c.self.inside.books) (λ old new. HeldStoreSays old c.args.ticket c.store_held.result new)) c.self.view_is (moved-says c.self.inside.disk c.store_held.new.self c.self.inside.books (λ old new. HeldStoreSays old c.args.ticket c.store_held.result new) (held-moves c.self.inside.disk c.store_held.new.self c.args.ticket c.store_held.result c.store_held.ensures) c.self.invariant c.store_held.ensures)
+returns-clause-says g c = subst (λ s. OnDisk s (desk_state c.store_held.new.self c.self.inside.books) (λ old new. HeldStoreSays old c.args.ticket c.store_held.result new)) c.self.view_is (moved-says c.self.inside.disk c.store_held.new.self c.self.inside.books (λ old new. HeldStoreSays old c.args.ticket c.store_held.result new) (held-moves c.self.inside.disk c.store_held.new.self c.args.ticket c.store_held.result c.store_held.ensures) c.self.invariant c.store_held.ensures)
 
 pub returns-clause-keeps : goal.returns-clause-keeps
-unfolding state_of
-returns-clause-keeps g c = subst (λ s. Keeps s → Keeps (state_of c.store_held.new.self c.self.inside.books)) c.self.view_is (moved-keeps (state_of c.self.inside.disk c.self.inside.books) (state_of c.store_held.new.self c.self.inside.books) (λ old new. HeldStoreSays old c.args.ticket c.store_held.result new) (held-moves c.self.inside.disk c.store_held.new.self c.args.ticket c.store_held.result c.store_held.ensures) (moved-says c.self.inside.disk c.store_held.new.self c.self.inside.books (λ old new. HeldStoreSays old c.args.ticket c.store_held.result new) (held-moves c.self.inside.disk c.store_held.new.self c.args.ticket c.store_held.result c.store_held.ensures) c.self.invariant c.store_held.ensures))
+unfolding desk_state
+returns-clause-keeps g c = subst (λ s. Keeps s → Keeps (desk_state c.store_held.new.self c.self.inside.books)) c.self.view_is (moved-keeps (desk_state c.self.inside.disk c.self.inside.books) (desk_state c.store_held.new.self c.self.inside.books) (λ old new. HeldStoreSays old c.args.ticket c.store_held.result new) (held-moves c.self.inside.disk c.store_held.new.self c.args.ticket c.store_held.result c.store_held.ensures) (moved-says c.self.inside.disk c.store_held.new.self c.self.inside.books (λ old new. HeldStoreSays old c.args.ticket c.store_held.result new) (held-moves c.self.inside.disk c.store_held.new.self c.args.ticket c.store_held.result c.store_held.ensures) c.self.invariant c.store_held.ensures))

@@ -1,6 +1,6 @@
 use Rattle.std.proofs.Common.{◌≡◌, ◌∙◌, length, refl, ap, sym, arith}
 use Rattle.slab.specs.Slab.{get}
-use Rattle.token_table.specs.Records.{new_record, added, word_for, IsShown}
+use Rattle.token_table.specs.Records.{new_record, with_record, word_for, IsShown}
 use Rattle.token_table.proofs.Index.{length-records_of, added-is, same-is, restored, are-shown}
 use Rattle.token_table.proofs.tokens.Tokens.add.Goals as goal
 
@@ -27,7 +27,7 @@ pub returns-clause-number : goal.returns-clause-number
 returns-clause-number c = sym (length-records_of c.self.inside.index c.self.inside.records c.self.inside.given) ∙ ap length c.self.view_is
 
 pub returns-clause-added : goal.returns-clause-added
-unfolding new_record added IsShown word_for
+unfolding new_record with_record IsShown word_for
 returns-clause-added c = (added-is c.self.inside.index c.insert-2.new.self c.self.inside.records c.insert.new.self c.self.inside.given c.in-Ok.key (new_record c.args.request c.args.signaller) c.args.self.now c.self.view_is c.self.invariant c.in-Ok.ensures.was_vacant c.in-Ok-insert.ensures.updates c.in-Ok.ensures.updates c.requires.silent c.insert-2.ensures.ordered).0
 
 pub returns-clause-shown : goal.returns-clause-shown
