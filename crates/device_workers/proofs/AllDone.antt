@@ -12,7 +12,7 @@ use Rattle.history.specs.Setup.{Setup, IsSetup}
 use Rattle.history.specs.Tokens.{Request, is_accept, accepted, request, was_collected}
 use Rattle.history.specs.Rules.{IsLegal, refusal_of}
 use Rattle.history.specs.Next.{first_open, Turn, next_turn, Outcome, entry_of}
-use Rattle.history_laws.specs.Told.{has_no_order}
+use Rattle.history_laws.specs.Told.{is_done}
 use Rattle.history_laws.proofs.CountLemmas.{accepted-same}
 use Rattle.history_laws.proofs.PlainLemmas.{first-open-collect, turn-request, turn-collected}
 use Rattle.history_laws.proofs.TokenLemmas.{request-same, request-some, collected-collect}
@@ -36,10 +36,10 @@ record IsSound (S : Setup) (H : List Entry) : Type 0 where
   tidy : IsTidy S H
   clients : IsClients H
 
-sound-quiet : (S : Setup) (H : List Entry) (e : Entry) → is_accept e ≡ false → has_no_order e ≡ false → IsSound S H → IsSound S (e ∷ H)
+sound-quiet : (S : Setup) (H : List Entry) (e : Entry) → is_accept e ≡ false → is_done e ≡ false → IsSound S H → IsSound S (e ∷ H)
 sound-quiet S H e other quiet sound = record { tidy = tidy-quiet S H e other quiet sound.tidy; clients = clients-same H e other sound.clients }
 
-tidy-if : (S : Setup) (H : List Entry) (b : Bool) (e : Entry) → is_accept e ≡ false → has_no_order e ≡ false → IsTidy S H → IsTidy S (with_line_entry (entry_if b e) H)
+tidy-if : (S : Setup) (H : List Entry) (b : Bool) (e : Entry) → is_accept e ≡ false → is_done e ≡ false → IsTidy S H → IsTidy S (with_line_entry (entry_if b e) H)
 tidy-if S H true e other quiet tidy = tidy-quiet S H e other quiet tidy
 tidy-if S H false e other quiet tidy = tidy
 
