@@ -18,18 +18,18 @@ use Rattle.history_laws.proofs.PlainLemmas.{first-open-collect, turn-request, tu
 use Rattle.history_laws.proofs.TokenLemmas.{request-same, request-some, collected-collect}
 use Rattle.disk_core.specs.Calls.{is_fetched}
 use Rattle.shared_disk.specs.declared.clients.Stand.{Stand}
-use Rattle.shared_disk.proofs.OpeningLemmas.{collected-stays}
+use Rattle.history_laws.proofs.TokenLemmas.{collected-stays, uncollected-before}
 use Rattle.shared_disk.specs.Lines.{Role, view_of, payload_bytes, answer_of, is_view_open, is_insertable, entry_if, line_entry, with_line_entry, first_own_open}
 use Rattle.shared_disk.specs.Script.{IsOpening}
 use Rattle.device_workers.specs.Plain.{Progress, progress, collect_one, with_collect, collects, with_last_collects, is_wait, after_wait, after_lines, taken_of, taken_by, taken_by_first, next_outcome, after_turn, after_turn_if, after_command, after_follow, after_step_if, after_step, a_round, has_no_order as is_role_done, is_over, after_rounds, rounds, plain_history}
 use Rattle.device_workers.specs.Laws.{IsAllDone}
-use Rattle.device_workers.proofs.Clients.{IsClients, uncollected-before, clients-none, clients-same, clients-line, opening-open}
+use Rattle.device_workers.proofs.Clients.{IsClients, clients-none, clients-same, clients-line, opening-open}
 use Rattle.device_workers.proofs.Collecting.{own-keep, last-keep, collects-keep}
 use Rattle.device_workers.proofs.Costs.{cost, Lightens, first-lightens, turned-lightens, step-none}
 use Rattle.device_workers.proofs.Enough.{cost-begins}
 use Rattle.device_workers.proofs.Leading.{over-parts}
 use Rattle.device_workers.proofs.Stills.{lines-fall}
-use Rattle.device_workers.proofs.Tidy.{IsTidy, tidy-legal, tidy-quiet, tidy-accept, tidy-turn, tidy-next}
+use Rattle.history_laws.proofs.TidyLemmas.{IsTidy, tidy-legal, tidy-quiet, tidy-accept, tidy-turn, tidy-next}
 
 -- what the schedule keeps: commands of units, and no uncollected token but clients'
 record IsSound (S : Setup) (H : List Entry) : Type 0 where
@@ -163,7 +163,7 @@ rounds-over S is (suc n) s sound most = by (is_over S s) refl (λ less. rounds-o
 
 -- after the last collects each token was collected
 stays-collected : (test : ℕ → Bool) (H : List Entry) (a n t : ℕ) → was_collected H t ≡ true → was_collected (collects test H a n) t ≡ true
-stays-collected test H a n t was = collects-keep (λ G. was_collected G t ≡ true) (λ G tag u kept. collected-stays (entry.Collect tag u) G t kept) test H a n was
+stays-collected test H a n t was = collects-keep (λ G. was_collected G t ≡ true) (λ G tag u kept. collected-stays G (entry.Collect tag u) t kept) test H a n was
 
 now-collected : (test : ℕ → Bool) (H : List Entry) (t : ℕ) (q : Request) → request H t ≡ Some q → (was_collected H t ≡ false → test q.tag ≡ true) → was_collected (with_collect test H t) t ≡ true
 now-collected test H t q named passes = rw named (by (was_collected H t) refl)

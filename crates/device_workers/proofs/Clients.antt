@@ -15,7 +15,7 @@ use Rattle.history.specs.Rules.{IsLegal, refusal_of}
 use Rattle.history.specs.Next.{first_open}
 use Rattle.history_laws.proofs.NextLemmas.{first-open-none}
 use Rattle.history_laws.proofs.OwingLemmas.{open-kept}
-use Rattle.history_laws.proofs.TokenLemmas.{request-accept, request-kept, request-same, request-accepted}
+use Rattle.history_laws.proofs.TokenLemmas.{request-accept, request-kept, request-same, request-accepted, uncollected-before}
 use Rattle.shared_disk.specs.declared.clients.Stand.{Stand}
 use Rattle.shared_disk.specs.Lines.{view_of, payload_bytes, answer_of, is_view_open, is_insertable, entry_if, line_entry, with_line_entry}
 use Rattle.shared_disk.specs.Script.{Script, Deed, Enters, Does, IsOpening, entries_by, MayComeNext, line_count_by, Follows, KeepsScript}
@@ -50,18 +50,6 @@ begins S d places H keeps = let (fresh, is) = begins-by d.opening keeps.log in (
 -- each uncollected token of a history has a client's tag
 abbrev pub IsClients : List Entry → Type 0
 IsClients H = (t : ℕ) (q : Request) → request H t ≡ Some q → was_collected H t ≡ false → q.tag ≢ 0
-
-pub uncollected-before : (H : List Entry) (e : Entry) (t : ℕ) → was_collected (e ∷ H) t ≡ false → was_collected H t ≡ false
-unfolding was_collected
-uncollected-before H e t not_it = by (was_collected H t) refl
-  where
-    by : (b : Bool) → was_collected H t ≡ b → b ≡ false
-    by false is = refl
-    by true is = other (is_collect_of t e) refl
-      where
-        other : (c : Bool) → is_collect_of t e ≡ c → true ≡ false
-        other true same = rw same at not_it
-        other false same = sym is ∙ rw same at not_it
 
 -- so with one more entry that accepts nothing
 pub clients-same : (H : List Entry) (e : Entry) → is_accept e ≡ false → IsClients H → IsClients (e ∷ H)

@@ -6,7 +6,7 @@ use Rattle.history.specs.Eras.{is_fault}
 use Rattle.history.specs.Setup.{Setup}
 use Rattle.history.specs.Next.{Turn, next_turn, Outcome, Made, Failed, entry_of}
 use Rattle.history.specs.Room.{faults}
-use Rattle.history_laws.proofs.CountLemmas.{faults-more, faults-same}
+use Rattle.history_laws.proofs.CountLemmas.{faults-more, faults-same, faults-both}
 use Rattle.disk_core.specs.Calls.{is_fetched}
 use Rattle.shared_disk.specs.Lines.{Role}
 use Rattle.device_workers.specs.Plain.{outcomes_onto, outcomes_after, Progress, progress, with_last_collects, taken_of, taken_by, taken_by_first, next_outcome, later_outcomes, after_turn, after_turn_if, after_command, after_follow, after_step_if, after_step, a_round, is_over, after_rounds, rounds, plain_history}
@@ -114,19 +114,6 @@ made-onto (Reset p ∷ H) more few made = made-onto H more (sym (faults-same H (
 made-onto (Eject p ∷ H) more few made = made-onto H more (sym (faults-same H (Eject p) refl) ∙ few) made
 made-onto (Insert p q ∷ H) more few made = made-onto H more (sym (faults-same H (Insert p q) refl) ∙ few) made
 made-onto (Protect p q ∷ H) more few made = made-onto H more (sym (faults-same H (Protect p q) refl) ∙ few) made
-
-faults-none : faults [] ≡ 0
-unfolding faults
-faults-none = refl
-
--- the faults of two lists of entries
-faults-both : (fresh H : List Entry) → faults (fresh ++ H) ≡ faults fresh + faults H
-faults-both [] H = omega (arith, faults-none)
-faults-both (e ∷ fresh) H = by (is_fault e) refl (faults-both fresh H)
-  where
-    by : (b : Bool) → is_fault e ≡ b → faults (fresh ++ H) ≡ faults fresh + faults H → faults (e ∷ (fresh ++ H)) ≡ faults (e ∷ fresh) + faults H
-    by true is both = omega (arith, faults-more (fresh ++ H) e is, faults-more fresh e is, both)
-    by false is both = omega (arith, faults-same (fresh ++ H) e is, faults-same fresh e is, both)
 
 -- with no fault since the opening the plain history is a function of the script and the setup alone
 pub faultless : (S : Setup) (opening fresh : List Entry) (roles : List Role) → outcomes_after opening (fresh ++ opening) ≡ outcomes_onto fresh [] → fresh ++ opening ≡ plain_history S opening roles (outcomes_after opening (fresh ++ opening))

@@ -15,4 +15,3 @@ mod Rows
 mod Stills
 mod Stepping
 mod Taking
-mod Tidy

@@ -1,5 +1,5 @@
 -- How each entry changes what is counted.
-use Rattle.std.proofs.Common.{◌≡◌, ℕ, ◌+◌, ◌≤◌, Bool, true, false, if◌then◌else◌, List, [], ◌∷◌, length, refl, arith}
+use Rattle.std.proofs.Common.{◌≡◌, ℕ, ◌+◌, ◌≤◌, Bool, true, false, if◌then◌else◌, List, [], ◌∷◌, ◌++◌, length, refl, arith}
 use Rattle.std.specs.List.{count_by}
 use Rattle.std.proofs.lemmas.List.Sums.{sum_by-cons, sum_by-le-sum_by, count_by-le-length}
 use Rattle.history.specs.declared.entry.Entry.{Entry}
@@ -113,3 +113,16 @@ faults-few H = count-less is_fault is_command H by
     by (Fault t c done) is = refl
     by (Done t c) is = refl
     by e is = cc
+
+faults-none : faults [] ≡ 0
+unfolding faults
+faults-none = refl
+
+-- the faults of two lists of entries
+pub faults-both : (fresh H : List Entry) → faults (fresh ++ H) ≡ faults fresh + faults H
+faults-both [] H = omega (arith, faults-none)
+faults-both (e ∷ fresh) H = by (is_fault e) refl (faults-both fresh H)
+  where
+    by : (b : Bool) → is_fault e ≡ b → faults (fresh ++ H) ≡ faults fresh + faults H → faults (e ∷ (fresh ++ H)) ≡ faults (e ∷ fresh) + faults H
+    by true is both = omega (arith, faults-more (fresh ++ H) e is, faults-more fresh e is, both)
+    by false is both = omega (arith, faults-same (fresh ++ H) e is, faults-same fresh e is, both)

@@ -54,3 +54,6 @@ pub mod AloneLemmas
 pub mod OutsideLemmas
 pub mod StoredLemmas
 pub mod FilterLemmas
+pub mod TidyLemmas
+pub mod SuccessLemmas
+pub mod ClosedLemmas

@@ -16,14 +16,10 @@ use Rattle.history.specs.Rules.{MayCommand, MayFollow, IsLegal}
 use Rattle.history.specs.Room.{commands_owed, owed_by, token_owed, tokens_owed, media_owed, owed_entries}
 use Rattle.history_laws.specs.Laws.{is_owed}
 use Rattle.history_laws.proofs.CountLemmas.{inserts-none, accepted-more, accepted-same, ejects-more, ejects-same, inserts-more, inserts-same}
-use Rattle.history_laws.proofs.TokenLemmas.{accept-concerns, request-kept, request-same, request-some, collected-collect}
+use Rattle.history_laws.proofs.TokenLemmas.{accept-concerns, request-kept, request-same, request-some, collected-collect, collected-stays}
 use Rattle.history_laws.proofs.EndLemmas.{mark-stays, mark-next, command-open, unaccepted, untold-mark}
 use Rattle.history_laws.proofs.OwedLemmas.{commands-stay}
 use Rattle.history_laws.proofs.RoomLemmas.{ended-owed, collected-owed, ended-owed-most, owed-other, tokens-same, tokens-less, tokens-fall, done-owed, fault-owed, command-owed, end-owed}
-
-collected-stays : (H : List Entry) (e : Entry) (t : ℕ) → was_collected H t ≡ true → was_collected (e ∷ H) t ≡ true
-unfolding was_collected
-collected-stays H e t was = or_right (is_collect_of t e) _ was
 
 owed_by-less : (S : Setup) (H H' : List Entry) (t : ℕ) (o : Option Request) (m later : Option Status) (c c' : Bool) → (c ≡ true → c' ≡ true)
     → ((r : Request) → commands_owed S H' t r ≤ commands_owed S H t r) → owed_by S H' t o (or_else m later) c' ≤ owed_by S H t o m c

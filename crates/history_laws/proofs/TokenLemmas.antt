@@ -1,5 +1,5 @@
 -- What an entry tells of a token: nothing new where it does not concern it.
-use Rattle.std.proofs.Common.{◌≡◌, ◌≢◌, ℕ, ◌<◌, inl, inr, Bool, true, false, ◌&&◌, ◌||◌, List, [], ◌∷◌, Option, None, Some, refl, ap, ◌∙◌, arith, nat_eq}
+use Rattle.std.proofs.Common.{◌≡◌, ◌≢◌, ℕ, ◌<◌, inl, inr, Bool, true, false, ◌&&◌, ◌||◌, List, [], ◌∷◌, Option, None, Some, refl, sym, ap, ◌∙◌, arith, nat_eq}
 use Rattle.std.specs.List.{list_any}
 use Rattle.std.proofs.lemmas.Bool.{cases_eq, cases_Bool, ne_eqb, eq-eqb, or_right}
 use Rattle.efi_status.specs.declared.Status.{Status}
@@ -184,3 +184,21 @@ bytes_read-get S H t x c get inside = rw (eq-eqb t t refl, get, inside)
 pub bytes_read-kept : (S : Setup) (H : List Entry) (t x : ℕ) (c : Command) → (is_get c && lies_in S (first_block c) (block_count S c) x) ≡ false → bytes_read S (Done t c ∷ H) t x ≡ bytes_read S H t x
 unfolding bytes_read
 bytes_read-kept S H t x c outside = rw (eq-eqb t t refl, outside)
+
+-- what was collected stays so
+pub collected-stays : (H : List Entry) (e : Entry) (t : ℕ) → was_collected H t ≡ true → was_collected (e ∷ H) t ≡ true
+unfolding was_collected
+collected-stays H e t was = or_right (is_collect_of t e) _ was
+
+-- and what is not collected was not
+pub uncollected-before : (H : List Entry) (e : Entry) (t : ℕ) → was_collected (e ∷ H) t ≡ false → was_collected H t ≡ false
+unfolding was_collected
+uncollected-before H e t not_it = by (was_collected H t) refl
+  where
+    by : (b : Bool) → was_collected H t ≡ b → b ≡ false
+    by false is = refl
+    by true is = other (is_collect_of t e) refl
+      where
+        other : (c : Bool) → is_collect_of t e ≡ c → true ≡ false
+        other true same = rw same at not_it
+        other false same = sym is ∙ rw same at not_it

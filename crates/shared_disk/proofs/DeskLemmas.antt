@@ -44,7 +44,8 @@ use Rattle.shared_disk.specs.Inside.{first_entries, buffer_in, end_in, slot_end,
 use Rattle.shared_disk.proofs.KeptLemmas.{keeps-enters, keeps-does, keeps-nothing}
 use Rattle.shared_disk.proofs.OpeningLemmas.{later-open}
 use Rattle.shared_disk.proofs.SoundLemmas.{first-entries-more, sound-entry}
-use Rattle.shared_disk.proofs.TakingLemmas.{given-at, given-past, legal-last, legal-before}
+use Rattle.history_laws.proofs.ClosedLemmas.{legal-last, legal-before, made-open}
+use Rattle.shared_disk.proofs.TakingLemmas.{given-at, given-past}
 
 keeps-to : (S S' : Setup) (d d' : Script) (p p' : List (List ℕ)) (H H' : List Entry) → S' ≡ S → d' ≡ d → p' ≡ p → H' ≡ H → KeepsScript S d p H → KeepsScript S' d' p' H'
 keeps-to S S' d d' p p' H H' s is at h keeps = rw (s, is, at, h) keeps
@@ -143,11 +144,6 @@ made-accept t c (Failed done) = refl
 made-collect : (u t : ℕ) (c : Command) (outcome : Outcome) → is_collect_of u (entry_of (record { token = t; command = c }) outcome) ≡ false
 made-collect u t c Made = refl
 made-collect u t c (Failed done) = refl
-
-made-open : (S : Setup) (H : List Entry) (t : ℕ) (c : Command) (outcome : Outcome) → MayFollow S H (entry_of (record { token = t; command = c }) outcome) → IsOutstanding S H t
-unfolding MayFollow
-made-open S H t c Made may = command-open S H t c may
-made-open S H t c (Failed done) may = command-open S H t c may.0
 
 made-enters : (S : Setup) (d : Script) (H : List Entry) (done : ℕ → ℕ) (t : ℕ) (c : Command) (outcome : Outcome) → accepted d.opening ≤ t → MayComeNext S d H done (entry_of (record { token = t; command = c }) outcome)
 made-enters S d H done t c Made later = later

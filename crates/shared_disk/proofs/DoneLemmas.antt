@@ -22,7 +22,7 @@ use Rattle.shared_disk.specs.Desk.{is_accept_of, given_at}
 use Rattle.shared_disk.specs.Inside.{buffer_in, places_in, AreBooksSound, AreBooksOf, AreSame, IsRoomy, HasToken, ChangesCourse, AddsToken, DoesOn}
 use Rattle.shared_disk.proofs.CourseLemmas.{same-places, are-same}
 use Rattle.shared_disk.proofs.SoundLemmas.{sound-entry, sound-changes, sound-token}
-use Rattle.shared_disk.proofs.TakingLemmas.{legal-last, legal-before}
+use Rattle.history_laws.proofs.ClosedLemmas.{legal-last, legal-before}
 use Rattle.shared_disk.proofs.WaitLemmas.{course-roomy}
 
 pub revokes-same : (s s' : Gates) → s' ≡ s → Revokes s s'

@@ -10,6 +10,7 @@ use Rattle.history.specs.Eras.{is_present, media_id_of}
 use Rattle.history.specs.Tokens.{accepted, request, is_accept, is_collect_of}
 use Rattle.history.specs.Marks.{first_from, has_view, is_outstanding, IsOutstanding, ending}
 use Rattle.history.specs.Next.{first_open}
+use Rattle.history_laws.proofs.ClosedLemmas.{cancel-some, cancel-none, reset-some, reset-none}
 use Rattle.history_laws.specs.Left.{ended_by}
 use Rattle.history_laws.proofs.EndedLemmas.{ended-some, ended-no}
 use Rattle.history_laws.proofs.NextLemmas.{outstanding-test, outstanding-from, first-open-some, first-open-fails}
@@ -35,40 +36,6 @@ use Rattle.shared_disk.specs.declared.books.Books.{Books}
 use Rattle.shared_disk.specs.Lines.{role_of, view_of, payload_bytes, answer_of, line_entry, entry_if, is_view_open, is_insertable}
 use Rattle.shared_disk.specs.Inside.{roles_in, done_in, order_in, AreBooksOf, DoesOn, DoesOrder}
 use Rattle.shared_disk.proofs.DoneLemmas.{revokes-same, does-nothing, does-entry}
-
-and-first : (a b : Bool) → (a && b) ≡ true → a ≡ true
-and-first true b is = refl
-and-first false b is = cc
-
-and-second : (a b : Bool) → (a && b) ≡ true → b ≡ true
-and-second true b is = is
-and-second false b is = cc
-
--- a cancel ends a token exactly where one of its view is outstanding
-cancel-some : (S : Setup) (H : List Entry) (tag : ℕ) (view : View) (t : ℕ) → first_from (λ t. is_outstanding S H t && has_view view (request H t)) 0 (accepted H) ≡ Some t → 1 ≤ ended_by S H (Cancel tag view)
-unfolding ending
-cancel-some S H tag view t some =
-    let found = first_from-some (λ t. is_outstanding S H t && has_view view (request H t)) 0 (accepted H) t some in
-    let viewed : has_view view (request H t) ≡ true = and-second (is_outstanding S H t) (has_view view (request H t)) found.2 in
-    ended-some S H (Cancel tag view) t Status.Aborted (outstanding-from S H t (and-first (is_outstanding S H t) (has_view view (request H t)) found.2)) (rw viewed refl)
-
-cancel-none : (S : Setup) (H : List Entry) (tag : ℕ) (view : View) → first_from (λ t. is_outstanding S H t && has_view view (request H t)) 0 (accepted H) ≡ None → ended_by S H (Cancel tag view) ≡ 0
-unfolding ending
-cancel-none S H tag view none = ended-no S H (Cancel tag view) (λ t there.
-    let fails : (is_outstanding S H t && has_view view (request H t)) ≡ false = first_from-fails (λ t. is_outstanding S H t && has_view view (request H t)) 0 (accepted H) t none (omega arith) (omega (arith, there.token)) in
-    let viewed : has_view view (request H t) ≡ false = rw (outstanding-test S H t there) at fails in
-    rw viewed refl)
-
--- so a reset, where any is
-reset-some : (S : Setup) (H : List Entry) (tag t : ℕ) → first_open S H ≡ Some t → 1 ≤ ended_by S H (Reset tag)
-unfolding ending
-reset-some S H tag t some =
-    let found = first-open-some S H t some in
-    let there : IsOutstanding S H t = found.0 in
-    ended-some S H (Reset tag) t Status.Aborted there (rw (lt-ltb t (accepted H) there.token) refl)
-
-reset-none : (S : Setup) (H : List Entry) (tag : ℕ) → first_open S H ≡ None → ended_by S H (Reset tag) ≡ 0
-reset-none S H tag none = ended-no S H (Reset tag) (λ t there. absurd (first-open-fails S H t none there))
 
 module _ (old new : State) (b : Books) (sound : AreBooksOf old b) where
   does-ends : (e : Entry) (count : ℕ) → is_accept e ≡ false → ((t : ℕ) → is_collect_of t e ≡ false) → is_accept_of (Some e) ≡ false → EndsBy old e count new → GoesOn old new → DoesOn old b new b (Some e) None

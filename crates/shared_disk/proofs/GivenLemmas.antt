@@ -19,26 +19,14 @@ use Rattle.history.specs.Rules.{MayFollow, IsLegal}
 use Rattle.history_laws.proofs.EndLemmas.{mark-stays, ended-read}
 use Rattle.history_laws.proofs.TokenLemmas.{request-stays, has_done-stays}
 use Rattle.shared_disk.specs.Desk.{IsHandedBack}
-use Rattle.shared_disk.proofs.OpeningLemmas.{collected-stays}
-
--- an accepted token that is not outstanding stays so
-pub closed-stays : (S : Setup) (H : List Entry) (e : Entry) (t : ℕ) → t < accepted H → is_outstanding S H t ≡ false → is_outstanding S (e ∷ H) t ≡ false
-closed-stays S H e t lt closed = by (mark_of S H t) refl
-  where
-    and-false : (b : Bool) → (b && false) ≡ false
-    and-false true = refl
-    and-false false = refl
-
-    by : (o : Option Status) → mark_of S H t ≡ o → is_outstanding S (e ∷ H) t ≡ false
-    by None is = let bad : true ≡ false = rw (lt-ltb t (accepted H) lt, is) at closed in cc
-    by (Some status) is = rw (mark-stays S H e t status is) (and-false (nat_lt t (accepted (e ∷ H))))
+use Rattle.history_laws.proofs.TokenLemmas.{collected-stays}
 
 -- what an ended token gave back stays so
 pub given-stays : (S : Setup) (H : List Entry) (e : Entry) (t : ℕ) (buffer : List ℕ) (q : Request) (status : Status) → MayFollow S H e → IsHandedBack S H t buffer q status → IsHandedBack S (e ∷ H) t buffer q status
 given-stays S H e t buffer q status may given = record {
   named = request-stays H e t q given.named;
   marked = mark-stays S H e t status given.marked;
-  collected = collected-stays e H t given.collected;
+  collected = collected-stays H e t given.collected;
   written = given.written;
   read = λ reads x v from until is. given.read reads x v from until (sym (ended-read S H e t status x may given.marked) ∙ is);
   long = given.long;

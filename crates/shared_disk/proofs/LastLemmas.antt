@@ -20,17 +20,6 @@ use Rattle.shared_disk.proofs.CourseLemmas.{item-at}
 use Rattle.shared_disk.proofs.LineLemmas.{state-same}
 use Rattle.shared_disk.proofs.WaitLemmas.{there-is, awaited-no, awaited-yes}
 
-pub some-open : (S : Setup) (H : List Entry) (t : ℕ) → is_outstanding S H t ≡ true → IsSome (first_open S H)
-some-open S H t is = by (first_open S H) refl
-  where
-    by : (o : Option ℕ) → first_open S H ≡ o → IsSome o
-    by None none = absurd (first-open-fails S H t none (outstanding-from S H t is))
-    by (Some u) some = refl
-
-pub none-open : (S : Setup) (H : List Entry) → ((t : ℕ) → t < accepted H → is_outstanding S H t ≡ false) → first_open S H ≡ None
-unfolding first_open
-none-open S H closed = first_from-none (is_outstanding S H) 0 (accepted H) (λ t le lt. closed t (omega (arith, lt)))
-
 -- the books with other marks
 pub sound-marks : (S : Setup) (H : List Entry) (b : Books) (n m : ℕ) → AreBooksSound S H b → n ≤ accepted H → m ≤ accepted H → ((t : ℕ) → t < n → is_outstanding S H t ≡ false) → ((t : ℕ) → t < m → was_collected H t ≡ true)
     → AreBooksSound S H (record { opened = b.opened; clients = b.clients; courses = b.courses; slots = b.slots; ended = n; collected = m })

@@ -5,7 +5,6 @@ pub mod GivenLemmas
 pub mod SoundLemmas
 pub mod MakingLemmas
 pub mod CourseLemmas
-pub mod SuccessLemmas
 pub mod TakingLemmas
 pub mod WaitLemmas
 pub mod DoneLemmas

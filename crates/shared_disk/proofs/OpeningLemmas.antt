@@ -10,21 +10,12 @@ use Rattle.history_laws.proofs.CountLemmas.{accepted-none}
 use Rattle.history_laws.proofs.OwingLemmas.{open-kept}
 use Rattle.shared_disk.specs.Script.{Script, Deed, Enters, Does, IsOpening, entries_by, Follows, KeepsScript}
 
--- what was collected stays so
-pub collected-stays : (e : Entry) (H : List Entry) (t : ℕ) → was_collected H t ≡ true → was_collected (e ∷ H) t ≡ true
-unfolding was_collected
-collected-stays e H t was = by (is_collect_of t e) refl
-  where
-    by : (b : Bool) → is_collect_of t e ≡ b → was_collected (e ∷ H) t ≡ true
-    by true is = rw is refl
-    by false is = rw is was
-
 opening-collected : (S : Setup) (d : Script) (log : List Deed) (t : ℕ) → Follows S d log → t < accepted d.opening → was_collected (entries_by d.opening log) t ≡ true
 unfolding Follows entries_by
 opening-collected S d [] t follows lt = follows.collected t lt
-opening-collected S d (Enters e ∷ log) t follows lt = collected-stays e (entries_by d.opening log) t (opening-collected S d log t follows.0 lt)
+opening-collected S d (Enters e ∷ log) t follows lt = collected-stays (entries_by d.opening log) e t (opening-collected S d log t follows.0 lt)
 opening-collected S d (Does i None ∷ log) t follows lt = opening-collected S d log t follows.0 lt
-opening-collected S d (Does i (Some e) ∷ log) t follows lt = collected-stays e (entries_by d.opening log) t (opening-collected S d log t follows.0 lt)
+opening-collected S d (Does i (Some e) ∷ log) t follows lt = collected-stays (entries_by d.opening log) e t (opening-collected S d log t follows.0 lt)
 
 -- an open token is none of the opening's
 pub later-open : (S : Setup) (d : Script) (places : List (List ℕ)) (H : List Entry) (t : ℕ) → IsLegal S H → KeepsScript S d places H → IsOutstanding S H t → accepted d.opening ≤ t

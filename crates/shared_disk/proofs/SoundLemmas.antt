@@ -26,8 +26,9 @@ use Rattle.token_table.specs.declared.record.Done.{Done}
 use Rattle.shared_disk.specs.Desk.{IsHandedBack}
 use Rattle.shared_disk.specs.Inside.{first_entries, IsCourse, IsBufferOf, IsSlot, AreBooksSound, HasToken, ChangesCourse, AddsToken, KeepsBuffer}
 use Rattle.shared_disk.proofs.OwnLemmas.{get-push, own-more, own-same, IsOwnAt, own-at, own-before-same}
-use Rattle.shared_disk.proofs.OpeningLemmas.{collected-stays}
-use Rattle.shared_disk.proofs.GivenLemmas.{closed-stays, given-stays}
+use Rattle.history_laws.proofs.ClosedLemmas.{closed-stays}
+use Rattle.history_laws.proofs.TokenLemmas.{collected-stays}
+use Rattle.shared_disk.proofs.GivenLemmas.{given-stays}
 
 -- the oldest entries stay
 pub first-entries-more : (n : ℕ) (H : List Entry) (e : Entry) → n ≤ length H → first_entries n (e ∷ H) ≡ first_entries n H
@@ -43,7 +44,7 @@ course-entry S H e tag lines c other course = record {
   ended_few = course.ended_few;
   collected_few = course.collected_few;
   ended = λ j t lt at. let there : IsOwnAt H tag (accepted H) j t = own-at H tag (accepted H) j t (rw course.own at at) in closed-stays S H e t there.within (course.ended j t lt at);
-  collected = λ j t lt at. collected-stays e H t (course.collected j t lt at);
+  collected = λ j t lt at. collected-stays H e t (course.collected j t lt at);
 }
 
 -- a buffer after an entry that does not hand its token back
@@ -67,7 +68,7 @@ sound-entry S H e b may other none sound = record {
   ended_few = rw (accepted-same H e other) (sound.ended_few);
   collected_few = rw (accepted-same H e other) (sound.collected_few);
   ended = λ t lt. closed-stays S H e t (omega (arith, sound.ended_few, lt)) (sound.ended t lt);
-  collected = λ t lt. collected-stays e H t (sound.collected t lt);
+  collected = λ t lt. collected-stays H e t (sound.collected t lt);
 }
 
 some-same : {X : Type 0} (x y : X) → Some x ≡ Some y → x ≡ y
@@ -126,7 +127,7 @@ course-token S H tag lines view asked bytes c c' has course = record {
       closed-stays S H (Accept tag view asked bytes) t there.within (course.ended j t (omega (arith, lt, has.ended)) was);
   collected = λ j t lt at.
       let was : slice_get c.tokens.items j ≡ Some t = before j t (omega (arith, lt, has.collected, course.collected_few)) (rw has.tokens at at) in
-      collected-stays (Accept tag view asked bytes) H t (course.collected j t (omega (arith, lt, has.collected)) was);
+      collected-stays H (Accept tag view asked bytes) t (course.collected j t (omega (arith, lt, has.collected)) was);
 }
   where
     before : (j t : ℕ) → j < length c.tokens.items → slice_get (c.tokens.items ++ accepted H ∷ []) j ≡ Some t → slice_get c.tokens.items j ≡ Some t
@@ -141,7 +142,7 @@ course-other S H tag other lines view asked bytes c differs course = record {
   ended_few = course.ended_few;
   collected_few = course.collected_few;
   ended = λ j t lt at. let there : IsOwnAt H other (accepted H) j t = own-at H other (accepted H) j t (rw course.own at at) in closed-stays S H (Accept tag view asked bytes) t there.within (course.ended j t lt at);
-  collected = λ j t lt at. collected-stays (Accept tag view asked bytes) H t (course.collected j t lt at);
+  collected = λ j t lt at. collected-stays H (Accept tag view asked bytes) t (course.collected j t lt at);
 }
 
 -- the books after a request of a client was accepted
@@ -160,7 +161,7 @@ sound-token S H place tag view asked bytes b b' legal may tagged sound adds = re
   ended_few = omega (arith, adds.ended, sound.ended_few, accepted-more H (Accept tag view asked bytes) refl);
   collected_few = omega (arith, adds.collected, sound.collected_few, accepted-more H (Accept tag view asked bytes) refl);
   ended = λ t lt. closed-stays S H (Accept tag view asked bytes) t (omega (arith, lt, adds.ended, sound.ended_few)) (sound.ended t (omega (arith, lt, adds.ended)));
-  collected = λ t lt. collected-stays (Accept tag view asked bytes) H t (sound.collected t (omega (arith, lt, adds.collected)));
+  collected = λ t lt. collected-stays H (Accept tag view asked bytes) t (sound.collected t (omega (arith, lt, adds.collected)));
 }
   where
     course : (i : ℕ) (client : Client) (c : Course) → slice_get b.clients.items i ≡ Some client → slice_get b'.courses.items i ≡ Some c → (i ≡ place) ⊎ (i ≢ place) → IsCourse S (Accept tag view asked bytes ∷ H) (i + 1) (length client.orders.items) c
@@ -198,7 +199,7 @@ sound-keep S H tag t done q b b' may sound keeps given = record {
   ended_few = rw (keeps.ended, accepted-same H (Collect tag t) refl) (sound.ended_few);
   collected_few = rw (keeps.collected, accepted-same H (Collect tag t) refl) (sound.collected_few);
   ended = λ u lt. closed-stays S H (Collect tag t) u (omega (arith, lt, keeps.ended, sound.ended_few)) (sound.ended u (omega (arith, lt, keeps.ended)));
-  collected = λ u lt. collected-stays (Collect tag t) H u (sound.collected u (omega (arith, lt, keeps.collected)));
+  collected = λ u lt. collected-stays H (Collect tag t) u (sound.collected u (omega (arith, lt, keeps.collected)));
 }
   where
     slot : (u : ℕ) (s : Slot) → slice_get b'.slots.items u ≡ Some s → (u ≡ t) ⊎ (u ≢ t) → IsSlot S (Collect tag t ∷ H) u s

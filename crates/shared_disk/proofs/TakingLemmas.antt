@@ -9,6 +9,7 @@ use Rattle.history.specs.Setup.{Setup}
 use Rattle.history.specs.Tokens.{Request, accepted, was_collected, is_flush}
 use Rattle.history.specs.Commands.{moves}
 use Rattle.history.specs.Rules.{MayFollow, IsLegal}
+use Rattle.history_laws.proofs.ClosedLemmas.{legal-last, legal-before}
 use Rattle.history_laws.proofs.EndLemmas.{mark-stays, ended-read}
 use Rattle.history_laws.proofs.TokenLemmas.{request-stays, collected-collect, has_done-stays}
 use Rattle.disk_core.specs.State.{State, Kept}
@@ -22,7 +23,7 @@ use Rattle.shared_disk.specs.declared.books.Buffer.TheVariants as slot
 use Rattle.shared_disk.specs.Desk.{IsHandedBack, TakesBack, given_at}
 use Rattle.shared_disk.specs.Inside.{buffer_in, desk_state, AreBooksSound, KeepsBuffer, AreBooksOf}
 use Rattle.shared_disk.proofs.SoundLemmas.{first-entries-more, sound-keep}
-use Rattle.shared_disk.proofs.SuccessLemmas.{success-moved}
+use Rattle.history_laws.proofs.SuccessLemmas.{success-moved}
 
 pub given-at : (slots : List Slot) (t : ℕ) (s : Slot) → slice_get slots t ≡ Some s → given_at (map (λ (s : Slot). buffer_in s.buffer) slots) t ≡ buffer_in s.buffer
 given-at [] t s at = cc
@@ -40,14 +41,6 @@ given-same slots slots' t same = by (slice_get slots t) refl
     by : (o : Option Slot) → slice_get slots t ≡ o → given_at (map (λ (s : Slot). buffer_in s.buffer) slots) t ≡ given_at (map (λ (s : Slot). buffer_in s.buffer) slots') t
     by None is = given-past slots t is ∙ sym (given-past slots' t (sym same ∙ is))
     by (Some s) is = given-at slots t s is ∙ sym (given-at slots' t s (sym same ∙ is))
-
-pub legal-last : (S : Setup) (H : List Entry) (e : Entry) → IsLegal S (e ∷ H) → MayFollow S H e
-unfolding IsLegal
-legal-last S H e legal = legal.1
-
-pub legal-before : (S : Setup) (H : List Entry) (e : Entry) → IsLegal S (e ∷ H) → IsLegal S H
-unfolding IsLegal
-legal-before S H e legal = legal.0
 
 unflushed : (kind : Kind) → kind ≡ Read → is_flush kind ≡ false
 unflushed Read is = refl
