@@ -14,3 +14,4 @@ pub mod LastLemmas
 pub mod DeskLemmas
 pub mod LogKeeps
 pub mod PlateLemmas
+pub mod PlacesLemmas

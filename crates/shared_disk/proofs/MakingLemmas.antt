@@ -33,7 +33,7 @@ count_by-reverse test (x ∷ xs) =
     rw e (omega (arith, back, front, count_by-reverse test xs))
 
 -- a new desk's opening history is all that there is
-first-all : (H : List Entry) (n : ℕ) → n ≡ length H → first_entries n H ≡ H
+pub first-all : (H : List Entry) (n : ℕ) → n ≡ length H → first_entries n H ≡ H
 unfolding first_entries
 first-all H n is = let e : length H - n ≡ 0 = omega (arith, is) in rw e refl
 

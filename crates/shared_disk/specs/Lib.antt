@@ -5,3 +5,4 @@ pub mod Log
 pub mod Pens
 pub mod Plate
 pub mod Script
+pub mod Laws

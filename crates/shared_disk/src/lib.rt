@@ -8,6 +8,7 @@ mod books;
 mod clients;
 mod collecting;
 mod desk;
+mod laws;
 mod log_rule;
 mod making;
 mod pens;
@@ -20,6 +21,7 @@ mod waiting;
 pub use answers::{DeskRefused, Line};
 pub use clients::{Client, Stand};
 pub use desk::Desk;
+pub use laws::lines_stand_at_places;
 pub use plate::Plate;
 
 #[cfg(test)]
