@@ -1,194 +1,175 @@
 #!/bin/sh
-# Prints how time and memory grow: of the program over scripts of 4,000 and 40,000 lines that do not wait, and of a disk
-# over one write of 1 MiB and one of 16 MiB. A time is the best of five runs where it is under a second, and the memory
-# is the peak of one run more. Ends with 1 where ten times the lines take more than 15 times the time, or 16 times the
-# bytes more than 20 times. A write of 16 MiB does not fit into a script, so a program that is only timed stands here; it
-# is proved and built in a scratch folder.
+# Prints how the program's time and memory grow: over scripts of 4,000 and 40,000 lines that never wait or wait behind each
+# request, of one client and of 64; over one fill of 1 MiB and one of 16 MiB; over 16 fills of 16 MiB; and over 16 disks of
+# 16 media each. And how 20,000 mixed requests compare with a C program that makes the same reads and writes of whole blocks
+# and prints the same lines. A time is the best of five runs where it is under a second, and the memory is the peak of one
+# run more. Ends with 1 where ten times the lines take more than 12 times the time, 16 times the bytes more than 20 times,
+# the fills 1 GiB or more, or the mixed requests more than one and a half times what the C program takes.
 set -eu
 
 top=$(cd "$(dirname "$0")/.." && pwd)
 scratch=$(mktemp -d)
 trap 'rm -rf "$scratch"' EXIT
 
-# An empty script is refused; this run is here to build the program.
-"$top/diskio" plain < /dev/null > "$scratch/log" || true
+# Other words are refused; this run is here to build the program.
+"$top/diskio" > "$scratch/log" || true
 diskio=$(find "$top/crates/diskio/out" -type f -name diskio -perm -u+x | head -n 1)
 
-program=$scratch/crates/write_bench
-mkdir -p "$program/src"
-for crate in efi_status byte_lists event_cell disk_split index_links block_gate medium drive history token_table subtask_queue history_laws \
-    disk_core; do
-    cp -r "$top/crates/$crate" "$scratch/crates/"
-    grep "^$crate:" "$top/crates.txt" >> "$scratch/crates.txt"
-done
-echo 'write_bench: disk_core drive block_gate token_table event_cell history medium efi_status' >> "$scratch/crates.txt"
-cat > "$program/src/main.rt" <<'PROGRAM'
-#![tactic(auto)]
+cat > "$scratch/replay.c" <<'PROGRAM'
+// Makes the commands of a list on an image, and then prints a text: the image, the list, and the text are its words.
+#include <fcntl.h>
+#include <stdint.h>
+#include <stdio.h>
+#include <stdlib.h>
+#include <sys/stat.h>
+#include <unistd.h>
 
-use disk_core::{Ask, Disk, Step, Stored};
-use drive::Drive;
-use efi_status::Status;
-use history::View;
-use medium::MemMedium;
-use std::alloc::{AllocError, Global};
-use std::time::Instant;
-use std::{env, io};
-
-const WHOLE: View = View {
-    start: 0,
-    length: 32 << 20,
-    media_id: 1,
-    index: 0,
+struct command {
+    uint32_t writes, block, count;
 };
 
-// A disk of 32 MiB of zeros. The error is want of memory.
-fn new_disk(alloc: Global) -> Result<Disk<MemMedium>, AllocError> {
-    let medium = MemMedium::make(alloc, vec![in alloc; 0; 32 << 20]?, 512)?;
-    let mut media = Vec::new(alloc);
-    media.push(medium)?;
-    match Disk::make(alloc, Drive::make(media, false, false, 1), 1) {
-        Ok(disk) => Ok(disk),
-        Err(_) => Err(AllocError),
-    }
+static void *whole(const char *name, size_t *length) {
+    struct stat about;
+    int file = open(name, O_RDONLY);
+    if (file < 0 || fstat(file, &about) != 0) exit(2);
+    char *bytes = malloc(about.st_size + 1);
+    if (!bytes || read(file, bytes, about.st_size) != about.st_size) exit(2);
+    close(file);
+    *length = about.st_size;
+    return bytes;
 }
 
-// One step, and the store of a lent work. False where no request is outstanding.
-fn step(disk: &mut Disk<MemMedium>) -> bool {
-    match disk.step() {
-        Step::Did | Step::Idle => true,
-        Step::Drained => false,
-        Step::Lent(work) => {
-            let mut work = work;
-            work.merge();
-            match disk.store(work) {
-                Stored::Did | Stored::Stale => true,
-                Stored::Foreign(work) | Stored::Strange(work, _, _, _) => {
-                    work.discard();
-                    false
-                }
-            }
-        }
+int main(int count, char **words) {
+    static char buffer[64 * 512];
+    size_t list_bytes, text_bytes;
+    struct command *list = whole(words[2], &list_bytes);
+    char *text = whole(words[3], &text_bytes);
+    int image = open(words[1], O_RDWR);
+    for (size_t i = 0; i < list_bytes / sizeof *list; i++) {
+        size_t length = (size_t)list[i].count * 512;
+        off_t at = (off_t)list[i].block * 512;
+        ssize_t moved = list[i].writes ? pwrite(image, buffer, length, at) : pread(image, buffer, length, at);
+        if (moved != (ssize_t)length) return 2;
     }
-}
-
-// Writes at most 16 MiB to their end. None where that is refused.
-fn write(disk: &mut Disk<MemMedium>, at: u64, buffer: Vec<u8>) -> Option<Status> {
-    if buffer.len() > 16 << 20 {
-        return None;
-    }
-    let Ok(token) = disk.submit(1, &WHOLE, 1, Ask::Write { at, buffer }) else {
-        return None;
-    };
-    for _ in 0..1000 {
-        if !step(disk) {
-            break;
-        }
-    }
-    match disk.collect(1, token.number) {
-        Ok(done) => Some(done.status),
-        Err(_) => None,
-    }
-}
-
-// Writes 16 MiB where it is given a word, and else 1 MiB.
-fn main(rt: HostRuntime) -> io::Result<()> {
-    let alloc = rt.alloc();
-    let length = if env::args(&rt)?.count() > 1 {
-        16 << 20
-    } else {
-        1 << 20
-    };
-    let buffer = vec![in alloc; 0x5a; length]?;
-    // The disk is made behind the buffer, so that neither buffer still lies in a cache when it is written.
-    let mut disk = new_disk(alloc)?;
-    let start = Instant::now(&rt)?;
-    let Some(status) = write(&mut disk, 7, buffer) else {
-        return Ok(());
-    };
-    let time = start.elapsed(&rt)?.as_nanos();
-    println!(rt; "{time} {}", status.name())
+    if (fsync(image) != 0) return 2;
+    fwrite(text, 1, text_bytes, stdout);
+    return count == 4 ? 0 : 2;
 }
 PROGRAM
-if ! (cd "$program" && rt run) > "$scratch/log" 2>&1; then
-    cat "$scratch/log" >&2
-    exit 1
-fi
+cc -O2 -o "$scratch/replay" "$scratch/replay.c"
+
 cat > "$scratch/driver.py" <<'DRIVER'
 import os
+import random
+import struct
 import subprocess
 import sys
 import time
 
-DISKIO, WRITE_BENCH = sys.argv[1:]
-IMAGE_BYTES = 1 << 20
+DISKIO, REPLAY = sys.argv[1:]
+MIB = 1 << 20
 # The shell runs the words as its one child and then becomes this program, so that nothing else counts.
 PEAK = "import resource; print(resource.getrusage(resource.RUSAGE_CHILDREN).ru_maxrss)"
-passed = []
+failed = []
 
 
-def script_of(lines):
+def lines_script(lines, clients, waits):
+    text = ["disk a.img 512 1"]
+    for client in range(clients):
+        text.append("client")
+        for line in range(lines // clients):
+            at = (client * 7919 + line * 1021) % (MIB - 8)
+            request = f"read {at} 8" if line % 4 >= 2 else f"write {at} {line:016x}"
+            text.append("wait" if waits and line % 2 else request)
+    return "\n".join(text) + "\n", {"a.img": MIB}
+
+
+def fill_script(mebibytes, fills):
+    text = "disk a.img 512 1\nclient\n" + f"fill 0 {mebibytes * MIB} 5a\n" * fills
+    return text, {"a.img": 16 * MIB}
+
+
+def disks_script():
+    text, images = [], {}
+    for disk in range(16):
+        text.append(f"disk d{disk} 512 1 cached")
+        images[f"d{disk}"] = MIB
+        for spare in range(15):
+            text.append(f"spare d{disk}s{spare}")
+            images[f"d{disk}s{spare}"] = MIB
+        text.append("client")
+        for medium in range(1, 17):
+            text += [f"fill 300 4000 {medium:02x} @{medium}", f"read 100 5000 @{medium}", "flush", "wait", "eject", "insert"]
+    return "\n".join(text) + "\n", images
+
+
+def mixed_script():
+    choose = random.Random(7)
     text = ["disk a.img 512 1", "client"]
-    for line in range(lines):
-        at = line * 1021 % (IMAGE_BYTES - 8)
-        text.append(f"read {at} 8" if line % 2 else f"write {at} {line:016x}")
-    return "\n".join(text) + "\n"
+    for request in range(20_000):
+        length = choose.randrange(1, 4097)
+        at = choose.randrange(0, 8 * MIB - length)
+        text.append(f"read {at} {length}" if choose.random() < 0.5 else f"fill {at} {length} {choose.randrange(256):02x}")
+        if request % 16 == 15:
+            text.append("wait")
+    return "\n".join(text) + "\n", {"a.img": 8 * MIB}
 
 
-def fresh_image():
-    with open("a.img", "wb") as image:
-        image.write(bytes(IMAGE_BYTES))
+def fresh_images(images):
+    for name, length in images.items():
+        with open(name, "wb") as image:
+            image.write(bytes(length))
 
 
-def time_script():
-    fresh_image()
-    with open("script") as script, open("report", "w") as report:
-        start = time.perf_counter()
-        subprocess.run([DISKIO, "plain"], stdin=script, stdout=report, check=True)
-        return time.perf_counter() - start
-
-
-def time_write(words):
-    nanoseconds, status = subprocess.check_output(words, text=True).split()
-    if status != "EFI_SUCCESS":
-        sys.exit(f"a write ended with {status}")
-    return int(nanoseconds) / 1e9
-
-
-def best(measure):
-    times = [measure()]
-    while len(times) < 5 and times[0] < 1:
-        times.append(measure())
+def seconds(words, images):
+    times = []
+    while len(times) < 5 and (not times or times[0] < 1):
+        fresh_images(images)
+        with open("script") as script, open("report", "w") as report:
+            start = time.perf_counter()
+            subprocess.run(words, stdin=script, stdout=report, check=True)
+            times.append(time.perf_counter() - start)
     return min(times)
 
 
-def peak(words, read, written):
-    fresh_image()
-    shell = f'"$@" < {read} > {written}; exec {sys.executable} -c "{PEAK}"'
-    return int(subprocess.check_output(["sh", "-c", shell, "sh", *words]))
+def peak(words, images):
+    fresh_images(images)
+    shell = f'"$@" < script > other; exec {sys.executable} -c "{PEAK}"'
+    return int(subprocess.check_output(["sh", "-c", shell, "sh", *words])) / 1024
 
 
-def show(name, seconds, kibibytes):
-    print(f"{name}: {seconds * 1000:.1f} ms, at most {kibibytes / 1024:.1f} MiB of memory")
-    return seconds
+def show(name, case, most_mebibytes=1 << 30):
+    script, images = case
+    with open("script", "w") as out:
+        out.write(script)
+    words = [DISKIO, "plain"]
+    took, memory = seconds(words, images), peak(words, images)
+    print(f"{name}: {took * 1000:.1f} ms, at most {memory:.1f} MiB of memory", flush=True)
+    if memory >= most_mebibytes:
+        failed.append(f"{name}: memory")
+    return took
 
 
 def compare(name, small, large, most):
-    ratio = large / small
-    print(f"{name}: {ratio:.1f} times the time, of at most {most}")
-    if ratio > most:
-        passed.append(name)
+    print(f"{name}: {large / small:.1f} times the time, of at most {most}", flush=True)
+    if large / small > most:
+        failed.append(name)
 
 
-def show_script(lines):
-    with open("script", "w") as script:
-        script.write(script_of(lines))
-    seconds = best(time_script)
-    return show(f"script of {lines:,} lines", seconds, peak([DISKIO, "plain"], "script", "report"))
-
-
-def show_write(mebibytes, words):
-    seconds = best(lambda: time_write(words))
-    return show(f"write of {mebibytes} MiB", seconds, peak(words, "/dev/null", "/dev/null"))
+def replay():
+    commands = []
+    with open("report") as report:
+        for line in report:
+            words = line.split()
+            if len(words) > 3 and words[1] in ("fetch", "store", "put", "get"):
+                count = int(words[4]) if len(words) > 4 else 1
+                commands.append(struct.pack("<III", words[1] in ("store", "put"), int(words[3]), count))
+    with open("commands", "wb") as out:
+        out.write(b"".join(commands))
+    os.rename("report", "text")
+    took = seconds([REPLAY, "a.img", "commands", "text"], {"a.img": 8 * MIB})
+    print(f"the same {len(commands):,} commands and lines in C: {took * 1000:.1f} ms", flush=True)
+    return took
 
 
 try:
@@ -197,14 +178,22 @@ except PermissionError:
     pass
 with open("/proc/cpuinfo") as about:
     model = [line.split(": ", 1)[1].strip() for line in about if line.startswith("model name")]
-load = os.getloadavg()[0]
-print(f"machine: {model[0] if model else 'unknown'}, {os.cpu_count()} processors, load {load:.1f}")
-compare("10 times the lines", show_script(4_000), show_script(40_000), 15)
-compare("16 times the bytes", show_write(1, [WRITE_BENCH]), show_write(16, [WRITE_BENCH, "large"]), 20)
-for name in passed:
-    print(f"{name} took too long")
-sys.exit(1 if passed else 0)
+print(f"machine: {model[0] if model else 'unknown'}, {os.cpu_count()} processors, load {os.getloadavg()[0]:.1f}")
+for clients in (1, 64):
+    for waits in (False, True):
+        name = f"{clients} client{'s' if clients > 1 else ''} that {'wait behind each request' if waits else 'never wait'}"
+        small = show(f"{name}, 4,000 lines", lines_script(4_000, clients, waits))
+        compare(name, small, show(f"{name}, 40,000 lines", lines_script(40_000, clients, waits)), 12)
+small = show("a fill of 1 MiB", fill_script(1, 1))
+compare("16 times the bytes", small, show("a fill of 16 MiB", fill_script(16, 1)), 20)
+show("16 fills of 16 MiB", fill_script(16, 16), 1024)
+show("16 disks of 16 media each", disks_script())
+took = show("20,000 mixed requests", mixed_script())
+compare("as the C program", replay(), took, 1.5)
+for name in failed:
+    print(f"{name}: too much")
+sys.exit(1 if failed else 0)
 DRIVER
 mkdir "$scratch/run"
 cd "$scratch/run"
-python3 "$scratch/driver.py" "$diskio" "$program/out/write_bench"
+python3 "$scratch/driver.py" "$diskio" "$scratch/replay"
