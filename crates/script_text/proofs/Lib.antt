@@ -20,6 +20,7 @@ pub mod LineFits
 pub mod PlansFit
 pub mod Images
 pub mod Together
+pub mod LinesFit
 pub mod ReportBack
 pub mod Padded
 pub mod HexPieces

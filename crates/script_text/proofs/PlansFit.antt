@@ -218,7 +218,7 @@ says_fit number plans next line all is =
     let (said, read, rest) = next_ok (line_of_bytes line) (λ said. planned_if number plans said) next is in
     said_keeps number plans next said all (λ one some. line_fits line one (rw some at read)) rest
 
-at_line_ok : (n : ℕ) (r : Result (List DiskPlan) Reason) (x : List DiskPlan) → at_line n r ≡ Ok x → r ≡ Ok x
+pub at_line_ok : (n : ℕ) (r : Result (List DiskPlan) Reason) (x : List DiskPlan) → at_line n r ≡ Ok x → r ≡ Ok x
 at_line_ok n (Ok y) x is = ap Ok (ok_same y x is)
 at_line_ok n (Err e) x is = absurd (cc)
 

@@ -11,7 +11,7 @@ use Rattle.history.specs.declared.entry.Entry.TheVariants.{Accept, Refuse, Done,
 use Rattle.history.specs.Tokens.{Request, is_read, is_accept, accepted, request}
 use Rattle.script_text.specs.Report.{is_tagged_read, tagged_read, tagged_reads, is_tagged}
 
-map_both : (es fs : List Entry) → tagged_reads (es ++ fs) ≡ tagged_reads es ++ tagged_reads fs
+pub map_both : (es fs : List Entry) → tagged_reads (es ++ fs) ≡ tagged_reads es ++ tagged_reads fs
 unfolding tagged_reads
 map_both [] fs = refl
 map_both (e ∷ es) fs = onto (tagged_read e) (filter_map tagged_read es) (filter_map tagged_read fs) (filter_map tagged_read (es ++ fs)) (map_both es fs) where
@@ -52,7 +52,7 @@ pick true r o = refl
 pick false r o = refl
 
 -- as many as there are tokens
-counted : (H : List Entry) → length (tagged_reads (reverse H)) ≡ accepted H
+pub counted : (H : List Entry) → length (tagged_reads (reverse H)) ≡ accepted H
 unfolding tagged_reads accepted
 counted [] = refl
 counted (Accept tag view asked bytes ∷ before) = ap length (added tag view asked bytes before) ∙ length-append (tagged_reads (reverse before)) _ ∙ (let one : accepted (Accept tag view asked bytes ∷ before) ≡ 1 + accepted before = sum_by-cons (λ e. cond (is_accept e) 1 0) (Accept tag view asked bytes) before in let n = counted before in omega arith)

@@ -80,6 +80,16 @@ disk_bytes disk = sum_by client_bytes disk.clients
 unfoldable pub asked_bytes : List DiskPlan → ℕ
 asked_bytes plans = sum_by disk_bytes plans
 
+-- how many lines the clients of a disk have, and those of all disks
+abbrev pub client_lines : ClientPlan → ℕ
+client_lines client = length client.orders
+
+abbrev pub disk_lines : DiskPlan → ℕ
+disk_lines disk = sum_by client_lines disk.clients
+
+unfoldable pub planned_lines : List DiskPlan → ℕ
+planned_lines plans = sum_by disk_lines plans
+
 -- a group has 1, 2, 4 or 8 blocks
 abbrev pub is_group_size : ℕ → Bool
 is_group_size n = n == 1 || n == 2 || n == 4 || n == 8

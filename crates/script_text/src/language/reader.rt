@@ -62,6 +62,7 @@ impl ScriptReader {
     ghost use Rattle.script_text.specs.Fitting.{AreDisks, FitTogether};
     ghost use Rattle.script_text.specs.declared.language.refusal.ScriptRefused.TheVariants.{Memory};
     ghost use Rattle.script_text.specs.Replies.{Tells};
+    ghost use Rattle.script_text.specs.Planned.{planned_lines};
     ghost use Rattle.script_text.specs.Whole.{script_of};
     ghost use Rattle.script_text.specs.Fed.{WasFed, IsSpent};
 
@@ -100,13 +101,15 @@ impl ScriptReader {
     }
 
     /// What all pieces joined say as a script; or want of memory, in this call or in an earlier one.
-    #[tactic(auto, using(crate::proofs::PlansFit::plans_fit, crate::proofs::Together::plans_fit_together), unfolding(crate::specs::Fed::WasFed, crate::specs::Fed::IsSpent))]
+    #[tactic(auto, using(crate::proofs::PlansFit::plans_fit, crate::proofs::Together::plans_fit_together, crate::proofs::LinesFit::lines_fit), unfolding(crate::specs::Fed::WasFed, crate::specs::Fed::IsSpent))]
     pub fn finish(self) -> Result<Script, ScriptRefused>
         ensures tells { (bytes : List ℕ) → WasFed self bytes → Tells result (script_of bytes) }
         ensures fit { (bytes : List ℕ) → WasFed self bytes
             → IfOk result (λ script. AreDisks script.disks) }
         ensures together { (bytes : List ℕ) → WasFed self bytes
             → IfOk result (λ script. FitTogether script.disks) }
+        ensures lines { (bytes : List ℕ) → WasFed self bytes
+            → IfOk result (λ script. planned_lines script.disks ≤ most_script_bytes) }
         ensures again { IsSpent self → result ≡ Err Memory }
     {
         let ScriptReader { state, alloc } = self;
