@@ -19,16 +19,12 @@ use Rattle.shared_disk.specs.declared.books.Course.{Course}
 use Rattle.shared_disk.specs.declared.books.Slot.{Slot}
 use Rattle.shared_disk.specs.Lines.{Role, roles_of, with_line_entry, has_tag, own_before}
 use Rattle.shared_disk.specs.Script.{IsOpening, next_order, places_at, DoesNext}
+pub use Rattle.shared_disk.specs.Slots.{buffer_in, IsBufferOf, IsSlot}
 use Rattle.shared_disk.specs.Desk.{DeskState, IsDeskOrder, IsHandedBack, given_at, is_accept_of, IsNewToken, wants_memory}
 
 -- the oldest n entries
 unfoldable pub first_entries : ℕ → List Entry → List Entry
 first_entries n H = drop (length H - n) H
-
-abbrev pub buffer_in : Buffer → Option (List ℕ)
-buffer_in Awaited = None
-buffer_in (Kept done) = Some done.buffer
-buffer_in Gone = None
 
 -- how its token ended, where the buffer is here
 abbrev pub end_in : Buffer → Option Status
@@ -83,16 +79,6 @@ pub record IsCourse (S : Setup) (H : List Entry) (tag lines : ℕ) (c : Course) 
   pub collected_few : c.collected ≤ length c.tokens.items
   pub ended : (j t : ℕ) → j < c.ended → slice_get c.tokens.items j ≡ Some t → is_outstanding S H t ≡ false
   pub collected : (j t : ℕ) → j < c.collected → slice_get c.tokens.items j ≡ Some t → was_collected H t ≡ true
-
--- a buffer is awaited exactly where the token was not collected, and what is kept is what the token gave back
-abbrev pub IsBufferOf : Setup → List Entry → ℕ → Buffer → Type 0
-IsBufferOf S H t Awaited = was_collected H t ≡ false
-IsBufferOf S H t (Kept done) = (q : Request) × IsHandedBack S H t done.buffer q done.status
-IsBufferOf S H t Gone = was_collected H t ≡ true
-
-pub record IsSlot (S : Setup) (H : List Entry) (t : ℕ) (s : Slot) : Type 0 where
-  pub tagged : has_tag s.tag (request H t) ≡ true
-  pub buffer : IsBufferOf S H t s.buffer
 
 -- the opening history is the oldest entries; each client has its course, each token its slot; and the marks
 pub record AreBooksSound (S : Setup) (H : List Entry) (b : Books) : Type 0 where

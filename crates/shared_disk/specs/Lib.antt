@@ -6,3 +6,4 @@ pub mod Pens
 pub mod Plate
 pub mod Script
 pub mod Laws
+pub mod Slots

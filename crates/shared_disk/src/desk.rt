@@ -9,7 +9,7 @@ ghost use Rattle.shared_disk.specs.Script.{IsOpening};
 ghost use Rattle.shared_disk.specs.Desk.{AreDeskClients, desk_over};
 
 use crate::answers::{DeskRefused, Line};
-use crate::books::Books;
+use crate::books::{Books, Slot};
 use crate::clients::Client;
 use crate::collecting::collect_least;
 use crate::making::new_books;
@@ -42,6 +42,7 @@ impl<M: Medium> Model for Desk<M> {
 }
 
 impl<M: Medium> Desk<M> {
+    ghost use Rattle.shared_disk.specs.Slots.{AreSlots, buffers_of};
     ghost use Rattle.shared_disk.specs.Desk.{DeskState, HasNoLine, HasLine, given_at, Keeps, OnDisk, LineSays, LastSays, AreGivenBack};
 
     /// A desk over a disk, for at most 64 clients with at most 2^32 lines together, none of which is done. No entry of
@@ -170,6 +171,17 @@ impl<M: Medium> Desk<M> {
         ensures { result.now ≡ self.now.disk }
     {
         &self.disk
+    }
+
+    /// The disk, and what is kept of each token: the buffers of those that the desk has collected. It takes no memory.
+    pub fn into_parts(self) -> (Disk<M>, Vec<Slot>)
+        ensures disk { result.0 ≡ self.disk }
+        ensures slots { AreSlots self.disk.setup self.disk.entries result.1.items }
+        ensures buffers { buffers_of result.1.items ≡ self.given }
+    {
+        let Desk { disk, books, .. } = self;
+        let Books { slots, .. } = books;
+        (disk, slots)
     }
 
     /// The disk, whose buffers that were collected are gone.

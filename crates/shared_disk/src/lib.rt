@@ -19,6 +19,7 @@ mod taking;
 mod waiting;
 
 pub use answers::{DeskRefused, Line};
+pub use books::{Buffer, Slot};
 pub use clients::{Client, Stand};
 pub use desk::Desk;
 pub use laws::lines_stand_at_places;
