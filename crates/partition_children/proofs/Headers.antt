@@ -73,7 +73,7 @@ pub size-some : (size : ℕ) → IsBlockSize size → 0 < size
 size-some zero is = cc
 size-some (suc n) is = omega arith
 
-abbrev is_place : ℕ → ℕ → Bool
+abbrev pub is_place : ℕ → ℕ → Bool
 is_place lba blocks = not (lba == 0) && nat_lt lba blocks
 
 module _ (old : State) (k size lba blocks : ℕ) (bytes : List ℕ) (same : medium_blocks bytes size ≡ blocks) where

@@ -14,3 +14,5 @@ mod LogicalsRead
 mod Tables
 mod Targets
 mod Headers
+mod Endings
+mod Numbers

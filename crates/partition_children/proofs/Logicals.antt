@@ -1,8 +1,8 @@
 -- The logical children of the first records of a chain.
-use Rattle.std.proofs.Common.{◌≡◌, ◌⊎◌, inl, inr, ℕ, zero, suc, ◌+◌, ◌<◌, ◌≤◌, List, [], ◌∷◌, ◌++◌, length, get_or, take, take_all, map, Option, None, Some, refl, sym, ◌∙◌, ap, subst, arith}
+use Rattle.std.proofs.Common.{◌≡◌, ◌⊎◌, inl, inr, ℕ, zero, suc, ◌+◌, ◌<◌, ◌≤◌, List, [], ◌∷◌, ◌++◌, length, drop, get_or, take, take_all, map, Option, None, Some, refl, sym, ◌∙◌, ap, subst, arith}
 use Rattle.std.specs.Prelude.{filter_map, slice_get}
 use Rattle.std.specs.List.{enumerate_from}
-use Rattle.std.proofs.Math.Seq.{take-suc}
+use Rattle.std.proofs.Math.Seq.{split_at, take-suc}
 use Rattle.std.proofs.lemmas.List.{append-nil, append_assoc, length-append, map-append}
 use Rattle.std.proofs.lemmas.List.Elements.{filter_map-append}
 use Rattle.std.proofs.lemmas.Option.{get_or_from_slice_get, slice_get_within}
@@ -13,8 +13,10 @@ use Rattle.partition_tables.specs.Blocks.{boot_record_at}
 use Rattle.partition_tables.specs.MbrTable.{chain_of, child_of_record, logical_in, logicals_of}
 use Rattle.partition_tables.specs.Law.{ChainIsFollowed}
 use Rattle.disk_core.specs.State.{State}
-use Rattle.partition_children.specs.Probing.{AreReadsMade}
+use Rattle.partition_children.specs.declared.reading.ReadFault.{ReadFault}
+use Rattle.partition_children.specs.Probing.{EndsReads, AreReadsMade}
 use Rattle.partition_children.specs.Reads.{chain_reads, record_read}
+use Rattle.partition_children.proofs.Endings.{ends-first, ends-then}
 use Rattle.partition_children.proofs.Stages.{made-none, made-on}
 
 enumerate_append : {X : Type 0} (n : ℕ) (xs : List X) (x : X) → enumerate_from n (xs ++ x ∷ []) ≡ enumerate_from n xs ++ (n + length xs, x) ∷ []
@@ -98,6 +100,20 @@ module _ (bytes : List ℕ) (size signature : ℕ) (extended : ℕ × ℕ) where
                   ∙ (ap (λ (cs : List Child). before ++ cs) (sym children) ∙ ap (λ (ls : List (MbrRecord × (ℕ × ℕ))). before ++ map numbered_child (enumerate_from 5 ls)) (sym all)))),
               count ∙ (omega (arith, front.numbered, length-append (logicals owns) (l ∷ [])) ∙ ap (λ (ls : List (MbrRecord × (ℕ × ℕ))). 5 + length ls) (sym all)),
             )
+
+    -- where the next read ends, the others of the chain are left
+    pub front-ends : (own : ℕ) (fault : ReadFault) → mid.setup ≡ old.setup → next_record_block (trail_of extended.0 extended.1 fed) ≡ Some own
+        → EndsReads mid k (record_read size own ∷ []) fault new → EndsReads old k (chain_reads bytes size extended) fault new
+    front-ends own fault setup next ends =
+        let n = length fed in
+        let there : slice_get chain n ≡ Some own = sym next-at ∙ next in
+        let owns = take n chain in
+        let rest = drop (suc n) chain in
+        let cut : chain ≡ owns ++ own ∷ rest = split_at chain n own (slice_get_within chain n own there) ∙ ap (λ (x : ℕ). owns ++ x ∷ rest) (get_or_from_slice_get chain n own own there) in
+        let reads : map (record_read size) chain ≡ (map (record_read size) owns ++ record_read size own ∷ []) ++ map (record_read size) rest =
+        ap (map (record_read size)) cut ∙ (map-append (record_read size) owns (own ∷ rest) ∙ sym (append_assoc (map (record_read size) owns) (record_read size own ∷ []) (map (record_read size) rest))) in
+        let so_far : EndsReads old k (map (record_read size) owns ++ record_read size own ∷ []) fault new = ends-then old mid new k (map (record_read size) owns) (record_read size own ∷ []) setup front.made fault ends in
+        subst (λ (rs : List (ℕ × ℕ)). EndsReads old k rs fault new) (sym reads) (ends-first old new k (map (record_read size) owns ++ record_read size own ∷ []) (map (record_read size) rest) fault so_far)
 
     -- where the chain has ended, all of it was read
     pub front-whole : next_record_block (trail_of extended.0 extended.1 fed) ≡ None → AreReadsMade old k (chain_reads bytes size extended) mid × (now ≡ before ++ logicals_of bytes size signature extended)

@@ -12,10 +12,11 @@ use Rattle.partition_tables.specs.MbrTable.{child_of_record, logical_in, logical
 use Rattle.partition_tables.proofs.Following.{chain_is_followed, logicals_are_given}
 use Rattle.disk_core.specs.State.{State}
 use Rattle.partition_children.specs.declared.reading.Target.{Target}
-use Rattle.partition_children.specs.Probing.{IsQuiet, AreReadsMade, AddsEntriesAlone}
+use Rattle.partition_children.specs.declared.reading.ReadFault.{ReadFault}
+use Rattle.partition_children.specs.Probing.{EndsReads, IsQuiet, AreReadsMade, AddsEntriesAlone}
 use Rattle.partition_children.specs.Reads.{chain_reads, record_read}
 use Rattle.partition_children.proofs.Headers.{stays-then}
-use Rattle.partition_children.proofs.Logicals.{Adds, Front, front-more, front-none, front-whole, numbered_child}
+use Rattle.partition_children.proofs.Logicals.{Adds, Front, front-ends, front-more, front-none, front-whole, numbered_child}
 use Rattle.partition_children.proofs.ReadAllowed.{stays-same}
 use Rattle.partition_children.proofs.Stages.{told-on}
 
@@ -103,6 +104,13 @@ module _ (old : State) (target : Target) (signature : ℕ) (begun : Trail) (befo
           let (ebr, marked, some) = given (mbr_of (boot_record_at bytes target.size own)) (λ e. logical_at (trail_at bytes target.size extended 0) own e) span (logical-at bytes (Some span) is gives) in
           let named : r ≡ numbered_record 0 ebr = first ebr (ap mbr_of is ∙ marked) in
           inr ((numbered_record 0 ebr, span), some, added ∙ ap (λ (e : MbrRecord). now ++ child_of_record signature number e span ∷ []) named, count)))
+
+    -- the next read ends
+    pub so_far-ends : (new : State) (own : ℕ) (fault : ReadFault) → next_record_block chain ≡ Some own → (bytes : List ℕ) → contents old.setup k old.entries ≡ Some bytes
+        → (contents mid.setup k mid.entries ≡ Some bytes → EndsReads mid k (record_read target.size own ∷ []) fault new) → EndsReads old k (chain_reads bytes target.size extended) fault new
+    so_far-ends new own fault next bytes holds ends =
+        front-ends bytes target.size signature extended chain_is_followed old mid new k so_far.fed before now number (so_far.front bytes holds) own fault so_far.stays.setup (ap next_record_block (sym so_far.trail) ∙ next)
+        (ends (told-on old mid k 0 so_far.stays bytes holds))
 
     -- the chain has ended
     pub so_far-whole : next_record_block chain ≡ None → (bytes : List ℕ) → contents old.setup k old.entries ≡ Some bytes

@@ -95,6 +95,6 @@ module _ (old new : State) (view : View) (k at : ℕ) (buffer : Vec ℕ) (n : �
           let out = subst (λ (v : View). CarriesOut old 0 v k (ask.Read at buffer) DeviceError true back.buffer.items new) is_whole fails.carries_out in
           let s = served old new (whole_view old.setup k) k at buffer DeviceError true back.buffer.items quiet.drained out in
           subst Ended (sym (device status is_why)) (record {
-            ends = subst (λ (m : ℕ). FailsToRead old k (at, m) new) long (fails-so old new k (at, length buffer.items) is quiet.drained back.buffer.items s);
+            ends = subst (λ (m : ℕ). FailsToRead old.setup k old.entries (at, m) new.entries) long (fails-so old new k (at, length buffer.items) is quiet.drained back.buffer.items s);
             stays = failed-stays old new k (at, length buffer.items) is quiet.drained back.buffer.items s idle;
           })

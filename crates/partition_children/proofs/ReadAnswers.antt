@@ -94,7 +94,7 @@ module _ (old new : State) (k : ℕ) (read : ℕ × ℕ) (is : IsSetup old.setup
     breaks : Broken s.cs
     breaks = broken s.cs s.legal s.open_ s.own s.last
 
-    pub fails-so : FailsToRead old k read new
+    pub fails-so : FailsToRead old.setup k old.entries read new.entries
     fails-so = record {
       got = breaks.got.front;
       failed = breaks.failed;

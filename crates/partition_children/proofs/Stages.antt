@@ -33,7 +33,7 @@ found-read old new k at n (Ok b) reads told holds =
 found-read old new k at n (Err e) reads told holds = tt
 
 -- reads after reads
-after-both : (S : Setup) (k : ℕ) (H : List Entry) (first then : List (ℕ × ℕ)) → after_reads S k H (first ++ then) ≡ after_reads S k (after_reads S k H first) then
+pub after-both : (S : Setup) (k : ℕ) (H : List Entry) (first then : List (ℕ × ℕ)) → after_reads S k H (first ++ then) ≡ after_reads S k (after_reads S k H first) then
 unfolding after_reads
 after-both S k H [] then = refl
 after-both S k H (read ∷ first) then = after-both S k (after_read S k H read) first then

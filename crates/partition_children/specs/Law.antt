@@ -9,13 +9,17 @@ use Rattle.history.specs.Contents.{contents, byte_at}
 use Rattle.history.specs.Room.{is_command_of}
 use Rattle.partition_tables.specs.declared.table.Child.{Child}
 use Rattle.partition_tables.specs.Table.{table_of}
-use Rattle.partition_children.specs.Children.{child_view}
+use Rattle.partition_children.specs.Children.{HaveOwnNumbers, child_view}
 
 -- each child's view ends where the medium's bytes do, or before
 abbrev pub ChildViewsLie : Type 0
 ChildViewsLie =
     (bytes : List ℕ) (size media_id : ℕ)
     → All (λ child. (child_view child media_id size).start + (child_view child media_id size).length ≤ length bytes) (table_of bytes size).children
+
+-- no two children of a medium's table have the same number
+abbrev pub ChildNumbersDiffer : Type 0
+ChildNumbersDiffer = (bytes : List ℕ) (size : ℕ) → HaveOwnNumbers (table_of bytes size).children
 
 -- each of these entries that is a command is one of a request of this view; they stand on top of a history
 unfoldable pub AreOfView : View → List Entry → List Entry → Type 0

@@ -1,6 +1,6 @@
 -- What a probe leaves of a disk: its reads are made one after the other, each is collected before the next, and no byte changes (UEFI 2.10,
 -- 13.7; own profile). Histories stand newest entry first.
-use Rattle.std.specs.Prelude.{◌≡◌, ℕ, ◌+◌, ◌*◌, ◌^◌, ◌<◌, ◌≤◌, ◌==◌, if◌then◌else◌, true, IfOk, List, [], ◌∷◌, ◌++◌, length, map, reverse, Option, None, Some, Result, Ok, Err}
+use Rattle.std.specs.Prelude.{◌≡◌, ℕ, ◌+◌, ◌*◌, ◌^◌, ◌<◌, ◌≤◌, ◌==◌, if◌then◌else◌, true, IfOk, IfErr, List, [], ◌∷◌, ◌++◌, length, map, reverse, Option, None, Some, Result, Ok, Err}
 use Rattle.medium.specs.Device.{AreToldAt, IsBlockSize}
 use Rattle.disk_split.specs.declared.span.Span.{Span}
 use Rattle.disk_split.specs.Units.{units_of}
@@ -58,18 +58,18 @@ pub record Reads (old : State) (k : ℕ) (read : ℕ × ℕ) (bytes : List ℕ) 
   pub long : length bytes ≡ read.1
   pub told : AreToldAt (contents old.setup k old.entries) read.0 bytes
 
--- a read of which the first units were got, and the next one failed
-pub record FailsToRead (old : State) (k : ℕ) (read : ℕ × ℕ) (new : State) : Type 0 where
+-- a read of which the first units were got, and the next one failed: what it leaves of a history
+pub record FailsToRead (S : Setup) (k : ℕ) (H : List Entry) (read : ℕ × ℕ) (all : List Entry) : Type 0 where
   pub got : List Span
   pub failed : Span
   pub rest : List Span
-  pub units : units_of old.setup.geometry read.0 (read.0 + read.1) ≡ got ++ failed ∷ rest
-  pub entries : new.entries ≡ Collect 0 (accepted old.entries) ∷ Fault (accepted old.entries) (Get failed.block failed.count) 0
-      ∷ (reverse (map (get_of (accepted old.entries)) got) ++ Accept 0 (whole_view old.setup k) (read_asked read) [] ∷ old.entries)
+  pub units : units_of S.geometry read.0 (read.0 + read.1) ≡ got ++ failed ∷ rest
+  pub entries : all ≡ Collect 0 (accepted H) ∷ Fault (accepted H) (Get failed.block failed.count) 0
+      ∷ (reverse (map (get_of (accepted H)) got) ++ Accept 0 (whole_view S k) (read_asked read) [] ∷ H)
 
 -- a read that did not succeed: the device failed, or memory ran out and nothing has changed
 unfoldable pub EndsRead : State → ℕ → ℕ × ℕ → ReadFault → State → Type 0
-EndsRead old k read Device new = FailsToRead old k read new
+EndsRead old k read Device new = FailsToRead old.setup k old.entries read new.entries
 EndsRead old k read Memory new = new ≡ old
 
 -- how many commands fail where a call answers so
@@ -89,6 +89,26 @@ probe_failures (Err ends.Memory) = 0
 abbrev pub AreReadsMade : State → ℕ → List (ℕ × ℕ) → State → Type 0
 AreReadsMade old k reads new = new.entries ≡ after_reads old.setup k old.entries reads
 
+-- the first of these reads were made, and the next one failed
+pub record BreaksOff (old : State) (k : ℕ) (reads : List (ℕ × ℕ)) (new : State) : Type 0 where
+  pub made : List (ℕ × ℕ)
+  pub failed : ℕ × ℕ
+  pub left : List (ℕ × ℕ)
+  pub in_order : reads ≡ made ++ failed ∷ left
+  pub fails : FailsToRead old.setup k (after_reads old.setup k old.entries made) failed new.entries
+
+-- the first of these reads were made, none or all of them perhaps, and nothing else
+pub record StopsAfter (old : State) (k : ℕ) (reads : List (ℕ × ℕ)) (new : State) : Type 0 where
+  pub made : List (ℕ × ℕ)
+  pub left : List (ℕ × ℕ)
+  pub in_order : reads ≡ made ++ left
+  pub stops : AreReadsMade old k made new
+
+-- a stage with these reads that did not succeed
+unfoldable pub EndsReads : State → ℕ → List (ℕ × ℕ) → ReadFault → State → Type 0
+EndsReads old k reads Device new = BreaksOff old k reads new
+EndsReads old k reads Memory new = StopsAfter old k reads new
+
 -- the medium that is probed: it is in, and these are its view, its blocks and their size
 pub record IsTargetOf (s : State) (target : Target) : Type 0 where
   pub is_in : IsIn s target.view.media_id
@@ -106,6 +126,12 @@ Finds old target reads value result new =
     (bytes : List ℕ) → contents old.setup target.view.media_id old.entries ≡ Some bytes
     → IfOk result (λ x. AreReadsMade old target.view.media_id (reads bytes) new × value bytes x)
 
+-- where it does so, a stage with these reads that did not succeed ended in one of them, or wanted memory
+abbrev pub Ends : {X : Type 0} → State → Target → (List ℕ → List (ℕ × ℕ)) → Result X ReadFault → State → Type 0
+Ends old target reads result new =
+    (bytes : List ℕ) → contents old.setup target.view.media_id old.entries ≡ Some bytes
+    → IfErr result (λ fault. EndsReads old target.view.media_id (reads bytes) fault new)
+
 -- a good header with its array
 abbrev pub pair_of : GoodHeader → HeaderFields × List ℕ
 pair_of good = (good.header, good.array.items)
@@ -119,3 +145,13 @@ abbrev pub IsProbeOf : State → Result Table ProbeFault → State → Type 0
 IsProbeOf old result new =
     (bytes : List ℕ) → contents old.setup (media_id_of old.entries) old.entries ≡ Some bytes
     → IfOk result (λ table. AreReadsMade old (media_id_of old.entries) (probe_reads bytes (size_of old.setup)) new × (table ≡ table_of bytes (size_of old.setup)))
+
+-- a probe that answers no table: without a medium it does nothing; else it ends in one of its reads, or wants memory
+abbrev pub EndsProbe : State → ProbeFault → State → Type 0
+EndsProbe old ends.NoMedia new = new ≡ old
+EndsProbe old ends.Device new =
+    (bytes : List ℕ) → contents old.setup (media_id_of old.entries) old.entries ≡ Some bytes
+    → BreaksOff old (media_id_of old.entries) (probe_reads bytes (size_of old.setup)) new
+EndsProbe old ends.Memory new =
+    (bytes : List ℕ) → contents old.setup (media_id_of old.entries) old.entries ≡ Some bytes
+    → StopsAfter old (media_id_of old.entries) (probe_reads bytes (size_of old.setup)) new

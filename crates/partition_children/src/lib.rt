@@ -12,7 +12,7 @@ mod probing;
 mod reading;
 
 pub use children::{find, node_of, view_of};
-pub use law::{child_requests_stay_inside, child_views_lie};
+pub use law::{child_numbers_differ, child_requests_stay_inside, child_views_lie};
 pub use lines::{ShowFault, show};
 pub use probing::{ProbeFault, probe};
 

@@ -1,7 +1,12 @@
 use Rattle.std.proofs.Common.{ap, arith, refl, sym, ◌∙◌, ◌+◌}
 use Rattle.partition_children.proofs.Headers.{stays-failed, stays-then, stays-wanting}
-use Rattle.partition_children.proofs.LogicalsRead.{count-more, fed-count, more-none, more-one, so_far-none, so_far-whole}
+use Rattle.partition_children.proofs.LogicalsRead.{count-more, fed-count, more-none, more-one, so_far-ends, so_far-none, so_far-whole}
 use Rattle.partition_children.proofs.Stages.{target-stays}
+use Rattle.std.proofs.Common.{[], ◌∷◌}
+use Rattle.partition_children.specs.declared.reading.ReadFault.TheVariants.{Memory}
+use Rattle.partition_children.specs.Probing.{EndsReads}
+use Rattle.partition_children.specs.Reads.{chain_reads, record_read}
+use Rattle.partition_children.proofs.Endings.{handed-on, wants-behind}
 use Rattle.partition_children.proofs.mbr.add_logicals.Goals as goal
 
 pub loop-own-init : goal.loop-own-init
@@ -44,3 +49,20 @@ returns-clause-stays g c = c.loop-own.invariant.stays
 pub returns-clause-found : goal.returns-clause-found
 returns-clause-found g c =
     so_far-whole c.args.disk.now c.args.target.now c.args.signature c.args.chain c.args.children.now.items c.loop-own.disk c.loop-own.chain c.loop-own.children.items c.loop-own.number c.loop-own.invariant (sym c.next_block.ensures.exact ∙ c.in_default.is)
+
+pub returns-in_err-block-clause-ends : goal.returns-in_err-block-clause-ends
+returns-in_err-block-clause-ends g c bytes holds =
+    let target = c.args.target.now in
+    let fault = c.in_err-block.field-0.0 in
+    handed-on (λ f. EndsReads c.args.disk.now target.view.media_id (chain_reads bytes target.size (c.args.chain.start, c.args.chain.size)) f c.read_record.new.disk) c.from_residual.result fault
+    (so_far-ends c.args.disk.now target c.args.signature c.args.chain c.args.children.now.items c.loop-own.disk c.loop-own.chain c.loop-own.children.items c.loop-own.number c.loop-own.invariant
+    c.read_record.new.disk c.in-Some.own fault (sym c.in-Some.ensures.exact) bytes holds (c.in_err-block.ensures.ends bytes)) c.from_residual.ensures.1
+
+pub returns-in_err-add-clause-ends : goal.returns-in_err-add-clause-ends
+returns-in_err-add-clause-ends g c bytes holds =
+    let target = c.args.target.now in
+    let k = target.view.media_id in
+    handed-on (λ f. EndsReads c.args.disk.now k (chain_reads bytes target.size (c.args.chain.start, c.args.chain.size)) f c.read_record.new.disk) c.from_residual-in_err-add.result Memory
+    (so_far-ends c.args.disk.now target c.args.signature c.args.chain c.args.children.now.items c.loop-own.disk c.loop-own.chain c.loop-own.children.items c.loop-own.number c.loop-own.invariant
+    c.read_record.new.disk c.in-Some.own Memory (sym c.in-Some.ensures.exact) bytes holds
+    (λ now. wants-behind c.loop-own.disk c.read_record.new.disk k (record_read target.size c.in-Some.own ∷ []) (c.in_ok-block.ensures.found bytes now).0)) c.from_residual-in_err-add.ensures.1
