@@ -1,5 +1,5 @@
 -- What is outstanding, and what a cancel and a reset end.
-use Rattle.std.proofs.Common.{◌≡◌, ℕ, ◌<◌, ◌≤◌, Bool, true, false, ◌&&◌, nat_lt, List, [], ◌∷◌, ◌++◌, Option, None, Some, IsSome, refl, sym, ◌∙◌, arith}
+use Rattle.std.proofs.Common.{◌≡◌, ℕ, ◌<◌, ◌≤◌, Bool, true, false, ◌&&◌, nat_lt, List, [], ◌∷◌, ◌++◌, slice_get, Option, None, Some, IsSome, refl, sym, ◌∙◌, ap, arith}
 use Rattle.std.proofs.lemmas.Bool.{lt-ltb}
 use Rattle.efi_status.specs.declared.Status.{Status}
 use Rattle.history.specs.declared.entry.View.{View}
@@ -10,10 +10,14 @@ use Rattle.history.specs.Setup.{Setup}
 use Rattle.history.specs.Tokens.{accepted, request}
 use Rattle.history.specs.Marks.{first_from, has_view, mark_of, is_outstanding, IsOutstanding, ending}
 use Rattle.history.specs.Rules.{MayFollow, IsLegal}
+use Rattle.history.specs.Tasks.{Todo, pending}
 use Rattle.history.specs.Next.{first_open, Outcome, Made, Failed, entry_of}
 use Rattle.history_laws.specs.Left.{ended_by}
 use Rattle.history_laws.proofs.EndLemmas.{mark-stays, command-open}
 use Rattle.history_laws.proofs.EndedLemmas.{ended-some, ended-no}
+use Rattle.history_laws.specs.Serving.{AreWhileOpen}
+use Rattle.history_laws.proofs.PendingLemmas.{pending-is}
+use Rattle.history_laws.proofs.PlainLemmas.{turn-request}
 use Rattle.history_laws.proofs.NextLemmas.{outstanding-test, outstanding-from, first-open-some, first-open-fails}
 use Rattle.history_laws.proofs.ScanLemmas.{first_from-some, first_from-none, first_from-fails}
 
@@ -97,3 +101,19 @@ reset-some S H tag t some =
 
 pub reset-none : (S : Setup) (H : List Entry) (tag : ℕ) → first_open S H ≡ None → ended_by S H (Reset tag) ≡ 0
 reset-none S H tag none = ended-no S H (Reset tag) (λ t there. absurd (first-open-fails S H t none there))
+
+-- where no token is outstanding no unit is unfinished
+pub drained-pending : (S : Setup) (H : List Entry) → first_open S H ≡ None → pending S H ≡ []
+drained-pending S H drained = by (pending S H) refl
+  where
+    by : (ts : List Todo) → pending S H ≡ ts → pending S H ≡ []
+    by [] same = same
+    by (d ∷ ts) same =
+        let (r, left) = pending-is S H 0 d (ap (λ xs. slice_get xs 0) same) in
+        absurd (first-open-fails S H d.token drained left.outstanding)
+
+-- commands change no request
+pub while-request : (S : Setup) (t : ℕ) (H cs : List Entry) (u : ℕ) → AreWhileOpen S H t cs → request (cs ++ H) u ≡ request H u
+unfolding AreWhileOpen
+while-request S t H [] u all = refl
+while-request S t H (e ∷ cs) u (next, all) = rw next.entry (turn-request (cs ++ H) next.turn next.outcome u ∙ while-request S t H cs u all)

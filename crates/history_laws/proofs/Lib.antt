@@ -57,3 +57,4 @@ pub mod FilterLemmas
 pub mod TidyLemmas
 pub mod SuccessLemmas
 pub mod ClosedLemmas
+pub mod SameMediaLemmas

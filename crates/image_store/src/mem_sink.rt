@@ -43,7 +43,10 @@ impl Sink for MemSink {
     ghost use Rattle.image_store.specs.Calls.{is_next_failing, IsCalled, sink_calls};
 
     ghost outlet = { λ sink. record {
-        wrote = Some sink.bytes.items; faults = sink.faults; spent = sink.spent; } };
+      wrote = Some sink.bytes.items;
+      faults = sink.faults;
+      spent = sink.spent;
+    } };
 
     /// Fails exactly where the call is in the list. After a fault nothing was added.
     #[tactic(auto, using(crate::proofs::Fronts::none_put), unfolding(crate::specs::Edge::Appends))]

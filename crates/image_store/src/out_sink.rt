@@ -22,7 +22,7 @@ impl<W: Write> OutSink<W> {
 }
 
 impl<W: Write> Sink for OutSink<W> {
-    ghost outlet = { λ sink. record { wrote = None; faults = sink.faults; spent = 0; } };
+    ghost outlet = { λ sink. record { wrote = None; faults = sink.faults; spent = 0 } };
 
     ghost use Rattle.image_store.specs.Streams.{writer_of};
 

@@ -36,21 +36,6 @@ use Rattle.history_laws.specs.Serving.{AreWhileOpen, AreOwnInOrder, Continues, e
 use Rattle.partition_children.specs.Entries.{get_of, read_asked}
 
 -- nothing is left to do where no token is outstanding
-pub pending-none : (S : Setup) (H : List Entry) → first_open S H ≡ None → pending S H ≡ []
-pending-none S H drained = by (pending S H) refl
-  where
-    by : (ts : List Todo) → pending S H ≡ ts → pending S H ≡ []
-    by [] same = same
-    by (d ∷ ts) same =
-        let (r, left) = pending-is S H 0 d (ap (λ xs. slice_get xs 0) same) in
-        absurd (first-open-fails S H d.token drained left.outstanding)
-
--- commands change no request
-pub while-request : (S : Setup) (t : ℕ) (H cs : List Entry) (u : ℕ) → AreWhileOpen S H t cs → request (cs ++ H) u ≡ request H u
-unfolding AreWhileOpen
-while-request S t H [] u all = refl
-while-request S t H (e ∷ cs) u (next, all) = rw next.entry (turn-request (cs ++ H) next.turn next.outcome u ∙ while-request S t H cs u all)
-
 -- each of these is a done get of the token
 abbrev pub AreGets : ℕ → List Entry → Type 0
 AreGets t [] = Unit {0}

@@ -21,12 +21,13 @@ use Rattle.disk_core.specs.State.{State}
 use Rattle.disk_core.specs.Turns.{IsIdle}
 use Rattle.history_laws.specs.Serving.{AreWhileOpen, AreOwnInOrder, Continues, ends_in_fault}
 use Rattle.disk_io2.specs.Views.{whole_view}
+use Rattle.history_laws.proofs.ClosedLemmas.{legal-tail}
 use Rattle.partition_children.specs.Entries.{after_read, get_of, gets_of, read_asked}
 use Rattle.partition_children.specs.Probing.{FailsToRead, Reads, AddsEntriesAlone}
 use Rattle.partition_children.proofs.Gets.{AreGets, Got, got-all, next-unit, open-sound}
 use Rattle.partition_children.proofs.Served.{Served}
 use Rattle.partition_children.proofs.Staying.{Commands, LastFails, read-stays}
-use Rattle.partition_children.proofs.ReadBack.{first-left, legal-tail, named, told-back, units-are, whole}
+use Rattle.partition_children.proofs.ReadBack.{first-left, named, told-back, units-are, whole}
 
 module _ (old new : State) (k : ℕ) (read : ℕ × ℕ) (is : IsSetup old.setup) (drained : first_open old.setup old.entries ≡ None) where
   abbrev H : List Entry

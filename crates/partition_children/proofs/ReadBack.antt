@@ -35,16 +35,13 @@ use Rattle.disk_core.specs.Facts.{HasBytesRead}
 use Rattle.disk_core.specs.State.{State}
 use Rattle.history_laws.specs.Serving.{AreWhileOpen, AreOwnInOrder, Continues, ends_in_fault}
 use Rattle.disk_io2.specs.Views.{whole_view}
+use Rattle.history_laws.proofs.ClosedLemmas.{legal-tail, drained-pending, while-request}
+use Rattle.history_laws.proofs.SameMediaLemmas.{SameMedia, same-on}
 use Rattle.partition_children.specs.Entries.{after_read, get_of, gets_of, read_asked}
 use Rattle.partition_children.specs.Probing.{FailsToRead, Reads}
-use Rattle.partition_children.proofs.Gets.{AreGets, Got, got-all, got-whole, next-unit, open-sound, pending-none, while-request}
+use Rattle.partition_children.proofs.Gets.{AreGets, Got, got-all, got-whole, next-unit, open-sound}
 use Rattle.partition_children.proofs.Served.{Served}
-use Rattle.partition_children.proofs.Staying.{Commands, LastFails, SameMedia, same-accept, same-gets, same-on}
-
-pub legal-tail : (S : Setup) (cs H : List Entry) → IsLegal S (cs ++ H) → IsLegal S H
-unfolding IsLegal
-legal-tail S [] H legal = legal
-legal-tail S (e ∷ cs) H (legal, may) = legal-tail S cs H legal
+use Rattle.partition_children.proofs.Staying.{Commands, LastFails, same-accept, same-gets}
 
 module _ (S : Setup) (E : List Entry) (k : ℕ) (read : ℕ × ℕ) (is : IsSetup S) (drained : first_open S E ≡ None) where
   abbrev accept : Entry
@@ -79,7 +76,7 @@ module _ (S : Setup) (E : List Entry) (k : ℕ) (read : ℕ × ℕ) (is : IsSetu
   pub first-left : IsLegal S H → pending S H ≡ map (λ u. record { token = t; kind = Read; task = Moves u }) all_units
   first-left legal =
       pending-accept S E 0 (whole_view S k) (read_asked read) [] is legal
-      ∙ (ap (λ ds. ds ++ map (todo_at t r) (tasks_of S r)) (pending-none S E drained) ∙ map-moves all_units)
+      ∙ (ap (λ ds. ds ++ map (todo_at t r) (tasks_of S r)) (drained-pending S E drained) ∙ map-moves all_units)
 
   -- the commands of a read that succeeded are its gets
   module _ (cs : List Entry) (legal : IsLegal S (cs ++ H)) (open_ : AreWhileOpen S H t cs) (own : AreOwnInOrder S t r cs) where

@@ -19,8 +19,8 @@ use Rattle.disk_core.specs.State.{State, Kept}
 use Rattle.disk_core.specs.Calls.{Accepts, Collects}
 use Rattle.history_laws.specs.Serving.{AreWhileOpen, AreOwnInOrder, ends_in_fault}
 use Rattle.disk_io2.specs.Blocking.{CarriesOut, Finishes, IsServedAlone, Serves}
+use Rattle.history_laws.proofs.ClosedLemmas.{legal-before, while-request}
 use Rattle.partition_children.specs.Entries.{read_asked}
-use Rattle.partition_children.proofs.Gets.{while-request}
 
 -- the entries of a read that was served until it ended, and was collected
 pub record Served (S : Setup) (E : List Entry) (view : View) (read : ℕ × ℕ) (status : Status) (failed : Bool) (bytes : List ℕ) (new : State) : Type 0 where
@@ -39,10 +39,6 @@ pub record Served (S : Setup) (E : List Entry) (view : View) (read : ℕ × ℕ)
 -- a fact of a history as that of an equal one
 cast : (P : Setup → List Entry → ℕ → Type 0) (S S' : Setup) (H H' : List Entry) (t t' : ℕ) → S ≡ S' → H ≡ H' → t ≡ t' → P S H t → P S' H' t'
 cast P S S' H H' t t' s h n p = subst (λ (x : Setup). P x H' t') s (subst (λ (x : List Entry). P S x t') h (subst (λ (x : ℕ). P S H x) n p))
-
-legal-before : (S : Setup) (e : Entry) (H : List Entry) → IsLegal S (e ∷ H) → IsLegal S H
-unfolding IsLegal
-legal-before S e H (legal, may) = legal
 
 some-request : (a b : Request) → Some a ≡ Some b → a ≡ b
 some-request a b e = cc
@@ -102,7 +98,7 @@ module _ (old new : State) (view : View) (k at : ℕ) (buffer : Vec ℕ) (status
     cs = cs;
     setup = new-setup;
     entries = new-entries;
-    legal = legal-before old.setup (Collect 0 (accepted old.entries)) (cs ++ H) (cast (λ S E t. IsLegal S E) _ _ _ _ 0 0 new-setup new-entries refl out.finishes.collects.legal);
+    legal = legal-before old.setup (cs ++ H) (Collect 0 (accepted old.entries)) (cast (λ S E t. IsLegal S E) _ _ _ _ 0 0 new-setup new-entries refl out.finishes.collects.legal);
     open_ = open-now;
     own = subst (λ (x : Request). AreOwnInOrder old.setup (accepted old.entries) x cs) asked-is (subst (λ (t : ℕ). AreOwnInOrder old.setup t out.finishes.asked cs) out.accepts.numbered alone.own);
     last = out.finishes.last;

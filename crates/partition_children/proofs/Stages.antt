@@ -12,6 +12,7 @@ use Rattle.history.specs.Eras.{is_present, media_id_of}
 use Rattle.history.specs.Tokens.{accepted, is_collect_of, was_collected}
 use Rattle.history.specs.Contents.{contents, kept_contents}
 use Rattle.disk_core.specs.State.{State}
+use Rattle.history_laws.proofs.TokenLemmas.{collected-stays}
 use Rattle.partition_children.specs.declared.reading.ReadFault.{ReadFault}
 use Rattle.partition_children.specs.declared.reading.Target.{Target}
 use Rattle.partition_children.specs.Entries.{after_read, after_reads}
@@ -45,11 +46,6 @@ made-on a b c k first then same one two =
 pub made-none : (s : State) (k : ℕ) → AreReadsMade s k [] s
 unfolding after_reads
 made-none s k = refl
-
--- what was collected stays so
-collected-stays : (H : List Entry) (e : Entry) (t : ℕ) → was_collected H t ≡ true → was_collected (e ∷ H) t ≡ true
-unfolding was_collected
-collected-stays H e t was = or_right (is_collect_of t e) (was_collected H t) was
 
 pub told-still : (old new : State) (k f : ℕ) → AddsEntriesAlone old f new → (bytes : List ℕ) → contents new.setup k new.entries ≡ Some bytes → contents old.setup k old.entries ≡ Some bytes
 told-still old new k f stays bytes holds = sym (stays.bytes k) ∙ subst (λ (S : Setup). contents S k new.entries ≡ Some bytes) stays.setup holds

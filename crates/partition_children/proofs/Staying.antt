@@ -18,36 +18,11 @@ use Rattle.history_laws.proofs.CountLemmas.{accepted-more, accepted-same, faults
 use Rattle.history_laws.proofs.MediaLemmas.{media-id-same, present-same}
 use Rattle.disk_core.specs.State.{State}
 use Rattle.disk_core.specs.Turns.{IsIdle}
+use Rattle.history_laws.proofs.SameMediaLemmas.{SameMedia, same-media, same-on, same-entry, same-collect, same-fault, collected-now}
 use Rattle.partition_children.specs.Entries.{get_of, read_asked}
 use Rattle.partition_children.specs.Probing.{IsQuiet, AddsEntriesAlone}
 use Rattle.partition_children.proofs.Gets.{AreGets}
 use Rattle.partition_children.proofs.Served.{Served}
-
--- the medium that is in, and the bytes of all media, are as they were
-pub record SameMedia (S : Setup) (G G' : List Entry) : Type 0 where
-  pub media_id : media_id_of G' ≡ media_id_of G
-  pub present : is_present G' ≡ is_present G
-  pub bytes : (k : ℕ) → contents S k G' ≡ contents S k G
-  pub kept : (k : ℕ) → kept_contents S k G' ≡ kept_contents S k G
-
-pub same-media : (S : Setup) (G : List Entry) → SameMedia S G G
-same-media S G = record { media_id = refl; present = refl; bytes = λ k. refl; kept = λ k. refl }
-
-pub same-on : (S : Setup) (A B C : List Entry) → SameMedia S A B → SameMedia S B C → SameMedia S A C
-same-on S A B C one two = record {
-  media_id = two.media_id ∙ one.media_id;
-  present = two.present ∙ one.present;
-  bytes = λ k. two.bytes k ∙ one.bytes k;
-  kept = λ k. two.kept k ∙ one.kept k;
-}
-
-same-entry : (S : Setup) (G : List Entry) (e : Entry) → is_insert e ≡ false → is_eject e ≡ false → is_flush_entry e ≡ false → piece_of S G e ≡ None → SameMedia S G (e ∷ G)
-same-entry S G e in_ out flush piece = record {
-  media_id = media-id-same G e in_;
-  present = present-same G e out in_;
-  bytes = λ k. contents-same S k G e piece;
-  kept = λ k. kept-same S k G e flush piece;
-}
 
 same-get : (S : Setup) (G : List Entry) (t : ℕ) (u : Span) → SameMedia S G (get_of t u ∷ G)
 same-get S G t u = same-entry S G (get_of t u) refl refl refl (piece-unchanged S G t (Get u.block u.count) refl)
@@ -60,12 +35,6 @@ same-gets S G t (e ∷ cs) ((u, same), all) =
 
 pub same-accept : (S : Setup) (G : List Entry) (view : View) (read : ℕ × ℕ) → SameMedia S G (Accept 0 view (read_asked read) [] ∷ G)
 same-accept S G view read = let e : Entry = Accept 0 view (read_asked read) [] in same-entry S G e refl refl refl (piece-none S G e refl)
-
-same-collect : (S : Setup) (G : List Entry) (t : ℕ) → SameMedia S G (Collect 0 t ∷ G)
-same-collect S G t = same-entry S G (Collect 0 t) refl refl refl (piece-none S G (Collect 0 t) refl)
-
-same-fault : (S : Setup) (G : List Entry) (t : ℕ) (u : Span) → SameMedia S G (Fault t (Get u.block u.count) 0 ∷ G)
-same-fault S G t u = same-entry S G (Fault t (Get u.block u.count) 0) refl refl refl (piece-unchanged-fault S G t (Get u.block u.count) 0 refl)
 
 -- and no count but that of the commands
 gets-accepted : (G : List Entry) (t : ℕ) (cs : List Entry) → AreGets t cs → accepted (cs ++ G) ≡ accepted G
@@ -103,10 +72,6 @@ commands-faults G t f cs (inr (one, last)) =
     let more : faults (cs ++ G) ≡ faults (last.earlier ++ G) + 1 =
     ap (λ (xs : List Entry). faults (xs ++ G)) last.is ∙ faults-more (last.earlier ++ G) (Fault t (Get last.unit.block last.unit.count) 0) refl in
     omega (arith, more, gets-faults G t last.earlier last.gets)
-
-collected-now : (t : ℕ) (G : List Entry) → was_collected (Collect 0 t ∷ G) t ≡ true
-unfolding was_collected
-collected-now t G = rw (eq-eqb t t refl) refl
 
 -- what a served read leaves of the disk
 pub read-stays : (old new : State) (view : View) (read : ℕ × ℕ) (status : Status) (failed : Bool) (bytes : List ℕ) (f : ℕ) (s : Served old.setup old.entries view read status failed bytes new)

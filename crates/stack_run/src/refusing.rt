@@ -60,7 +60,12 @@ fn put_refusal<O: Sink>(refusal: Refusal, name: &str, out: &mut O) -> Result<(),
         Refusal::Script { line, reason } => {
             let mut digits = Buffer::new();
             let number = digits.format(line);
-            put_three(b"script ", number.as_bytes(), reason_end(reason).as_bytes(), out)
+            put_three(
+                b"script ",
+                number.as_bytes(),
+                reason_end(reason).as_bytes(),
+                out,
+            )
         }
         Refusal::Image => put_three(b"image ", name.as_bytes(), b"\n", out),
         Refusal::Source => out.put(b"source\n"),
