@@ -3,11 +3,12 @@ use Rattle.std.proofs.Common.{◌≡◌, ℕ, ◌<◌, ◌≤◌, inl, inr, Bool
 use Rattle.std.proofs.lemmas.Bool.{cases_lt}
 use Rattle.history.specs.declared.entry.Entry.{Entry}
 use Rattle.history.specs.Setup.{Setup}
-use Rattle.history.specs.Tokens.{accepted, is_collect_of, was_collected}
+use Rattle.history.specs.Tokens.{accepted, was_collected}
 use Rattle.history.specs.Marks.{IsOutstanding}
 use Rattle.history.specs.Rules.{IsLegal}
 use Rattle.history_laws.proofs.CountLemmas.{accepted-none}
 use Rattle.history_laws.proofs.OwingLemmas.{open-kept}
+use Rattle.history_laws.proofs.TokenLemmas.{collected-stays}
 use Rattle.shared_disk.specs.Script.{Script, Deed, Enters, Does, IsOpening, entries_by, Follows, KeepsScript}
 
 opening-collected : (S : Setup) (d : Script) (log : List Deed) (t : ℕ) → Follows S d log → t < accepted d.opening → was_collected (entries_by d.opening log) t ≡ true

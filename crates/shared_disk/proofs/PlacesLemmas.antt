@@ -2,6 +2,7 @@
 use Rattle.std.proofs.Common.{◌≡◌, ℕ, zero, suc, ◌+◌, ◌<◌, ◌≤◌, inl, inr, ◌⊎◌, Bool, true, false, List, [], ◌∷◌, ◌++◌, length, slice_get, Option, None, Some, IsSome, refl, sym, ◌∙◌, ap, subst, arith, nat_eq}
 use Rattle.std.proofs.lemmas.Bool.{cases_lt, eqb-true, eq-eqb}
 use Rattle.std.proofs.lemmas.Option.{slice_get_within}
+use Rattle.efi_status.specs.declared.Status.{Status}
 use Rattle.history.specs.declared.entry.Entry.{Entry}
 use Rattle.history.specs.declared.entry.Entry.TheVariants.{Accept, Refuse, Done, Fault, Collect, Cancel, Reset, Eject, Insert, Protect}
 use Rattle.history.specs.declared.entry.View.{View}
@@ -10,7 +11,7 @@ use Rattle.history.specs.declared.order.Order.{Order}
 use Rattle.history.specs.declared.order.Order.TheVariants as order
 use Rattle.history.specs.Setup.{Setup}
 use Rattle.shared_disk.specs.declared.clients.Stand.{Stand}
-use Rattle.shared_disk.specs.Lines.{line_entry, entry_if, with_line_entry}
+use Rattle.shared_disk.specs.Lines.{view_of, payload_bytes, answer_of, line_entry, entry_if, with_line_entry}
 use Rattle.shared_disk.specs.Script.{tag_of, Script, Deed, Enters, Does, entries_by, places_by, with_place, line_count_by, MayComeNext, DoesNext, Follows, places_at, KeepsScript}
 use Rattle.shared_disk.specs.Inside.{first_entries}
 use Rattle.shared_disk.specs.Laws.{HasEntryAt, StandsAt, is_handed_back}
@@ -76,18 +77,15 @@ stands-by : (S : Setup) (d : Script) (log : List Deed) → Follows S d log → (
 unfolding Follows entries_by places_by
 stands-by S d [] follows i n p at = cc
 stands-by S d (Enters e ∷ log) follows i n p at = (stands-later S d (entries_by d.opening log) e i n p (stands-by S d log follows.0 i n p at)).0
-stands-by S d (Does j e ∷ log) follows i n p at = by (nat_eq j i) refl at
+stands-by S d (Does j e ∷ log) follows i n p at = by (λ there. stands-by S d log follows.0 i n p there) (nat_eq j i) refl at
   where
     H : List Entry
     H = entries_by d.opening log
 
-    earlier : slice_get (places_by d.opening log i) n ≡ Some p → StandsAt S d (with_line_entry e H) i n p
-    earlier there = (stands-on S d H e i n p (stands-by S d log follows.0 i n p there)).0
-
-    by : (b : Bool) → nat_eq j i ≡ b → slice_get (with_place b (length H) (places_by d.opening log i)) n ≡ Some p → StandsAt S d (with_line_entry e H) i n p
-    by false other there = earlier there
-    by true is there = elim (snoc-at (places_by d.opening log i) (length H) p n there) [
-      | inl before ↦ earlier before
+    by : (slice_get (places_by d.opening log i) n ≡ Some p → StandsAt S d H i n p) → (b : Bool) → nat_eq j i ≡ b → slice_get (with_place b (length H) (places_by d.opening log i)) n ≡ Some p → StandsAt S d (with_line_entry e H) i n p
+    by earlier false other there = (stands-on S d H e i n p (earlier there)).0
+    by earlier true is there = elim (snoc-at (places_by d.opening log i) (length H) p n there) [
+      | inl before ↦ (stands-on S d H e i n p (earlier before)).0
       | inr (last, place) ↦
           let client : j ≡ i = same-client j i is in
           let does : DoesNext S d.roles H i (length (places_by d.opening log i)) e = subst (λ k. DoesNext S d.roles H k (length (places_by d.opening log k)) e) client follows.1 in
@@ -117,7 +115,7 @@ ascend-by : (S : Setup) (d : Script) (log : List Deed) → Follows S d log → (
 unfolding Follows entries_by places_by
 ascend-by S d [] follows i n m p q lt first second = cc
 ascend-by S d (Enters e ∷ log) follows i n m p q lt first second = before-later S d (entries_by d.opening log) e i n p q (ascend-by S d log follows.0 i n m p q lt first second)
-ascend-by S d (Does j e ∷ log) follows i n m p q lt first second = by (nat_eq j i) refl first second
+ascend-by S d (Does j e ∷ log) follows i n m p q lt first second = by (λ one two. ascend-by S d log follows.0 i n m p q lt one two) (nat_eq j i) refl first second
   where
     H : List Entry
     H = entries_by d.opening log
@@ -125,15 +123,12 @@ ascend-by S d (Does j e ∷ log) follows i n m p q lt first second = by (nat_eq 
     xs : List ℕ
     xs = places_by d.opening log i
 
-    earlier : slice_get xs n ≡ Some p → slice_get xs m ≡ Some q → Before S d (with_line_entry e H) i n p q
-    earlier one two = before-on S d H e i n p q (ascend-by S d log follows.0 i n m p q lt one two)
-
-    by : (b : Bool) → nat_eq j i ≡ b → slice_get (with_place b (length H) xs) n ≡ Some p → slice_get (with_place b (length H) xs) m ≡ Some q → Before S d (with_line_entry e H) i n p q
-    by false other one two = earlier one two
-    by true is one two = both (snoc-at xs (length H) p n one) (snoc-at xs (length H) q m two)
+    by : (slice_get xs n ≡ Some p → slice_get xs m ≡ Some q → Before S d H i n p q) → (b : Bool) → nat_eq j i ≡ b → slice_get (with_place b (length H) xs) n ≡ Some p → slice_get (with_place b (length H) xs) m ≡ Some q → Before S d (with_line_entry e H) i n p q
+    by earlier false other one two = before-on S d H e i n p q (earlier one two)
+    by earlier true is one two = both (snoc-at xs (length H) p n one) (snoc-at xs (length H) q m two)
       where
         both : (slice_get xs n ≡ Some p) ⊎ ((n ≡ length xs) × (length H ≡ p)) → (slice_get xs m ≡ Some q) ⊎ ((m ≡ length xs) × (length H ≡ q)) → Before S d (with_line_entry e H) i n p q
-        both (inl there) (inl then_) = earlier there then_
+        both (inl there) (inl then_) = before-on S d H e i n p q (earlier there then_)
         both (inl there) (inr (last, place)) =
             let at : StandsAt S d H i n p = stands-by S d log follows.0 i n p there in
             before-on S d H e i n p q (at, omega (arith, at.within, place), λ some. omega (arith, entry-below H p at.entry at.there some, place))
@@ -150,9 +145,13 @@ if-tag : (b : Bool) (x e : Entry) (tag : ℕ) → tag_of x ≡ tag → entry_if 
 if-tag true x e tag own is = let same : x ≡ e = cc in rw (← same) own
 if-tag false x e tag own is = cc
 
+answer-tag : (tag : ℕ) (view : View) (asked : Asked) (bytes : List ℕ) (k : ℕ) (refusal : Option Status) (e : Entry) → Some (answer_of tag view asked bytes k refusal) ≡ Some e → tag_of e ≡ tag
+answer-tag tag view asked bytes k None e is = let same : answer_of tag view asked bytes k None ≡ e = cc in rw (← same) refl
+answer-tag tag view asked bytes k (Some status) e is = let same : answer_of tag view asked bytes k (Some status) ≡ e = cc in rw (← same) refl
+
 line-tag : (S : Setup) (H : List Entry) (tag : ℕ) (stand : Stand) (line : Order) (e : Entry) → line_entry S H tag stand line ≡ Some e → tag_of e ≡ tag
 unfolding line_entry
-line-tag S H tag stand (order.Request asked payload k) e is = cc
+line-tag S H tag stand (order.Request asked payload k) e is = answer-tag tag (view_of S stand k) asked (payload_bytes asked.length payload) k _ e is
 line-tag S H tag stand order.Wait e is = cc
 line-tag S H tag stand (order.Cancel k) e is = if-tag _ _ e tag refl is
 line-tag S H tag stand order.Reset e is = if-tag _ _ e tag refl is
@@ -198,16 +197,16 @@ own-by S d (Enters x ∷ log) follows i p e behind there tag other = elim (newes
       (n, place, later, same ∙ is)
   | inr (last, same) ↦ absurd (enters-none S d (entries_by d.opening log) (line_count_by d.opening log) x i follows.1 (rw same tag) (rw same other))
 ]
-own-by S d (Does j None ∷ log) follows i p e behind there tag other = by (nat_eq j i)
+own-by S d (Does j None ∷ log) follows i p e behind there tag other = by (own-by S d log follows.0 i p e behind there tag other) (nat_eq j i)
   where
     H : List Entry
     H = entries_by d.opening log
 
-    by : (b : Bool) → IsLine S d H (with_place b (length H) (places_by d.opening log i)) i p e
-    by false = own-by S d log follows.0 i p e behind there tag other
-    by true = let (n, place, at, is) = own-by S d log follows.0 i p e behind there tag other in (n, snoc-before (places_by d.opening log i) (length H) p n place, at, is)
+    by : IsLine S d H (places_by d.opening log i) i p e → (b : Bool) → IsLine S d H (with_place b (length H) (places_by d.opening log i)) i p e
+    by old false = old
+    by (n, place, at, is) true = (n, snoc-before (places_by d.opening log i) (length H) p n place, at, is)
 own-by S d (Does j (Some x) ∷ log) follows i p e behind there tag other = elim (newest (entries_by d.opening log) x e p there) [
-  | inl before ↦ earlier before
+  | inl before ↦ by (own-by S d log follows.0 i p e behind before tag other) (nat_eq j i)
   | inr (last, same) ↦ here last same
 ]
   where
@@ -217,15 +216,9 @@ own-by S d (Does j (Some x) ∷ log) follows i p e behind there tag other = elim
     xs : List ℕ
     xs = places_by d.opening log i
 
-    earlier : HasEntryAt H p (Some e) → IsLine S d (x ∷ H) (with_place (nat_eq j i) (length H) xs) i p e
-    earlier before = by (nat_eq j i)
-      where
-        old : IsLine S d H xs i p e
-        old = own-by S d log follows.0 i p e behind before tag other
-
-        by : (b : Bool) → IsLine S d (x ∷ H) (with_place b (length H) xs) i p e
-        by false = let (n, place, at, is) = old in let (later, same) = stands-later S d H x i n p at in (n, place, later, same ∙ is)
-        by true = let (n, place, at, is) = old in let (later, same) = stands-later S d H x i n p at in (n, snoc-before xs (length H) p n place, later, same ∙ is)
+    by : IsLine S d H xs i p e → (b : Bool) → IsLine S d (x ∷ H) (with_place b (length H) xs) i p e
+    by (n, place, at, is) false = let (later, same) = stands-later S d H x i n p at in (n, place, later, same ∙ is)
+    by (n, place, at, is) true = let (later, same) = stands-later S d H x i n p at in (n, snoc-before xs (length H) p n place, later, same ∙ is)
 
     here : p ≡ length H → x ≡ e → IsLine S d (x ∷ H) (with_place (nat_eq j i) (length H) xs) i p e
     here last same =
