@@ -4,27 +4,27 @@ use Rattle.std.proofs.lemmas.Option.{slice_get-map}
 use Rattle.std.specs.List.{AllByRecursion, drop-map}
 use Rattle.std.proofs.lemmas.List.{append-nil, length-map, take-append-drop, map-append, take-map, length-drop}
 use Rattle.medium.specs.Device.{Device}
-use Rattle.history_laws.proofs.FreshLemmas.{fresh-legal}
 use Rattle.disk_core.specs.State.{opening_from}
 use Rattle.disk_core.proofs.Fresh.{fresh-era}
 use Rattle.script_text.specs.declared.language.plans.DiskPlan.{DiskPlan}
 use Rattle.script_text.specs.Fitting.{IsDiskPlan, AreDisks}
-use Rattle.stack_run.specs.Simple.{IsSimpleDisk, AreSimpleDisks}
 use Rattle.stack_run.specs.declared.desk_run.Run.{Run}
 use Rattle.stack_run.specs.declared.wanted.Wanted.{Wanted}
 use Rattle.stack_run.specs.Media.{media_names, wanted_by, wanted_of}
 use Rattle.stack_run.specs.Chains.{IsMediumOf, AreMade}
-use Rattle.stack_run.specs.Runs.{setup_over, Follow, RanDisk, RanSome, RanAll, RanSomeOfAll}
+use Rattle.stack_run.specs.Runs.{setup_over, Follow, RanDisk, RanSome, RanAll, AllInPart, RanSomeOfAll, RunsStop}
 use Rattle.stack_run.proofs.ChainLemmas.{drop-next}
 use Rattle.stack_run.proofs.EraLemmas.{eras-follow}
+use Rattle.stack_run.proofs.RanLemmas.{nothing-done}
 
--- what the disks that are left will do is what all do
-pub record GoesOn (plans left : List DiskPlan) (before media done : List Device) (runs : List Run) : Type 0 where
+-- what the disks that are left will do is what all do, behind those that ran
+pub record GoesOn (plans ran left : List DiskPlan) (before media done : List Device) (runs : List Run) : Type 0 where
+  pub are : plans ≡ ran ++ left
   pub all : (after : List Device) (more : List Run) → RanAll left media after more → RanAll plans before (done ++ after) (runs ++ more)
-  pub some : (after : List Device) → RanSomeOfAll left media after → RanSomeOfAll plans before (done ++ after)
+  pub some : (more rest : List DiskPlan) (after : List Device) → RanSomeOfAll more rest media after → RanSomeOfAll (ran ++ more) rest before (done ++ after)
 
-pub goes-first : (plans : List DiskPlan) (before : List Device) → GoesOn plans plans before before [] []
-goes-first plans before = record { all = λ after more all. all; some = λ after some. some }
+pub goes-first : (plans : List DiskPlan) (before : List Device) → GoesOn plans [] plans before before [] []
+goes-first plans before = record { are = refl; all = λ after more all. all; some = λ more rest after some. some }
 
 -- the media that are made for two lists of images
 pub made-split : (ws vs : List Wanted) (ds : List Device) → AreMade (ws ++ vs) ds → AreMade ws (take (length ws) ds) × AreMade vs (drop (length ws) ds)
@@ -97,10 +97,10 @@ fresh-follow plan ds made = record {
 }
 
 fresh-some : (plan : DiskPlan) (ds : List Device) → length ds ≡ length plan.spares + 1 → AllByRecursion (IsMediumOf plan) ds → RanSome plan ds ds
-fresh-some plan ds count made = record { count = count; history = []; part = record { begins = refl; legal = fresh-legal (setup_over plan ds) }; media = eras-follow plan [] ds ds (fresh-follow plan ds made) }
+fresh-some plan ds count made = record { count = count; history = []; part = nothing-done plan (setup_over plan ds); media = eras-follow plan [] ds ds (fresh-follow plan ds made) }
 
-pub none-of-all : (plans : List DiskPlan) (ds : List Device) → AreMade (wanted_of plans) ds → RanSomeOfAll plans ds ds
-unfolding RanSomeOfAll wanted_of
+none-of-all : (plans : List DiskPlan) (ds : List Device) → AreMade (wanted_of plans) ds → AllInPart plans ds ds
+unfolding AllInPart wanted_of
 none-of-all [] ds made = (made-none ds made, made-none ds made)
 none-of-all (plan ∷ plans) ds made =
     let (front, back) = made-split (map (wanted_by plan) (media_names plan)) (wanted_of plans) ds made in
@@ -114,60 +114,74 @@ none-of-all (plan ∷ plans) ds made =
       none-of-all plans (drop n ds) back,
     )
 
+-- before the first disk
+pub stops-first : (plans : List DiskPlan) (ds : List Device) → AreMade (wanted_of plans) ds → RunsStop plans ds ds
+unfolding RanSomeOfAll
+stops-first plans ds made = record { ran = []; left = plans; are = refl; some = λ none. refl; media = none-of-all plans ds made }
+
 -- one more disk
-pub goes-next : (plans left rest : List DiskPlan) (plan : DiskPlan) (before media media' done own own' : List Device) (runs : List Run) (run : Run) → GoesOn plans left before media done runs → left ≡ plan ∷ rest → media ≡ own ++ media'
-    → RanDisk plan own own' run → RanSome plan own own' → GoesOn plans rest before media' (done ++ own') (runs ++ run ∷ [])
+pub goes-next : (plans ran left rest : List DiskPlan) (plan : DiskPlan) (before media media' done own own' : List Device) (runs : List Run) (run : Run) → GoesOn plans ran left before media done runs → left ≡ plan ∷ rest → media ≡ own ++ media'
+    → RanDisk plan own own' run → GoesOn plans (ran ++ plan ∷ []) rest before media' (done ++ own') (runs ++ run ∷ [])
 unfolding RanAll RanSomeOfAll
-goes-next plans left rest plan before media media' done own own' runs run goes next cut disk some = record {
-  all = λ after more ran.
-      let whole : RanAll (plan ∷ rest) media (own' ++ after) (run ∷ more) = (own, own', media', after, record { taken = cut; back = refl }, disk, ran) in
+goes-next plans ran left rest plan before media media' done own own' runs run goes next cut disk = record {
+  are = goes.are ∙ (ap (λ l. ran ++ l) next ∙ sym (append_assoc ran (plan ∷ []) rest));
+  all = λ after more all.
+      let whole : RanAll (plan ∷ rest) media (own' ++ after) (run ∷ more) = (own, own', media', after, record { taken = cut; back = refl }, disk, all) in
       subst (λ l. RanAll plans before l ((runs ++ run ∷ []) ++ more)) (sym (append_assoc done own' after))
       (subst (λ r. RanAll plans before (done ++ (own' ++ after)) r) (sym (append_assoc runs (run ∷ []) more))
       (goes.all (own' ++ after) (run ∷ more) (subst (λ l. RanAll l media (own' ++ after) (run ∷ more)) (sym next) whole)));
-  some = λ after ran.
-      let whole : RanSomeOfAll (plan ∷ rest) media (own' ++ after) = (own, own', media', after, record { taken = cut; back = refl }, some, ran) in
-      subst (λ l. RanSomeOfAll plans before l) (sym (append_assoc done own' after))
-      (goes.some (own' ++ after) (subst (λ l. RanSomeOfAll l media (own' ++ after)) (sym next) whole));
+  some = λ more last after some.
+      let whole : RanSomeOfAll (plan ∷ more) last media (own' ++ after) = (own, own', media', after, record { taken = cut; back = refl }, (run, disk), some) in
+      subst (λ l. RanSomeOfAll ((ran ++ plan ∷ []) ++ more) last before l) (sym (append_assoc done own' after))
+      (subst (λ l. RanSomeOfAll l last before (done ++ (own' ++ after))) (sym (append_assoc ran (plan ∷ []) more))
+      (goes.some (plan ∷ more) last (own' ++ after) whole));
 }
 
--- or this disk ran in part, and those behind it did not
-pub stops-next : (plans left rest : List DiskPlan) (plan : DiskPlan) (before media media' done own own' : List Device) (runs : List Run) → GoesOn plans left before media done runs → left ≡ plan ∷ rest → media ≡ own ++ media'
-    → RanSome plan own own' → AreMade (wanted_of rest) media' → RanSomeOfAll plans before ((done ++ own') ++ media')
+-- the disks that are left stop
+stops-so : (plans ran left : List DiskPlan) (before media done after : List Device) (runs : List Run) → GoesOn plans ran left before media done runs → (left ≡ [] → ⊥) → AllInPart left media after → RunsStop plans before (done ++ after)
 unfolding RanSomeOfAll
-stops-next plans left rest plan before media media' done own own' runs goes next cut some made =
-    let whole : RanSomeOfAll (plan ∷ rest) media (own' ++ media') = (own, own', media', media', record { taken = cut; back = refl }, some, none-of-all rest media' made) in
-    subst (λ l. RanSomeOfAll plans before l) (sym (append_assoc done own' media'))
-    (goes.some (own' ++ media') (subst (λ l. RanSomeOfAll l media (own' ++ media')) (sym next) whole))
+stops-so plans ran left before media done after runs goes some part = record {
+  ran = ran;
+  left = left;
+  are = goes.are;
+  some = λ none. absurd (some none);
+  media = subst (λ l. RanSomeOfAll l left before (done ++ after)) (append-nil ran) (goes.some [] left after part);
+}
+
+no-nil : {X : Type 0} (x : X) (xs : List X) → x ∷ xs ≡ [] → ⊥
+no-nil x xs is = cc
+
+-- before the next one
+pub stops-here : (plans ran left rest : List DiskPlan) (plan : DiskPlan) (before media done : List Device) (runs : List Run) → GoesOn plans ran left before media done runs → left ≡ plan ∷ rest → AreMade (wanted_of left) media → RunsStop plans before (done ++ media)
+stops-here plans ran left rest plan before media done runs goes next made =
+    stops-so plans ran left before media done media runs goes (λ none. no-nil plan rest (sym next ∙ none)) (none-of-all left media made)
+
+-- or this disk ran in part, and those behind it did not
+pub stops-next : (plans ran left rest : List DiskPlan) (plan : DiskPlan) (before media media' done own own' : List Device) (runs : List Run) → GoesOn plans ran left before media done runs → left ≡ plan ∷ rest → media ≡ own ++ media'
+    → RanSome plan own own' → AreMade (wanted_of rest) media' → RunsStop plans before ((done ++ own') ++ media')
+unfolding AllInPart
+stops-next plans ran left rest plan before media media' done own own' runs goes next cut some made =
+    let whole : AllInPart (plan ∷ rest) media (own' ++ media') = (own, own', media', media', record { taken = cut; back = refl }, some, none-of-all rest media' made) in
+    subst (λ l. RunsStop plans before l) (sym (append_assoc done own' media'))
+    (stops-so plans ran left before media done (own' ++ media') runs goes (λ none. no-nil plan rest (sym next ∙ none)) (subst (λ l. AllInPart l media (own' ++ media')) (sym next) whole))
 
 -- after the last disk
 pub last-made : (left : List DiskPlan) (ds : List Device) → left ≡ [] → AreMade (wanted_of left) ds → ds ≡ []
 unfolding wanted_of
 last-made left ds none made = made-none ds (subst (λ (l : List DiskPlan). AreMade (wanted_of l) ds) none made)
 
-pub goes-last : (plans left : List DiskPlan) (before media done : List Device) (runs : List Run) → GoesOn plans left before media done runs → left ≡ [] → media ≡ [] → RanAll plans before done runs × RanSomeOfAll plans before done
-unfolding RanAll RanSomeOfAll
-goes-last plans left before media done runs goes none empty =
+pub goes-last : (plans ran left : List DiskPlan) (before media done : List Device) (runs : List Run) → GoesOn plans ran left before media done runs → left ≡ [] → media ≡ [] → RanAll plans before done runs
+unfolding RanAll
+goes-last plans ran left before media done runs goes none empty =
     let all : RanAll left media [] [] = subst (λ l. RanAll l media [] []) (sym none) (empty, refl, refl) in
-    let some : RanSomeOfAll left media [] = subst (λ l. RanSomeOfAll l media []) (sym none) (empty, refl) in (
-      subst (λ l. RanAll plans before l runs) (append-nil done) (subst (λ r. RanAll plans before (done ++ []) r) (append-nil runs) (goes.all [] [] all)),
-      subst (λ l. RanSomeOfAll plans before l) (append-nil done) (goes.some [] some),
-    )
+    subst (λ l. RanAll plans before l runs) (append-nil done) (subst (λ r. RanAll plans before (done ++ []) r) (append-nil runs) (goes.all [] [] all))
 
 -- a disk of a script at a place
-pub rec-next : {X : Type 0} (P : X → Type 0) (xs : List X) (i : ℕ) (x : X) → AllByRecursion P xs → i < length xs → x ≡ get_or xs i x → P x
-rec-next P [] i x all inside is = absurd (omega (arith, inside))
-rec-next P (y ∷ xs) zero x all inside is = subst P (sym is) all.0
-rec-next P (y ∷ xs) (suc i) x all inside is = rec-next P xs i x all.1 (omega (arith, inside)) is
-
 pub disk-next : (plans : List DiskPlan) (i : ℕ) (plan : DiskPlan) → AreDisks plans → i < length plans → plan ≡ get_or plans i plan → IsDiskPlan plan
 unfolding AreDisks
 disk-next [] i plan are inside is = absurd (omega (arith, inside))
 disk-next (p ∷ plans) zero plan are inside is = subst IsDiskPlan (sym is) are.0
 disk-next (p ∷ plans) (suc i) plan are inside is = disk-next plans i plan are.1 (omega (arith, inside)) is
-
-pub simple-next : (plans : List DiskPlan) (i : ℕ) (plan : DiskPlan) → AreSimpleDisks plans → i < length plans → plan ≡ get_or plans i plan → IsSimpleDisk plan
-unfolding AreSimpleDisks
-simple-next plans i plan are inside is = rec-next IsSimpleDisk plans i plan are inside is
 
 -- media that are cut off the front
 module _ {M : Type 0} (device : M → Device) (media own rest : List M) (n : ℕ) (front : own ≡ take n media) (back : rest ≡ drop n media) where

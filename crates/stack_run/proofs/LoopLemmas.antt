@@ -202,13 +202,47 @@ module _ (ws : List Wanted) (ds left : List Device) (place : ℕ) (fault : NotRu
       (subst (λ l. Chain (PutsOr true) l (stops.first ++ stops.d ∷ left) at at') (sym stops.is)
       (chain-both (PutsOr true) stops.before (stops.want ∷ stops.after) stops.first (stops.d ∷ left) at stops.mid at' first (mid, stops.only, record { result = Err fault; puts = stops.fails; told = λ is. refl }, last)))
 
-  pub ends-spent : (s : Bool) (at' : Names) → Chain (PutsOr s) stops.after left mid at' → PutEnds NotRun.Memory ws ds place at at'
-  ends-spent s at' rest = spent-whole s at' rest
+  -- the other names stay as they were until the rest is put back
+  rest-same : AreApart ws → AllByRecursion (λ w. mid w.image ≡ at w.image) stops.after
+  unfolding AreApart
+  rest-same apart =
+      let behind : AreApart (stops.want ∷ stops.after) = apart-back stops.before (stops.want ∷ stops.after) (apart-is apart) in
+      let none = behind-none stops.before (stops.want ∷ stops.after) (apart-is apart) in
+      let first = stay-behind PutsBack stops.before stops.after stops.first at stops.mid stops.put none.1 in
+      trans-all stops.after at stops.mid mid first (stays-all stops.want stops.after stops.mid mid stops.only behind.0)
+
+  -- memory ran out here
+  spent-first : (s : Bool) (at' : Names) → AreApart ws → fault ≡ NotRun.Memory → Chain (PutsOr s) stops.after left mid at' → SpentAmong ws at at'
+  unfolding AreApart
+  spent-first s at' apart is rest =
+      let behind : AreApart (stops.want ∷ stops.after) = apart-back stops.before (stops.want ∷ stops.after) (apart-is apart) in
+      let last : at' stops.want.image ≡ mid stops.want.image = chain-others (PutsOr s) stops.after left mid at' rest stops.want.image behind.0 in
+      let first : stops.mid stops.want.image ≡ at stops.want.image = chain-others PutsBack stops.before stops.first at stops.mid stops.put stops.want.image (back-none stops.before stops.want stops.after (apart-is apart)) in
+      record { before = stops.before; want = stops.want; after = stops.after; is = stops.is; d = stops.d; puts = rw (last, sym first, sym is) stops.fails }
+
+  -- or behind it
+  spent-behind : (at' : Names) → AreApart ws → SpentAmong stops.after mid at' → SpentAmong ws at at'
+  spent-behind at' apart spent =
+      let same : mid spent.want.image ≡ at spent.want.image = (all-back (λ w. mid w.image ≡ at w.image) spent.before (spent.want ∷ spent.after) (subst (AllByRecursion (λ w. mid w.image ≡ at w.image)) spent.is (rest-same apart))).0 in
+      record {
+        before = stops.before ++ stops.want ∷ spent.before;
+        want = spent.want;
+        after = spent.after;
+        is = stops.is ∙ (ap (λ l. stops.before ++ stops.want ∷ l) spent.is ∙ sym (append_assoc stops.before (stops.want ∷ spent.before) (spent.want ∷ spent.after)));
+        d = spent.d;
+        puts = rw (sym same) spent.puts;
+      }
+
+  pub ends-spent : (s : Bool) (at' : Names) → AreApart ws → Chain (PutsOr s) stops.after left mid at' → SpentAmong stops.after mid at' → PutEnds NotRun.Memory ws ds place at at'
+  ends-spent s at' apart rest spent = (spent-whole s at' rest, spent-behind at' apart spent)
+
+  pub ends-first : (s : Bool) (at' : Names) → AreApart ws → fault ≡ NotRun.Memory → Chain (PutsOr s) stops.after left mid at' → PutEnds NotRun.Memory ws ds place at at'
+  ends-first s at' apart is rest = (spent-whole s at' rest, spent-first s at' apart is rest)
 
 -- or it ran out nowhere
-pub ends-so : (ws : List Wanted) (ds left : List Device) (place : ℕ) (fault : NotRun) (at mid at' : Names) (s : Bool) (stops : PuttingStops ws ds left place fault at mid) → s ≡ false → Chain (PutsOr s) stops.after left mid at' → PutEnds fault ws ds place at at'
-ends-so ws ds left place NotRun.Image at mid at' s stops none rest = record { left = left; mid = mid; stops = stops; rest = subst (λ b. Chain (PutsOr b) stops.after left mid at') none rest }
-ends-so ws ds left place NotRun.Memory at mid at' s stops none rest = ends-spent ws ds left place NotRun.Memory at mid stops s at' rest
+pub ends-so : (ws : List Wanted) (ds left : List Device) (place : ℕ) (fault : NotRun) (at mid at' : Names) (s : Bool) (stops : PuttingStops ws ds left place fault at mid) → AreApart ws → s ≡ false → Chain (PutsOr s) stops.after left mid at' → PutEnds fault ws ds place at at'
+ends-so ws ds left place NotRun.Image at mid at' s stops apart none rest = record { left = left; mid = mid; stops = stops; rest = subst (λ b. Chain (PutsOr b) stops.after left mid at') none rest }
+ends-so ws ds left place NotRun.Memory at mid at' s stops apart none rest = ends-first ws ds left place NotRun.Memory at mid stops s at' apart refl rest
 
 -- where memory ran out before, it has still run out
 spent-later : (us : List Wanted) (w : Wanted) (at mid at' : Names) → IsNoneOf w.image us → ChangesOnly w.image mid at' → SpentAmong us at mid → SpentAmong (us ++ w ∷ []) at at'

@@ -1,7 +1,7 @@
 -- What ran over a disk, read off its facts.
-use Rattle.std.proofs.Common.{◌≡◌, ℕ, suc, ◌*◌, ◌^◌, ◌<◌, List, [], ◌∷◌, map, length, slice_get, get_or, true, Option, Some, None, IfSome, All, option_map, refl, sym, ◌∙◌, ap, subst}
+use Rattle.std.proofs.Common.{◌≡◌, ℕ, zero, suc, ◌*◌, ◌^◌, ◌<◌, inl, inr, List, [], ◌∷◌, map, length, slice_get, Option, Some, None, All, option_map, refl, sym, ◌∙◌, ap, subst}
 use Rattle.std.specs.List.{AllByRecursion}
-use Rattle.std.proofs.lemmas.List.{length-map}
+use Rattle.std.proofs.lemmas.List.{append-nil, length-map}
 use Rattle.std.proofs.lemmas.Option.{slice_get-map, slice_get_within, get_or_from_slice_get}
 use Rattle.std.proofs.lemmas.Simd.{map-map}
 use Rattle.medium.specs.Device.{Device, IsFresh}
@@ -14,14 +14,17 @@ use Rattle.disk_core.specs.State.{State, setup_of, opening_from}
 use Rattle.disk_core.specs.Facts.{AreFacts, MeetsEra}
 use Rattle.disk_core.proofs.Fresh.{fresh-era}
 use Rattle.script_text.specs.declared.language.plans.DiskPlan.{DiskPlan}
-use Rattle.script_text.specs.declared.language.plans.ClientPlan.{ClientPlan}
-use Rattle.script_text.specs.declared.report.parts.TokenLine.{TokenLine}
-use Rattle.script_text.specs.Report.{givens_of, AreEnds, AreGiven}
-use Rattle.history.specs.Room.{faults}
-use Rattle.stack_run.specs.Simple.{are_simple_clients}
-use Rattle.stack_run.specs.Plain.{outcomes_of, plain_history}
+use Rattle.script_text.specs.Report.{givens_of, AreEnds}
+use Rattle.shared_disk.specs.Lines.{Role}
+use Rattle.shared_disk.specs.Script.{Script, next_order, places_at, KeepsScript}
+use Rattle.shared_disk.specs.Desk.{DeskState, Keeps}
+use Rattle.shared_disk.proofs.KeptLemmas.{keeps-nothing}
+use Rattle.device_workers.specs.Plain.{plain_history}
+use Rattle.device_workers.specs.Serving.{WantsMemory, IsPlainFront}
+use Rattle.device_workers.proofs.FreshLemmas.{opens-none}
+use Rattle.stack_run.specs.Clients.{roles_in, script_in}
 use Rattle.stack_run.specs.declared.desk_run.Run.{Run}
-use Rattle.stack_run.specs.Runs.{RanPlain, Follow, RanOver, RanSomeOver}
+use Rattle.stack_run.specs.Runs.{RanPlain, RanInPart, Follow, RanOver, RanSomeOver}
 
 -- what holds of each holds at a place
 pub all-at : {M : Type 0} (P : M → Type 0) (xs : List M) (i : ℕ) (x : M) → All P xs → slice_get xs i ≡ Some x → P x
@@ -31,6 +34,33 @@ all-at P xs i x all is = subst P (get_or_from_slice_get xs i x x is) (all i x (s
 pub from-mapped : {M N : Type 0} (f : M → N) (xs : List M) (i : ℕ) (y : N) (o : Option M) → slice_get xs i ≡ o → option_map f o ≡ Some y → (x : M) × (slice_get xs i ≡ Some x) × (f x ≡ y)
 from-mapped f xs i y None there is = absurd (cc)
 from-mapped f xs i y (Some x) there is = (x, there, cc)
+
+no-places : (roles : List Role) (i : ℕ) → places_at (map (λ role. []) roles) i ≡ []
+no-places [] i = refl
+no-places (role ∷ more) zero = refl
+no-places (role ∷ more) (suc i) = no-places more i
+
+-- where nothing was done
+pub nothing-done : (plan : DiskPlan) (S : Setup) → RanInPart plan S [] []
+nothing-done plan S = record {
+  begins = refl;
+  legal = fresh-legal S;
+  places = map (λ role. []) (roles_in plan.clients);
+  keeps = keeps-nothing S (script_in plan []) (map (λ role. []) (roles_in plan.clients)) opens-none (length-map (roles_in plan.clients) (λ role. [])) (no-places (roles_in plan.clients));
+  front = record { outcomes = []; more = plain_history S [] (roles_in plan.clients) []; front = sym (append-nil (plain_history S [] (roles_in plan.clients) [])) };
+  short = inl refl;
+}
+
+-- where a client's next line wants memory
+pub part-here : (plan : DiskPlan) (S : Setup) (s : DeskState) → s.disk.setup ≡ S → s.script ≡ script_in plan [] → IsLegal S s.disk.entries → Keeps s → WantsMemory s → IsPlainFront S (script_in plan []) s.disk.entries → RanInPart plan S [] s.disk.entries
+part-here plan S s setup script legal keeps (i, order, next, wants) front = record {
+  begins = refl;
+  legal = legal;
+  places = s.places;
+  keeps = subst (λ (T : Setup). KeepsScript T (script_in plan []) s.places s.disk.entries) setup (subst (λ (d : Script). KeepsScript s.disk.setup d s.places s.disk.entries) script keeps.script);
+  front = front;
+  short = inr (i, order, subst (λ (d : Script). next_order d.roles i (length (places_at s.places i)) ≡ Some order) script next, wants);
+}
 
 module _ {M : Type 0} (device : M → Device) (drive : DriveState M) (fit : FitTheDrive device drive) (fresh : IsFreshDrive device drive) where
   -- before anything has happened
@@ -50,7 +80,7 @@ module _ {M : Type 0} (device : M → Device) (drive : DriveState M) (fit : FitT
           (all-at (λ n. (device n).cached ≡ drive.cached) drive.media i m fit.cached there))
 
   pub none-ran : (plan : DiskPlan) → RanSomeOver plan (setup_of device drive drive.protected) (map device drive.media)
-  none-ran plan = record { history = []; part = record { begins = refl; legal = fresh-legal _ }; follow = fresh-follow }
+  none-ran plan = record { history = []; part = nothing-done plan _; follow = fresh-follow }
 
 module _ {M : Type 0} (device : M → Device) (s : State) (S : Setup) (media : List M) (setup : s.setup ≡ S) (facts : AreFacts s) (are : map device media ≡ s.devices) (count : length media ≡ length s.setup.media) where
   legal-here : IsLegal S s.entries
@@ -63,8 +93,12 @@ module _ {M : Type 0} (device : M → Device) (s : State) (S : Setup) (media : L
   }
 
   -- some lines ran
-  pub some-ran : (plan : DiskPlan) → RanSomeOver plan S (map device media)
-  some-ran plan = record { history = s.entries; part = record { begins = refl; legal = legal-here }; follow = follow-here }
+  pub some-ran : (plan : DiskPlan) → RanInPart plan S [] s.entries → RanSomeOver plan S (map device media)
+  some-ran plan part = record { history = s.entries; part = part; follow = follow-here }
+
+  -- or none
+  pub no-line-ran : (plan : DiskPlan) → s.entries ≡ [] → RanSomeOver plan S (map device media)
+  no-line-ran plan none = some-ran plan (subst (λ h. RanInPart plan S [] h) (sym none) (nothing-done plan S))
 
   -- or all of them
   pub all-ran : (plan : DiskPlan) (run : Run) → run.history.entries ≡ s.entries → RanPlain plan S [] s.entries (givens_of run.ends.items) → AreEnds S s.entries run.ends.items
@@ -84,21 +118,3 @@ module _ {M : Type 0} (device : M → Device) (s : State) (S : Setup) (media : L
 pub all-fit : {M : Type 0} (device : M → Device) → ((m : M) → (device m).blocks * (device m).size < 2 ^ 64) → (media : List M) → AllByRecursion (λ d. d.blocks * d.size < 2 ^ 64) (map device media)
 all-fit device each [] = tt
 all-fit device each (m ∷ media) = (each m, all-fit device each media)
-
--- the one client of a disk
-pub alone-client : (clients : List ClientPlan) (client : ClientPlan) → are_simple_clients clients ≡ true → client ≡ get_or clients 0 client → clients ≡ client ∷ []
-alone-client [] client is at = absurd (cc)
-alone-client (one ∷ []) client is at = ap (λ c. c ∷ []) (sym at)
-alone-client (one ∷ other ∷ more) client is at = absurd (cc)
-
--- the lines of the one client ran to their end
-pub plain-here : (plan : DiskPlan) (client : ClientPlan) (S : Setup) (H : List Entry) (ends : List TokenLine) → IsLegal S H → plan.clients ≡ client ∷ []
-    → H ≡ plain_history S client.orders (outcomes_of H) → (faults H ≡ 0 → H ≡ plain_history S client.orders []) → AreGiven S H (givens_of ends) → RanPlain plan S [] H (givens_of ends)
-plain-here plan client S H ends legal alone plain faultless given = record { begins = refl; legal = legal; client = client; alone = alone; plain = plain; faultless = faultless; reads = given }
-
--- what was finished, where there was memory for it
-pub over-of : (o : Option Run) (H : List Entry) (ends : List TokenLine) (blocks : List ℕ) (P : Run → Type 0)
-    → IfSome o (λ run. run.blocks.items ≡ blocks) → IfSome o (λ run. run.history.entries ≡ H) → IfSome o (λ run. run.ends.items ≡ ends)
-    → ((run : Run) → run.blocks.items ≡ blocks → run.history.entries ≡ H → run.ends.items ≡ ends → P run) → IfSome o P
-over-of None H ends blocks P b h e each = tt
-over-of (Some run) H ends blocks P b h e each = each run b h e

@@ -1,5 +1,5 @@
 -- What of a source was read so far.
-use Rattle.std.proofs.Common.{◌≡◌, ℕ, ◌<◌, ◌≤◌, ◌⊎◌, List, [], ◌∷◌, ◌++◌, take, drop, length, Option, None, Some, Result, Ok, Err, true, false, is_ok, refl, sym, ◌∙◌, ap, append_assoc, inl, inr, arith, length-append}
+use Rattle.std.proofs.Common.{◌≡◌, ℕ, ◌+◌, ◌<◌, ◌≤◌, ◌⊎◌, IsSome, is_some, get_or, List, [], ◌∷◌, ◌++◌, take, drop, length, Option, None, Some, Result, Ok, Err, true, false, is_ok, refl, sym, ◌∙◌, ap, append_assoc, inl, inr, arith, length-append}
 use Rattle.std.proofs.Math.ListN.{drop_of_length-le}
 use Rattle.std.proofs.Math.Nat.{le_of_lt}
 use Rattle.std.proofs.Math.Seq.{take-append_seam, drop-append_seam}
@@ -8,14 +8,15 @@ use Rattle.std.proofs.lemmas.Bool.{lt-ltb, false≢true, cases_lt}
 use Rattle.image_store.specs.Edge.{Takes, TakesFront}
 use Rattle.script_text.specs.Limits.{most_script_bytes}
 use Rattle.script_text.specs.declared.language.plans.DiskPlan.{DiskPlan}
+use Rattle.script_text.specs.declared.language.plans.ClientPlan.{ClientPlan}
 use Rattle.script_text.specs.declared.language.refusal.Reason.{Reason}
 use Rattle.script_text.specs.declared.language.refusal.Reason.TheVariants.{Size}
 use Rattle.script_text.specs.declared.language.refusal.Reason.TheVariants as why
 use Rattle.script_text.specs.declared.language.reader.ScriptReader.{ScriptReader}
 use Rattle.script_text.specs.Whole.{script_of}
 use Rattle.script_text.specs.Fed.{WasFed}
-use Rattle.stack_run.specs.Simple.{are_simple_clients, is_simple, AreSimpleDisks, said_of}
-use Rattle.stack_run.proofs.OneDisk.{both}
+use Rattle.stack_run.specs.Said.{some_or, first_part_in, first_part, said_of}
+use Rattle.stack_run.proofs.ChainLemmas.{drop-next}
 use Rattle.stack_run.specs.Serving.{LacksImage}
 use Rattle.image_store.specs.Place.{Image}
 use Rattle.stack_run.specs.Reading.{most_read_bytes, SourceReads, SourceSays, IsReadOut, IsScript, IsRefused}
@@ -120,14 +121,14 @@ pub record SoFed (left now : Option (List ℕ)) (reader : ScriptReader) (count f
 pub script-refused : (left now : Option (List ℕ)) (bytes : List ℕ) (line : ℕ) (reason : Reason) → SourceReads left now bytes → said_of bytes ≡ Err (line, reason) → IsRefused left now line reason
 script-refused left now bytes line reason reads says = record { says = says-whole left now bytes (Err (line, reason)) reads says; bytes = bytes; reads = reads }
 
--- a script that this version runs, and one that it does not run
-pub runs : (bytes : List ℕ) (plans : List DiskPlan) → script_of bytes ≡ Ok plans → is_simple plans ≡ true → said_of bytes ≡ Ok plans
+-- a script whose clients are on whole disks, and one with a client that is not
+pub runs : (bytes : List ℕ) (plans : List DiskPlan) → script_of bytes ≡ Ok plans → first_part plans ≡ None → said_of bytes ≡ Ok plans
 unfolding said_of
-runs bytes plans says simple = rw (says, simple) refl
+runs bytes plans says whole = rw (says, whole) refl
 
-pub runs-not : (bytes : List ℕ) (plans : List DiskPlan) → script_of bytes ≡ Ok plans → is_simple plans ≡ false → said_of bytes ≡ Err (0, why.Order)
+pub runs-not : (bytes : List ℕ) (plans : List DiskPlan) (line : ℕ) → script_of bytes ≡ Ok plans → first_part plans ≡ Some line → said_of bytes ≡ Err (line, why.Part)
 unfolding said_of
-runs-not bytes plans says simple = rw (says, simple) refl
+runs-not bytes plans line says part = rw (says, part) refl
 
 pub says-not : (bytes : List ℕ) (fault : ℕ × Reason) → script_of bytes ≡ Err fault → said_of bytes ≡ Err fault
 unfolding said_of
@@ -152,8 +153,24 @@ pub three-or-six : {n : ℕ} → (n ≡ 3) ⊎ (n ≡ 6) → (n ≡ 3) ⊎ ((n �
 three-or-six (inl is) = inl is
 three-or-six (inr is) = inr (inr is)
 
--- each disk of a script that this version runs
-pub simple-disks : (disks : List DiskPlan) → is_simple disks ≡ true → AreSimpleDisks disks
-unfolding AreSimpleDisks
-simple-disks [] is = tt
-simple-disks (disk ∷ disks) is = let (here, later) = both (are_simple_clients disk.clients) (is_simple disks) is in (here, simple-disks disks later)
+-- the clients behind those that are on the whole of their disk
+pub part-next : (clients : List ClientPlan) (i : ℕ) (client : ClientPlan) → i < length clients → client ≡ get_or clients i client → client.part ≡ None → first_part_in (drop i clients) ≡ first_part_in (drop (i + 1) clients)
+unfolding first_part_in
+part-next clients i client inside is none = ap first_part_in (drop-next clients i client inside is) ∙ (rw none refl)
+
+pub part-here : (clients : List ClientPlan) (i : ℕ) (client : ClientPlan) → i < length clients → client ≡ get_or clients i client → IsSome client.part → first_part_in (drop i clients) ≡ Some client.line
+unfolding first_part_in
+part-here clients i client inside is some = ap first_part_in (drop-next clients i client inside is) ∙ by client.part refl some
+  where
+    by : (o : Option ℕ) → client.part ≡ o → IsSome o → first_part_in (client ∷ drop (i + 1) clients) ≡ Some client.line
+    by None at there = absurd (cc)
+    by (Some part) at there = rw at refl
+
+-- so of disks
+pub disk-part : (disks : List DiskPlan) (i : ℕ) (disk : DiskPlan) → i < length disks → disk ≡ get_or disks i disk → first_part (drop i disks) ≡ some_or (first_part_in disk.clients) (first_part (drop (i + 1) disks))
+unfolding first_part
+disk-part disks i disk inside is = ap first_part (drop-next disks i disk inside is)
+
+pub none-of : (o : Option ℕ) → is_some o ≡ false → o ≡ None
+none-of None is = refl
+none-of (Some part) is = absurd (cc)

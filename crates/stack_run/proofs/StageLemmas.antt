@@ -20,7 +20,7 @@ use Rattle.stack_run.specs.declared.refusal.NotRun.{NotRun}
 use Rattle.stack_run.specs.declared.wanted.Wanted.{Wanted}
 use Rattle.stack_run.specs.Media.{media_names, wanted_by, wanted_of, Opens, OpenEach, IsSetupOf, Leaves, IsLeft, IsLost, Stayed, IsLeftOrLost, IsLeftOrGone, EachMedium}
 use Rattle.stack_run.specs.Chains.{Takes, Puts, PutsBack, PutsOr}
-use Rattle.stack_run.specs.Runs.{setup_over, IsEra, AreEras, RanAll, RanSomeOfAll}
+use Rattle.stack_run.specs.Runs.{setup_over, IsEra, AreEras, IsSplit, RanDisk, RanAll, AllInPart, RanSomeOfAll}
 use Rattle.stack_run.specs.Serving.{HasRun, HasRunInPart}
 use Rattle.stack_run.specs.Stages.{AllRan}
 use Rattle.stack_run.proofs.ChainLemmas.{Call, Names, IsNoneOf, Points}
@@ -183,30 +183,47 @@ all-ran-so (plan ∷ plans) before after (run ∷ runs) at mid at' takes (own, o
     blocks-same (d ∷ ds) = ap (λ l. d.blocks ∷ l) (blocks-same ds)
 
 -- all disks ran, and an image could not be put back
-pub all-ran-lost : (plans : List DiskPlan) (before after : List Device) (runs : List Run) (at mid at' : Names) → Points Takes (wanted_of plans) before at mid → RanAll plans before after runs → Points (PutsOr false) (wanted_of plans) after mid at' → AllByRecursion (λ plan. HasRun IsLeftOrLost plan at at') plans
-unfolding RanAll
-all-ran-lost [] before after runs at mid at' takes ran puts = tt
-all-ran-lost (plan ∷ plans) before after [] at mid at' takes ran puts = absurd ran
-all-ran-lost (plan ∷ plans) before after (run ∷ runs) at mid at' takes (own, own', rest, rest', split, disk, more) puts =
-    let (took, took2) = disk-points Takes plan plans before own rest at mid split.taken disk.count takes in
-    let count' = eras-count (setup_over plan own) run.history.entries 1 own own' disk.media ∙ disk.count in
-    let (put, put2) = disk-points (PutsOr false) plan plans after own' rest' mid at' split.back count' puts in (
-      record {
-        setup = setup_over plan own;
-        history = run.history.entries;
-        given = givens_of run.ends.items;
-        opened = setup-of-disk plan own at mid took;
-        ran = disk.ran;
-        images = each-medium plan (setup_over plan own) run.history.entries refl at mid at' (PutsOr false) (IsLeftOrLost (setup_over plan own) run.history.entries) (λ k w d d' old m new. is-left-or-lost (setup_over plan own) run.history.entries k w d d' old m new) (media_names plan) 1 own own' took disk.media put;
-      },
-      all-ran-lost plans rest rest' runs at mid at' took2 more put2,
-    )
+module _ (s : Bool) (Ends : Setup → List Entry → ℕ → Image → Image → Type 0)
+    (each : (S : Setup) (H : List Entry) (k : ℕ) (want : Wanted) (d d' : Device) (old mid new : Image) → size_of S ≡ want.size → Takes want d old mid → IsEra S H k d d' → PutsOr s want d' mid new → Ends S H k old new) where
+  disk-ends : (plan : DiskPlan) (plans : List DiskPlan) (before after own own' rest rest' : List Device) (run : Run) (at mid at' : Names) → Points Takes (wanted_of (plan ∷ plans)) before at mid → IsSplit before after own own' rest rest' → RanDisk plan own own' run
+      → Points (PutsOr s) (wanted_of (plan ∷ plans)) after mid at' → HasRun Ends plan at at' × (Points Takes (wanted_of plans) rest at mid × Points (PutsOr s) (wanted_of plans) rest' mid at')
+  disk-ends plan plans before after own own' rest rest' run at mid at' takes split disk puts =
+      let (took, took2) = disk-points Takes plan plans before own rest at mid split.taken disk.count takes in
+      let count' = eras-count (setup_over plan own) run.history.entries 1 own own' disk.media ∙ disk.count in
+      let (put, put2) = disk-points (PutsOr s) plan plans after own' rest' mid at' split.back count' puts in (
+        record {
+          setup = setup_over plan own;
+          history = run.history.entries;
+          given = givens_of run.ends.items;
+          opened = setup-of-disk plan own at mid took;
+          ran = disk.ran;
+          images = each-medium plan (setup_over plan own) run.history.entries refl at mid at' (PutsOr s) (Ends (setup_over plan own) run.history.entries) (each (setup_over plan own) run.history.entries) (media_names plan) 1 own own' took disk.media put;
+        },
+        (took2, put2),
+      )
 
--- or memory ran out
-pub some-ran-so : (plans : List DiskPlan) (before after : List Device) (s : Bool) (at mid at' : Names) → Points Takes (wanted_of plans) before at mid → RanSomeOfAll plans before after → Points (PutsOr s) (wanted_of plans) after mid at' → AllByRecursion (λ plan. HasRunInPart plan at at') plans
-unfolding RanSomeOfAll
-some-ran-so [] before after s at mid at' takes ran puts = tt
-some-ran-so (plan ∷ plans) before after s at mid at' takes (own, own', rest, rest', split, disk, more) puts =
+  all-ends : (plans : List DiskPlan) (before after : List Device) (runs : List Run) (at mid at' : Names) → Points Takes (wanted_of plans) before at mid → RanAll plans before after runs → Points (PutsOr s) (wanted_of plans) after mid at' → AllByRecursion (λ plan. HasRun Ends plan at at') plans
+  unfolding RanAll
+  all-ends [] before after runs at mid at' takes ran puts = tt
+  all-ends (plan ∷ plans) before after [] at mid at' takes ran puts = absurd ran
+  all-ends (plan ∷ plans) before after (run ∷ runs) at mid at' takes (own, own', rest, rest', split, disk, more) puts =
+      let (here, (took, put)) = disk-ends plan plans before after own own' rest rest' run at mid at' takes split disk puts in
+      (here, all-ends plans rest rest' runs at mid at' took more put)
+
+pub all-ran-lost : (plans : List DiskPlan) (before after : List Device) (runs : List Run) (at mid at' : Names) → Points Takes (wanted_of plans) before at mid → RanAll plans before after runs → Points (PutsOr false) (wanted_of plans) after mid at' → AllByRecursion (λ plan. HasRun IsLeftOrLost plan at at') plans
+all-ran-lost plans before after runs at mid at' takes ran puts = all-ends false IsLeftOrLost (λ S H k w d d' old m new. is-left-or-lost S H k w d d' old m new) plans before after runs at mid at' takes ran puts
+
+gone-each : (s : Bool) (S : Setup) (H : List Entry) (k : ℕ) (want : Wanted) (d d' : Device) (old mid new : Image) → size_of S ≡ want.size → Takes want d old mid → IsEra S H k d d' → PutsOr s want d' mid new → IsLeftOrGone S H k old new
+gone-each s S H k w d d' old mid new sized takes era puts = is-left-or-gone S H k w d d' old mid new sized takes era s puts
+
+pub all-ran-gone : (plans : List DiskPlan) (before after : List Device) (runs : List Run) (s : Bool) (at mid at' : Names) → Points Takes (wanted_of plans) before at mid → RanAll plans before after runs → Points (PutsOr s) (wanted_of plans) after mid at' → AllByRecursion (λ plan. HasRun IsLeftOrGone plan at at') plans
+all-ran-gone plans before after runs s at mid at' takes ran puts = all-ends s IsLeftOrGone (gone-each s) plans before after runs at mid at' takes ran puts
+
+-- these ran in part
+part-ran-so : (plans : List DiskPlan) (before after : List Device) (s : Bool) (at mid at' : Names) → Points Takes (wanted_of plans) before at mid → AllInPart plans before after → Points (PutsOr s) (wanted_of plans) after mid at' → AllByRecursion (λ plan. HasRunInPart plan at at') plans
+unfolding AllInPart
+part-ran-so [] before after s at mid at' takes ran puts = tt
+part-ran-so (plan ∷ plans) before after s at mid at' takes (own, own', rest, rest', split, disk, more) puts =
     let (took, took2) = disk-points Takes plan plans before own rest at mid split.taken disk.count takes in
     let count' = eras-count (setup_over plan own) disk.history 1 own own' disk.media ∙ disk.count in
     let (put, put2) = disk-points (PutsOr s) plan plans after own' rest' mid at' split.back count' puts in (
@@ -215,10 +232,20 @@ some-ran-so (plan ∷ plans) before after s at mid at' takes (own, own', rest, r
         history = disk.history;
         opened = setup-of-disk plan own at mid took;
         part = disk.part;
-        images = each-medium plan (setup_over plan own) disk.history refl at mid at' (PutsOr s) (IsLeftOrGone (setup_over plan own) disk.history) (λ k w d d' old m new sized takes era puts. is-left-or-gone (setup_over plan own) disk.history k w d d' old m new sized takes era s puts) (media_names plan) 1 own own' took disk.media put;
+        images = each-medium plan (setup_over plan own) disk.history refl at mid at' (PutsOr s) (IsLeftOrGone (setup_over plan own) disk.history) (gone-each s (setup_over plan own) disk.history) (media_names plan) 1 own own' took disk.media put;
       },
-      some-ran-so plans rest rest' s at mid at' took2 more put2,
+      part-ran-so plans rest rest' s at mid at' took2 more put2,
     )
+
+-- the first disks ran to their end, and the others in part
+pub some-ran-so : (ran left : List DiskPlan) (before after : List Device) (s : Bool) (at mid at' : Names) → Points Takes (wanted_of (ran ++ left)) before at mid → RanSomeOfAll ran left before after → Points (PutsOr s) (wanted_of (ran ++ left)) after mid at'
+    → AllByRecursion (λ plan. HasRun IsLeftOrGone plan at at') ran × AllByRecursion (λ plan. HasRunInPart plan at at') left
+unfolding RanSomeOfAll
+some-ran-so [] left before after s at mid at' takes some puts = (tt, part-ran-so left before after s at mid at' takes some puts)
+some-ran-so (plan ∷ ran) left before after s at mid at' takes (own, own', rest, rest', split, (run, disk), more) puts =
+    let (here, (took, put)) = disk-ends s IsLeftOrGone (gone-each s) plan (ran ++ left) before after own own' rest rest' run at mid at' takes split disk puts in
+    let (whole, part) = some-ran-so ran left rest rest' s at mid at' took more put in
+    ((here, whole), part)
 
 -- a name is one of these or none
 among-more : (P : List ℕ → Type 0) (w : Wanted) (ws : List Wanted) (name : List ℕ) (same : Bool) → Decides same (name ≡ w.image) → IsNoneOf name ws ⊎ (AllByRecursion (λ v. P v.image) ws → P name) → IsNoneOf name (w ∷ ws) ⊎ (AllByRecursion (λ v. P v.image) (w ∷ ws) → P name)
@@ -236,10 +263,3 @@ by-name P ws none all name = by (among P ws name)
     by : IsNoneOf name ws ⊎ (AllByRecursion (λ v. P v.image) ws → P name) → P name
     by (inl not) = none name not
     by (inr found) = found all
-
--- as many media after as before
-pub some-all-count : (plans : List DiskPlan) (before after : List Device) → RanSomeOfAll plans before after → length after ≡ length before
-unfolding RanSomeOfAll
-some-all-count [] before after (b, a) = omega (arith, ap length b, ap length a)
-some-all-count (plan ∷ plans) before after (own, own', rest, rest', split, disk, more) =
-    omega (arith, ap length split.taken, ap length split.back, length-append own rest, length-append own' rest', eras-count (setup_over plan own) disk.history 1 own own' disk.media, some-all-count plans rest rest' more)

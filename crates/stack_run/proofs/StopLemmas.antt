@@ -15,13 +15,13 @@ use Rattle.history.specs.Setup.{Opening}
 use Rattle.std.proofs.lemmas.List.{length-map}
 use Rattle.stack_run.specs.Media.{media_names, OpenEach, wanted_of, MayHaveBlocks, Stayed, IsAsItWas, IsBackOrLost, IsBackOrGone, IsUnmade, ChangesAmong}
 use Rattle.stack_run.specs.Chains.{Takes, Puts, PutsBack, PutsOr, SpentAmong, Chain, AreApart, AreTaken, AreMade, TakingStops, PuttingStops, PutsAround, PutEnds, FailsToTake}
-use Rattle.stack_run.specs.Runs.{RanAll, RanSomeOfAll}
+use Rattle.stack_run.specs.Runs.{RanAll, RunsStop}
 use Rattle.stack_run.specs.Serving.{IsFirstAt, NotTaken, NotTakenSpent, MemoryLeaves}
 use Rattle.stack_run.specs.Stages.{HasRunAs, AllRan, ImageStops, RunStops}
 use Rattle.stack_run.specs.Reporting.{AreReportable}
 use Rattle.stack_run.proofs.ChainLemmas.{Call, Names, IsNoneOf, Points, chain-both, chain-map, chain-others, chain-length, chain-points, points-same, refl-all, all-map, apart-front, apart-back, back-none, front-none, all-front, all-back}
 use Rattle.stack_run.proofs.HandedLemmas.{as-it-was, is-lost, lost-place, taken-has}
-use Rattle.stack_run.proofs.StageLemmas.{all-ran-so, all-ran-lost, some-ran-so, by-name}
+use Rattle.stack_run.proofs.StageLemmas.{all-ran-so, all-ran-lost, all-ran-gone, some-ran-so, by-name}
 use Rattle.stack_run.proofs.WantedLemmas.{none-wanted}
 
 -- an image that was not touched
@@ -247,11 +247,32 @@ module _ (plans : List DiskPlan) (ws : List Wanted) (before after : List Device)
   takes-quiet (u ∷ us) [] m m' points = absurd points
   takes-quiet (u ∷ us) (d ∷ ds) m m' points = (points.0.quiet, takes-quiet us ds m m' points.1)
 
-  pub memory-after : (s : Bool) → RanSomeOfAll plans before after → Chain (PutsOr s) ws after mid at' → MemoryLeaves plans at at'
-  memory-after s ran puts = record {
-    images = inr (inr (some-ran-so plans before after s at mid at' takes-all ran (subst (λ l. Points (PutsOr s) l after mid at') same (chain-points (PutsOr s) ws after mid at' apart puts))));
-    others = changes-among plans ws at at' same (others-so s ws before after at mid at' apart took puts);
-  }
+  puts-all : (s : Bool) → Chain (PutsOr s) ws after mid at' → Points (PutsOr s) (wanted_of plans) after mid at'
+  puts-all s puts = subst (λ l. Points (PutsOr s) l after mid at') same (chain-points (PutsOr s) ws after mid at' apart puts)
+
+  -- the lines stop short
+  pub memory-after : (s : Bool) → RunsStop plans before after → Chain (PutsOr s) ws after mid at' → MemoryLeaves plans at at'
+  memory-after s stop puts =
+      let (whole, part) = some-ran-so stop.ran stop.left before after s at mid at' (subst (λ (l : List DiskPlan). Points Takes (wanted_of l) before at mid) stop.are takes-all) stop.media (subst (λ (l : List DiskPlan). Points (PutsOr s) (wanted_of l) after mid at') stop.are (puts-all s puts)) in
+      record {
+        images = inr (inr (inl (record { ran = stop.ran; left = stop.left; are = stop.are; some = stop.some; whole = whole; part = part })));
+        others = changes-among plans ws at at' same (others-so s ws before after at mid at' apart took puts);
+      }
+
+  -- memory ran out in putting an image back
+  pub spent-after : (runs : List Run) → RanAll plans before after runs → Chain (PutsOr true) ws after mid at' → SpentAmong ws mid at' → MemoryLeaves plans at at'
+  spent-after runs ran puts spent =
+      let taken : AllByRecursion (λ w. (d : Device) × Takes w d (at w.image) (mid w.image)) ws = some-taken ws before at mid (chain-points Takes ws before at mid apart took) in
+      let (d, here) = (all-back (λ w. (d : Device) × Takes w d (at w.image) (mid w.image)) spent.before (spent.want ∷ spent.after) (subst (AllByRecursion (λ w. (d : Device) × Takes w d (at w.image) (mid w.image))) spent.is taken)).0 in
+      record {
+        images = inr (inr (inr (record {
+          ran = all-ran-gone plans before after runs true at mid at' takes-all ran (puts-all true puts);
+          spent = spent.want.image;
+          lost = lost-place _ _ _ spent.want.size spent.want.cached d spent.d.kept NotRun.Memory here.taking spent.puts.place;
+          quiet = spent.puts.cause.quiet (λ is. cc) ∙ here.quiet;
+        })));
+        others = changes-among plans ws at at' same (others-so true ws before after at mid at' apart took puts);
+      }
 
   module _ (around : PutsAround ws after place mid at') where
     abbrev stops : PuttingStops ws after around.left place NotRun.Image mid around.mid
@@ -317,15 +338,15 @@ module _ (plans : List DiskPlan) (ws : List Wanted) (before after : List Device)
       });
     }
 
-pub putting-ends : (plans : List DiskPlan) (ws : List Wanted) (before after : List Device) (place : ℕ) (fault : NotRun) (at mid at' : Names) (runs : List Run) → ws ≡ wanted_of plans → AreApart ws → Chain Takes ws before at mid → RanAll plans before after runs → RanSomeOfAll plans before after
+pub putting-ends : (plans : List DiskPlan) (ws : List Wanted) (before after : List Device) (place : ℕ) (fault : NotRun) (at mid at' : Names) (runs : List Run) → ws ≡ wanted_of plans → AreApart ws → Chain Takes ws before at mid → RanAll plans before after runs
     → PutEnds fault ws after place mid at' → RunStops fault plans ws place at at'
-putting-ends plans ws before after place NotRun.Image at mid at' runs same apart took ran some ends = not-put-back plans ws before after place at mid at' same apart took ends runs ran
-putting-ends plans ws before after place NotRun.Memory at mid at' runs same apart took ran some ends = memory-after plans ws before after place at mid at' same apart took true some ends
+putting-ends plans ws before after place NotRun.Image at mid at' runs same apart took ran ends = not-put-back plans ws before after place at mid at' same apart took ends runs ran
+putting-ends plans ws before after place NotRun.Memory at mid at' runs same apart took ran ends = spent-after plans ws before after place at mid at' same apart took runs ran ends.0 ends.1
 
 -- the calls that were made, whatever the fault
 pub putting-calls : (plans : List DiskPlan) (ws : List Wanted) (before after : List Device) (place : ℕ) (fault : NotRun) (at mid at' : Names) → ws ≡ wanted_of plans → AreApart ws → Chain Takes ws before at mid → PutEnds fault ws after place mid at' → (s : Bool) × Chain (PutsOr s) ws after mid at'
 putting-calls plans ws before after place NotRun.Image at mid at' same apart took ends = (false, whole plans ws before after place at mid at' same apart took ends)
-putting-calls plans ws before after place NotRun.Memory at mid at' same apart took ends = (true, ends)
+putting-calls plans ws before after place NotRun.Memory at mid at' same apart took ends = (true, ends.0)
 
 -- all were put back
 pub put-calls : (ws : List Wanted) (ds : List Device) (at at' : Names) → Chain PutsBack ws ds at at' → Chain (PutsOr false) ws ds at at'

@@ -155,4 +155,4 @@ pub record PutsAround (wanted : List Wanted) (devices : List Device) (place : �
 -- not all media were put back: this one first, or memory ran out for some
 abbrev pub PutEnds : NotRun → List Wanted → List Device → ℕ → (List ℕ → Image) → (List ℕ → Image) → Type 0
 PutEnds NotRun.Image wanted devices place at at' = PutsAround wanted devices place at at'
-PutEnds NotRun.Memory wanted devices place at at' = Chain (PutsOr true) wanted devices at at'
+PutEnds NotRun.Memory wanted devices place at at' = Chain (PutsOr true) wanted devices at at' × SpentAmong wanted at at'

@@ -8,7 +8,7 @@ use Rattle.image_store.specs.Place.{Image}
 use Rattle.script_text.specs.declared.language.plans.DiskPlan.{DiskPlan}
 use Rattle.script_text.specs.declared.language.refusal.Reason.{Reason}
 use Rattle.script_text.specs.declared.language.refusal.Reason.TheVariants as why
-use Rattle.stack_run.specs.Simple.{said_of}
+use Rattle.stack_run.specs.Said.{said_of}
 use Rattle.stack_run.specs.declared.refusal.Refusal.{Refusal}
 use Rattle.stack_run.specs.declared.refusal.Refusal.TheVariants.{Words, Script, Image as ImageOf, Source, Memory}
 use Rattle.stack_run.specs.declared.refusal.Unserved.{Unserved}

@@ -6,7 +6,7 @@ use Rattle.script_text.specs.declared.language.reader.ScriptReader.{ScriptReader
 use Rattle.script_text.specs.Fed.{WasFed}
 use Rattle.stack_run.specs.declared.reading.NotRead.{NotRead}
 use Rattle.stack_run.specs.declared.reading.NotRead.TheVariants.{Failed, Refused, Memory}
-use Rattle.stack_run.specs.Simple.{said_of}
+use Rattle.stack_run.specs.Said.{said_of}
 
 -- the most bytes of a source that are read: 4 MiB and one byte, one more than a script may have
 abbrev pub most_read_bytes : ℕ

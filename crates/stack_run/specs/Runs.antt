@@ -1,35 +1,45 @@
 -- What the lines of a disk do to its media (own profile). What a run is stands here alone: `RanPlain` and `RanInPart`.
-use Rattle.std.specs.Prelude.{◌≡◌, ℕ, suc, ◌+◌, ◌*◌, ◌^◌, ◌<◌, List, [], ◌∷◌, ◌++◌, length, map, slice_get, Option, Some}
+use Rattle.std.specs.Prelude.{◌≡◌, ℕ, suc, ◌+◌, ◌*◌, ◌^◌, ◌<◌, ◌⊎◌, true, List, [], ◌∷◌, ◌++◌, length, map, slice_get, Option, Some}
 use Rattle.std.specs.List.{AllByRecursion}
 use Rattle.medium.specs.Device.{Device}
 use Rattle.history.specs.declared.entry.Entry.{Entry}
+use Rattle.history.specs.declared.order.Order.{Order}
 use Rattle.history.specs.Setup.{Setup, opening_of}
 use Rattle.history.specs.Rules.{IsLegal}
-use Rattle.history.specs.Room.{faults}
 use Rattle.disk_core.specs.State.{opening_from}
 use Rattle.disk_core.specs.Facts.{MeetsEra}
+use Rattle.shared_disk.specs.Lines.{Role}
+use Rattle.shared_disk.specs.Script.{next_order, places_at, KeepsScript, RunsWholeScript}
+use Rattle.shared_disk.specs.Desk.{wants_memory}
+use Rattle.device_workers.specs.Serving.{IsPlain, IsFaultlessPlain, IsPlainFront}
 use Rattle.script_text.specs.declared.language.plans.DiskPlan.{DiskPlan}
-use Rattle.script_text.specs.declared.language.plans.ClientPlan.{ClientPlan}
 use Rattle.script_text.specs.Report.{givens_of, AreEnds, AreGiven}
 use Rattle.stack_run.specs.declared.desk_run.Run.{Run}
 use Rattle.stack_run.specs.Media.{groups_of}
-use Rattle.stack_run.specs.Plain.{outcomes_of, plain_history}
+use Rattle.stack_run.specs.Clients.{roles_in, script_in}
 
--- a legal history that begins with the opening one and is the plain run of the disk's client with its own outcomes, of the
--- lines alone where no command failed; and this is what its reads gave
+-- a legal history that begins with the opening one and runs the whole script of the disk's clients by the plain schedule, with its own
+-- outcomes, of the lines alone where no command failed; and this is what its reads gave
 pub record RanPlain (plan : DiskPlan) (S : Setup) (opening H : List Entry) (given : List (Option (List ℕ))) : Type 0 where
   pub begins : opening ≡ []
   pub legal : IsLegal S H
-  pub client : ClientPlan
-  pub alone : plan.clients ≡ client ∷ []
-  pub plain : H ≡ plain_history S client.orders (outcomes_of H)
-  pub faultless : faults H ≡ 0 → H ≡ plain_history S client.orders []
+  pub whole : RunsWholeScript S (script_in plan opening) H
+  pub plain : IsPlain S (script_in plan opening) H
+  pub faultless : IsFaultlessPlain S (script_in plan opening) H
   pub reads : AreGiven S H given
 
--- what want of memory leaves of it
+-- some client's next line may want memory, where they have done so many lines
+abbrev pub IsShort : List Role → List (List ℕ) → Type 0
+IsShort roles places = (i : ℕ) × (order : Order) × (next_order roles i (length (places_at places i)) ≡ Some order) × (wants_memory order ≡ true)
+
+-- what want of memory leaves of it: a front of a plain run, which keeps the script; nothing was done, or a line that is left may want memory
 pub record RanInPart (plan : DiskPlan) (S : Setup) (opening H : List Entry) : Type 0 where
   pub begins : opening ≡ []
   pub legal : IsLegal S H
+  pub places : List (List ℕ)
+  pub keeps : KeepsScript S (script_in plan opening) places H
+  pub front : IsPlainFront S (script_in plan opening) H
+  pub short : (H ≡ []) ⊎ IsShort (roles_in plan.clients) places
 
 -- the setup of a disk over these media
 abbrev pub setup_over : DiskPlan → List Device → Setup
@@ -95,8 +105,24 @@ RanAll (plan ∷ plans) before after (run ∷ runs) =
     (own : List Device) × (own' : List Device) × (rest : List Device) × (rest' : List Device)
     × IsSplit before after own own' rest rest' × RanDisk plan own own' run × RanAll plans rest rest' runs
 
-unfoldable pub RanSomeOfAll : List DiskPlan → List Device → List Device → Type 0
-RanSomeOfAll [] before after = (before ≡ []) × (after ≡ [])
-RanSomeOfAll (plan ∷ plans) before after =
+-- each of these disks ran in part, or not at all
+unfoldable pub AllInPart : List DiskPlan → List Device → List Device → Type 0
+AllInPart [] before after = (before ≡ []) × (after ≡ [])
+AllInPart (plan ∷ plans) before after =
     (own : List Device) × (own' : List Device) × (rest : List Device) × (rest' : List Device)
-    × IsSplit before after own own' rest rest' × RanSome plan own own' × RanSomeOfAll plans rest rest'
+    × IsSplit before after own own' rest rest' × RanSome plan own own' × AllInPart plans rest rest'
+
+-- the first of them ran to their end, and those that are left in part
+unfoldable pub RanSomeOfAll : List DiskPlan → List DiskPlan → List Device → List Device → Type 0
+RanSomeOfAll [] left before after = AllInPart left before after
+RanSomeOfAll (plan ∷ plans) left before after =
+    (own : List Device) × (own' : List Device) × (rest : List Device) × (rest' : List Device)
+    × IsSplit before after own own' rest rest' × ((run : Run) × RanDisk plan own own' run) × RanSomeOfAll plans left rest rest'
+
+-- the first disks ran to their end, and the others in part or not at all; there is one of these where there is a disk
+pub record RunsStop (plans : List DiskPlan) (before after : List Device) : Type 0 where
+  pub ran : List DiskPlan
+  pub left : List DiskPlan
+  pub are : plans ≡ ran ++ left
+  pub some : left ≡ [] → ran ≡ []
+  pub media : RanSomeOfAll ran left before after

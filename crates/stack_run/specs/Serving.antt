@@ -96,10 +96,26 @@ pub record NotTakenSpent (at at' : List ℕ → Image) : Type 0 where
   pub lost : IsLostPlace (at spent).place (at' spent).place
   pub quiet : (at' spent).faults ≡ (at spent).faults
 
--- what want of memory leaves: all images where they were or lost, but for one that could not be taken; or as parts of the disks' runs
--- left them
+-- the first disks ran to their end, and the others in part or not at all; there is one of these where there is a disk
+pub record StopsShort (plans : List DiskPlan) (at at' : List ℕ → Image) : Type 0 where
+  pub ran : List DiskPlan
+  pub left : List DiskPlan
+  pub are : plans ≡ ran ++ left
+  pub some : left ≡ [] → ran ≡ []
+  pub whole : AllByRecursion (λ plan. HasRun IsLeftOrGone plan at at') ran
+  pub part : AllByRecursion (λ plan. HasRunInPart plan at at') left
+
+-- all disks ran to their end, and memory ran out in putting an image back
+pub record NotPutSpent (plans : List DiskPlan) (at at' : List ℕ → Image) : Type 0 where
+  pub ran : AllByRecursion (λ plan. HasRun IsLeftOrGone plan at at') plans
+  pub spent : List ℕ
+  pub lost : IsLostPlace (at spent).place (at' spent).place
+  pub quiet : (at' spent).faults ≡ (at spent).faults
+
+-- what want of memory leaves: all images where they were or lost, but for one that could not be taken; or as the disks' runs left them,
+-- of which one stops short, or all are whole and an image was lost
 pub record MemoryLeaves (plans : List DiskPlan) (at at' : List ℕ → Image) : Type 0 where
-  pub images : ((name : List ℕ) → IsBackOrGone (at name) (at' name)) ⊎ (NotTakenSpent at at' ⊎ AllByRecursion (λ plan. HasRunInPart plan at at') plans)
+  pub images : ((name : List ℕ) → IsBackOrGone (at name) (at' name)) ⊎ (NotTakenSpent at at' ⊎ (StopsShort plans at at' ⊎ NotPutSpent plans at at'))
   pub others : ChangesAmong (images_of plans) at at'
 
 -- some wanted image has not the blocks that it has to have

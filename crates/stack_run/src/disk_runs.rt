@@ -1,9 +1,10 @@
-ghost use Rattle.std.specs.Prelude.{◌≡◌, ◌≤◌, ◌+◌, ◌++◌, ◌∷◌, [], Some, All, map, take, drop, vec_len, vec_capacity, length, IfOk, IfSome, OnOk, OnErr};
+ghost use Rattle.std.specs.Prelude.{◌≡◌, ◌≤◌, ◌+◌, ◌++◌, [], None, All, map, take, drop, vec_len, vec_capacity, length, IfOk, IfSome, OnErr};
 ghost use Rattle.script_text.specs.Fitting.{IsDiskPlan, AreDisks};
-ghost use Rattle.stack_run.specs.Simple.{IsSimpleDisk, AreSimpleDisks};
+ghost use Rattle.script_text.specs.Limits.{most_script_bytes};
+ghost use Rattle.script_text.specs.Planned.{disk_lines, planned_lines};
 ghost use Rattle.stack_run.specs.Media.{wanted_of};
 ghost use Rattle.stack_run.specs.Chains.{AreMade, IsMediumOf};
-ghost use Rattle.stack_run.specs.Runs.{RanDisk, RanSome, RanAll, RanSomeOfAll};
+ghost use Rattle.stack_run.specs.Runs.{RanDisk, RanSome, RanAll, RunsStop};
 
 use crate::desk_run::{Run, run_desk};
 use drive::Drive;
@@ -14,12 +15,14 @@ use std::alloc::{AllocError, Global};
 // Runs the lines of a disk over its media, and gives them back. None is want of memory.
 fn run_disk<M: Medium>(alloc: Global, plan: &DiskPlan, media: Vec<M>) -> (Vec<M>, Option<Run>)
     requires disk { IsDiskPlan plan.now }
-    requires simple { IsSimpleDisk plan.now }
+    requires lines { disk_lines plan.now ≤ most_script_bytes }
     requires count { length media.items ≡ length plan.now.spares + 1 }
     requires made { All (λ m. IsMediumOf plan.now (M.device m)) media.items }
     ensures over { IfSome result.1 (λ run. RanDisk plan.now (map M.device media.items)
         (map M.device result.0.items) run) }
-    ensures some { RanSome plan.now (map M.device media.items) (map M.device result.0.items) }
+    ensures some { result.1 ≡ None → RanSome plan.now (map M.device media.items)
+        (map M.device result.0.items) }
+    ensures back { length result.0.items ≡ length media.items }
 {
     let drive = Drive::make(media, plan.cached, plan.protected, plan.physical);
     run_desk(alloc, plan, drive)
@@ -53,34 +56,26 @@ fn add_back<M>(all: &mut Vec<M>, mut more: Vec<M>)
     }
 }
 
-// Adds a run at the end. The error is that there is none, or want of memory.
-fn add_run(runs: &mut Vec<Run>, run: Option<Run>) -> Result<(), AllocError>
-    ensures { OnOk result ((one : Run) × (run ≡ Some one) ×
-        (runs.new.items ≡ runs.old.items ++ one ∷ [])) }
-{
-    match run {
-        Some(run) => {
-            runs.push(run)?;
-            Ok(())
-        }
-        None => Err(AllocError),
-    }
-}
-
-// Runs the lines of all disks over their media, disk by disk, and gives the media back in their order. None is want of memory.
+// Runs the lines of all disks over their media, disk by disk, and gives the media back in their order. None is want of
+// memory: the first disks ran to their end, and the next one not.
 pub fn run_disks<M: Medium>(
     alloc: Global,
     plans: &[DiskPlan],
     mut media: Vec<M>,
 ) -> (Vec<M>, Option<Vec<Run>>)
     requires disks { AreDisks plans.now }
-    requires simple { AreSimpleDisks plans.now }
+    requires lines { planned_lines plans.now ≤ most_script_bytes }
     requires made { AreMade (wanted_of plans.now) (map M.device media.items) }
     ensures over { IfSome result.1 (λ runs. RanAll plans.now (map M.device media.items)
         (map M.device result.0.items) runs.items) }
-    ensures some { RanSomeOfAll plans.now (map M.device media.items) (map M.device result.0.items) }
+    ensures some { result.1 ≡ None → RunsStop plans.now (map M.device media.items)
+        (map M.device result.0.items) }
+    ensures back { length result.0.items ≡ length media.items }
 {
-    let mut runs = Vec::new(alloc);
+    let mut runs = match Vec::with_capacity(alloc, plans.len()) {
+        Ok(runs) => runs,
+        Err(_) => return (media, None),
+    };
     let mut done = match Vec::with_capacity(alloc, media.len()) {
         Ok(done) => done,
         Err(_) => return (media, None),
@@ -95,9 +90,9 @@ pub fn run_disks<M: Medium>(
         };
         let (own, run) = run_disk(alloc, plan, own);
         add_back(&mut done, own);
-        match add_run(&mut runs, run) {
-            Ok(()) => {}
-            Err(_) => {
+        match run {
+            Some(run) => runs.push_reserved(run),
+            None => {
                 add_back(&mut done, media);
                 return (done, None);
             }

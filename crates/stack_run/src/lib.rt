@@ -1,12 +1,12 @@
 //! What a script does to its disks.
 #![tactic(auto)]
 
+mod clients;
 mod desk_run;
 mod disk_runs;
+mod end_lines;
 mod exit;
 mod generator;
-mod kept_tokens;
-mod plain_run;
 mod program;
 mod putting;
 mod reading;
@@ -20,7 +20,6 @@ mod wanted;
 
 pub use exit::end_program;
 pub use generator::generate;
-pub use plain_run::run_lines;
 pub use program::run_plain;
 
 #[cfg(test)]

@@ -3,7 +3,8 @@ ghost use Rattle.medium.specs.Counts.{Rose};
 ghost use Rattle.image_store.specs.Edge.{Appends};
 ghost use Rattle.image_store.specs.Place.{IsFree};
 ghost use Rattle.script_text.specs.Fitting.{AreDisks, FitTogether};
-ghost use Rattle.stack_run.specs.Simple.{AreSimpleDisks};
+ghost use Rattle.script_text.specs.Limits.{most_script_bytes};
+ghost use Rattle.script_text.specs.Planned.{planned_lines};
 ghost use Rattle.stack_run.specs.Serving.{Served, LacksImage};
 ghost use Rattle.stack_run.specs.Program.{is_plain, refusal_text, WritesRefusal, ScriptRefused, OfScript, ImageFailed, SinkFailed, ServingRanOut, MemoryRanOut, IsToldRefused, IsToldLacking, IsToldServable, IsNoRise, IsServingStatus};
 
@@ -29,7 +30,7 @@ fn is_plain_run(words: &[String]) -> bool
 // Serves the disks of a script.
 fn run_script<I: Images, O: Sink>(alloc: Global, script: &Script, images: &mut I, out: &mut O) -> u8
     requires free { (name : List ℕ) → IsFree (I.at images.old name).place }
-    requires simple { AreSimpleDisks script.now.disks }
+    requires lines { planned_lines script.now.disks ≤ most_script_bytes }
     requires fit { AreDisks script.now.disks }
     requires together { FitTogether script.now.disks }
     ensures done { result ≡ 0 → Served script.now.disks (I.at images.old) (I.at images.new)

@@ -1,11 +1,11 @@
-ghost use Rattle.std.specs.Prelude.{◌≡◌, ◌<◌, ◌≤◌, true, IfOk, IfErr};
-ghost use Rattle.std.specs.List.{list_all};
+ghost use Rattle.std.specs.Prelude.{◌≡◌, ◌<◌, ◌≤◌, IfOk, IfErr};
 ghost use Rattle.image_store.specs.Edge.{Takes, HasCause, HasCauseOf};
 ghost use Rattle.script_text.specs.Fitting.{AreDisks, FitTogether};
+ghost use Rattle.script_text.specs.Limits.{most_script_bytes};
+ghost use Rattle.script_text.specs.Planned.{planned_lines};
 ghost use Rattle.stack_run.specs.Reading.{FedBy, IsScript, SaysWhy};
-ghost use Rattle.stack_run.specs.Simple.{brings_simply, is_simple_request, is_simple_order, is_simple_client, are_simple_clients, is_simple_disk, is_simple, AreSimpleDisks};
+ghost use Rattle.stack_run.specs.Said.{first_part_in, first_part};
 
-use history::{Kind, Order, Payload, UnitKind};
 use image_store::{Failed, Source};
 use script_text::{
     ClientPlan, DiskPlan, Reason, SCRIPT_BYTES, Script, ScriptReader, ScriptRefused,
@@ -76,13 +76,37 @@ pub fn feed_source<R: Source>(alloc: Global, source: &mut R) -> Result<ScriptRea
     Ok(reader)
 }
 
-// Reads a script that this version runs. It is refused only once the source was read out.
+// The line of the first client on a partition. None where each is on the whole of its disk.
+fn first_part_in(clients: &[ClientPlan]) -> Option<u64>
+    ensures { result ≡ first_part_in clients.now }
+{
+    for client in clients {
+        if client.part.is_some() {
+            return Some(client.line);
+        }
+    }
+    None
+}
+
+// So of all disks.
+fn first_part(disks: &[DiskPlan]) -> Option<u64>
+    ensures { result ≡ first_part disks.now }
+{
+    for disk in disks {
+        if let Some(line) = first_part_in(disk.clients.as_slice()) {
+            return Some(line);
+        }
+    }
+    None
+}
+
+// Reads a script whose clients are on the whole of their disks. It is refused only once the source was read out.
 pub fn read_source<R: Source>(alloc: Global, source: &mut R) -> Result<Script, NotRead>
     ensures script { IfOk result (λ script.
         IsScript (R.left source.old) (R.left source.new) script.disks) }
     ensures fit { IfOk result (λ script. AreDisks script.disks) }
     ensures together { IfOk result (λ script. FitTogether script.disks) }
-    ensures simple { IfOk result (λ script. AreSimpleDisks script.disks) }
+    ensures lines { IfOk result (λ script. planned_lines script.disks ≤ most_script_bytes) }
     ensures refused { IfErr result (SaysWhy (R.left source.old) (R.left source.new)) }
     ensures cause { HasCauseOf NotRead.Failed (R.faults source.old) (R.faults source.new) result }
 {
@@ -92,101 +116,14 @@ pub fn read_source<R: Source>(alloc: Global, source: &mut R) -> Result<Script, N
         Err(ReadFault::Memory) => return Err(NotRead::Memory),
     };
     match reader.finish() {
-        Ok(script) => {
-            if is_simple(&script) {
-                Ok(script)
-            } else {
-                Err(NotRead::Refused {
-                    line: 0,
-                    reason: Reason::Order,
-                })
-            }
-        }
+        Ok(script) => match first_part(script.disks.as_slice()) {
+            None => Ok(script),
+            Some(line) => Err(NotRead::Refused {
+                line,
+                reason: Reason::Part,
+            }),
+        },
         Err(ScriptRefused::Fault { line, reason }) => Err(NotRead::Refused { line, reason }),
         Err(ScriptRefused::Memory) => Err(NotRead::Memory),
-    }
-}
-
-// Whether this version runs the script.
-fn is_simple(script: &Script) -> bool
-    ensures { result ≡ is_simple script.now.disks }
-{
-    script
-        .disks
-        .as_slice()
-        .iter()
-        .all(|disk| is_simple_disk(disk))
-}
-
-fn is_simple_disk(disk: &DiskPlan) -> bool
-    ensures { result ≡ is_simple_disk disk.now }
-{
-    are_simple_clients(disk.clients.as_slice())
-}
-
-fn are_simple_clients(clients: &[ClientPlan]) -> bool
-    ensures { result ≡ are_simple_clients clients.now }
-{
-    match clients {
-        [client] => is_simple_client(client),
-        _ => false,
-    }
-}
-
-fn is_simple_client(client: &ClientPlan) -> bool
-    ensures { result ≡ is_simple_client client.now }
-{
-    client.part.is_none() && are_simple_orders(client.orders.as_slice())
-}
-
-fn are_simple_orders(orders: &[Order]) -> bool
-    ensures { result ≡ list_all is_simple_order orders.now }
-{
-    orders.iter().all(|order| is_simple_order(order))
-}
-
-fn is_simple_order(order: &Order) -> bool
-    ensures { result ≡ is_simple_order order.now }
-{
-    match order {
-        Order::Request {
-            asked,
-            payload,
-            media_id,
-        } => is_simple_request(asked.kind, asked.unit, payload) && *media_id == 1,
-        Order::Wait => true,
-        Order::Cancel { .. } => false,
-        Order::Reset => false,
-        Order::Eject => false,
-        Order::Insert => false,
-        Order::Protect { .. } => false,
-    }
-}
-
-fn is_simple_request(kind: Kind, unit: UnitKind, payload: &Payload) -> bool
-    ensures { result ≡ is_simple_request kind unit payload.now }
-{
-    match unit {
-        UnitKind::Blocks => false,
-        UnitKind::Bytes => brings_simply(kind, payload),
-    }
-}
-
-fn brings_simply(kind: Kind, payload: &Payload) -> bool
-    ensures { result ≡ brings_simply kind payload.now }
-{
-    match kind {
-        Kind::Read => match payload {
-            Payload::Given(_) => false,
-            Payload::Fill(_) => false,
-            Payload::Nothing => true,
-        },
-        Kind::Write => match payload {
-            Payload::Given(_) => true,
-            Payload::Fill(_) => true,
-            Payload::Nothing => false,
-        },
-        Kind::Flush => false,
-        Kind::Erase => false,
     }
 }

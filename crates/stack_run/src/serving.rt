@@ -1,8 +1,9 @@
-ghost use Rattle.std.specs.Prelude.{◌≡◌, ℕ, List, if◌then◌else◌, IfOk, IfErr, IsErr, OnOk};
+ghost use Rattle.std.specs.Prelude.{◌≡◌, ◌≤◌, ℕ, List, if◌then◌else◌, IfOk, IfErr, IsErr, OnOk};
 ghost use Rattle.image_store.specs.Edge.{Appends};
 ghost use Rattle.image_store.specs.Place.{IsFree};
 ghost use Rattle.script_text.specs.Fitting.{AreDisks, FitTogether, images_of};
-ghost use Rattle.stack_run.specs.Simple.{AreSimpleDisks};
+ghost use Rattle.script_text.specs.Limits.{most_script_bytes};
+ghost use Rattle.script_text.specs.Planned.{planned_lines};
 ghost use Rattle.stack_run.specs.Media.{wanted_of, ChangesAmong};
 ghost use Rattle.stack_run.specs.Serving.{Served, LacksImage};
 ghost use Rattle.stack_run.specs.Stages.{AllRan, RunStops};
@@ -40,7 +41,7 @@ fn run_images<I: Images>(
 ) -> Result<Vec<Run>, Stopped>
     requires wanted { wanted.now ≡ wanted_of plans.now }
     requires disks { AreDisks plans.now }
-    requires simple { AreSimpleDisks plans.now }
+    requires lines { planned_lines plans.now ≤ most_script_bytes }
     requires together { FitTogether plans.now }
     requires free { (name : List ℕ) → IsFree (I.at images.old name).place }
     ensures ran { IfOk result (λ runs. AllRan plans.now (I.at images.old)
@@ -93,7 +94,7 @@ pub fn serve<I: Images, O: Sink>(
 ) -> Result<(), Unserved>
     requires wanted { wanted.now ≡ wanted_of plans.now }
     requires disks { AreDisks plans.now }
-    requires simple { AreSimpleDisks plans.now }
+    requires lines { planned_lines plans.now ≤ most_script_bytes }
     requires together { FitTogether plans.now }
     requires free { (name : List ℕ) → IsFree (I.at images.old name).place }
     ensures served { OnOk result (Served plans.now (I.at images.old) (I.at images.new) (Appends

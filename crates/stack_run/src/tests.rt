@@ -2,12 +2,14 @@ ghost use Rattle.std.specs.Prelude.{ℕ, List, IfOk, OnOk};
 ghost use Rattle.image_store.specs.Place.{IsFree};
 ghost use Rattle.image_store.specs.Slots.{images_at};
 
+mod clients;
 mod disks;
 mod generated;
 mod refusals;
 mod rows;
 
 use crate::run_plain;
+use clients::CLIENTS;
 use disks::DISKS;
 use image_store::{MemImages, MemSink, MemSource};
 use medium::Planned;
@@ -202,6 +204,44 @@ fn tells_faults_of_the_medium(rt: HostRuntime) -> Result<(), Fail> {
 #[test]
 fn runs_disks(rt: HostRuntime) -> Result<(), Fail> {
     compare_all(&rt, rt.alloc(), &DISKS)?;
+    Ok(())
+}
+
+#[test]
+fn runs_clients(rt: HostRuntime) -> Result<(), Fail> {
+    compare_all(&rt, rt.alloc(), &CLIENTS)?;
+    Ok(())
+}
+
+// The head of the report of clients each of which has one line, the lines of their refusals, and its last line.
+fn refusals_of(alloc: Global, clients: u32) -> Result<String, AllocError> {
+    let mut text = String::from_str(alloc, "disk 1 a.img size 512 blocks 2\n")?;
+    for place in 0..clients {
+        let client = place as u64 + 1;
+        let line = format!(in alloc;
+            "{place} refuse {client} 0+1024@1/0 read bytes 1025 0 1 EFI_INVALID_PARAMETER\n"
+        )?;
+        text.push_str(line.as_str())?;
+    }
+    text.push_str("medium 1 a.img kept 1024\n")?;
+    Ok(text)
+}
+
+// As many clients as a disk may have, each with one line that is refused.
+const CROWD: Given = Given {
+    script: "disk a.img 512 1\n*",
+    star: "client\nread 1025 0\n",
+    times: 64,
+    ..FIRST
+};
+
+#[test]
+fn serves_as_many_clients_as_may_be(rt: HostRuntime) -> Result<(), Fail> {
+    let alloc = rt.alloc();
+    let ran = run(alloc, &CROWD, &[])?;
+    assert_eq!(rt; ran.status, 0);
+    let report = refusals_of(alloc, 64)?;
+    assert_eq!(rt; ran.sink.bytes(), report.as_bytes());
     Ok(())
 }
 

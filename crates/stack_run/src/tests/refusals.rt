@@ -40,11 +40,11 @@ pub const REFUSALS: [Row; 16] = [
     },
     Row {
         given: Given {
-            script: "disk a.img 512 1\nclient\nflush\n",
+            script: "disk a.img 512 1\nclient part 1\nwrite 0 aa\n",
             ..FIRST
         },
         status: 2,
-        written: "script 0 order\n",
+        written: "script 2 part\n",
         left: UNCHANGED,
     },
     Row {

@@ -1,40 +1,87 @@
-use Rattle.std.proofs.Common.{◌<◌, ◌∙◌, ap, sym, subst, map, arith}
-use Rattle.block_gate.specs.Gates.{Gates, idle_gates}
+use Rattle.std.proofs.Common.{◌≡◌, ◌∙◌, [], refl, ap, sym, subst, map, length, arith}
+use Rattle.std.proofs.lemmas.List.{length-map}
+use Rattle.std.proofs.lemmas.Option.{slice_get-get_or}
+use Rattle.history.specs.Setup.{Setup}
+use Rattle.block_gate.specs.Gates.{idle_gates}
+use Rattle.disk_core.specs.State.{State, setup_of, opening_from}
+use Rattle.disk_core.specs.Turns.{IsIdle}
+use Rattle.shared_disk.specs.Desk.{DeskState}
 use Rattle.stack_run.specs.Runs.{RanSomeOver}
-use Rattle.disk_core.specs.State.{setup_of}
-use Rattle.stack_run.proofs.OneDisk.{first-client}
-use Rattle.stack_run.proofs.RanLemmas.{none-ran, some-ran, all-ran, plain-ran, plain-here, alone-client, over-of, all-fit}
+use Rattle.stack_run.proofs.ClientLemmas.{clients-fit}
+use Rattle.stack_run.proofs.RanLemmas.{none-ran, no-line-ran, all-fit}
+use Rattle.stack_run.proofs.DeskRuns.{new-setup, tokens-fit, slots-kept, media-count, stopped, finished}
 use Rattle.stack_run.proofs.desk_run.run_desk.Goals as goal
 
 pub returns-in-Err-clause-some : goal.returns-in-Err-clause-some
-returns-in-Err-clause-some g c =
-    subst (λ l. RanSomeOver c.args.plan.now (setup_of g.M.Medium.device c.args.drive c.args.drive.protected) (map g.M.Medium.device l)) (sym (c.into_media.ensures ∙ ap (λ d. d.media) c.in-Err.ensures.back))
+returns-in-Err-clause-some g c none =
+    subst (λ l. RanSomeOver c.args.plan.now (setup_of g.M.Medium.device c.args.drive c.args.drive.protected) (map g.M.Medium.device l)) (sym c.into_media.ensures)
     (none-ran g.M.Medium.device c.args.drive c.requires.fit c.requires.fresh c.args.plan.now)
 
-pub run_lines-ran-requires-clause-set : goal.run_lines-ran-requires-clause-set
+pub returns-in-Err-make-clause-some : goal.returns-in-Err-make-clause-some
+returns-in-Err-make-clause-some g c none =
+    subst (λ l. RanSomeOver c.args.plan.now (setup_of g.M.Medium.device c.args.drive c.args.drive.protected) (map g.M.Medium.device l)) (sym (c.into_media-in-Err-make.ensures ∙ ap (λ d. d.media) c.in-Err-make.ensures.back))
+    (none-ran g.M.Medium.device c.args.drive c.requires.fit c.requires.fresh c.args.plan.now)
+
+pub make-requires-2-clause-clients : goal.make-requires-2-clause-clients
+make-requires-2-clause-clients g c = clients-fit c.args.plan.now c.in-Ok.supplies.clients.items c.in-Ok.ensures.clients c.requires.disk c.requires.lines
+
+pub returns-in-Err-make-2-clause-some : goal.returns-in-Err-make-2-clause-some
+returns-in-Err-make-2-clause-some g c none =
+    no-line-ran g.M.Medium.device _ _ c.into_media-media.result.0.items (ap (λ (s : State). s.setup) c.in-Err-make-2.ensures.disk ∙ c.in-Ok-make.ensures.setup) c.into_media-media.ensures.facts c.into_media-media.ensures.media c.into_media-media.ensures.count c.args.plan.now
+    (ap (λ (s : State). s.entries) c.in-Err-make-2.ensures.disk ∙ c.in-Ok-make.ensures.entries)
+
+pub returns-in-Err-make-2-clause-back : goal.returns-in-Err-make-2-clause-back
+unfolding setup_of
+returns-in-Err-make-2-clause-back g c =
+    c.into_media-media.ensures.count ∙ (ap (λ (s : State). length s.setup.media) c.in-Err-make-2.ensures.disk ∙ (ap (λ (T : Setup). length T.media) c.in-Ok-make.ensures.setup ∙ length-map c.args.drive.media (λ m. opening_from (g.M.Medium.device m))))
+
+pub plain-ran-requires-clause-idle : goal.plain-ran-requires-clause-idle
 unfolding idle_gates
-run_lines-ran-requires-clause-set g c = subst (λ (s : Gates). 0 < s.free) (sym c.in-Ok.ensures.gates) (omega arith)
+plain-ran-requires-clause-idle g c =
+    subst IsIdle (sym (ap (λ (s : DeskState). s.disk.gates) c.in-Ok-make-2.ensures.desk ∙ c.in-Ok-make.ensures.gates)) (record { held = refl; gone = refl; free = omega arith })
 
-pub run_lines-ran-requires-clause-orders : goal.run_lines-ran-requires-clause-orders
-run_lines-ran-requires-clause-orders g c =
-    rw c.as_slice-2.ensures (first-client _ c.args.plan.now.clients c.index-as_slice-0.result c.requires.simple c.requires.disk.clients (rw c.as_slice.ensures at c.index-as_slice-0.is))
+pub returns-in-Ok-ran-clause-back : goal.returns-in-Ok-ran-clause-back
+unfolding setup_of
+returns-in-Ok-ran-clause-back g c =
+    media-count c.args.plan.now c.in-Ok-make.disk c.in-Ok.supplies.clients.items c.in-Ok-make-2.desk _ c.in-Ok-make-2.ensures.desk c.in-Ok.ensures.clients c.in-Ok-make.ensures.entries c.in-Ok-make.ensures.setup c.plain-ran.new.desk c.plain-ran.ensures.stays c.plain-ran.ensures.keeps
+    g.M.Medium.device c.into_media-media-2.result.0.items c.into_parts-disk.result.0 c.into_parts-disk.ensures.disk c.into_media-media-2.ensures.facts c.into_media-media-2.ensures.media c.into_media-media-2.ensures.count
+    ∙ length-map c.args.drive.media (λ m. opening_from (g.M.Medium.device m))
 
-pub returns-in-Ok-ran-clause-some : goal.returns-in-Ok-ran-clause-some
-returns-in-Ok-ran-clause-some g c =
-    some-ran g.M.Medium.device c.run_lines-ran.new.disk _ c.into_media-media.result.0.items (c.run_lines-ran.ensures.setup ∙ c.in-Ok.ensures.setup) c.into_media-media.ensures.facts c.into_media-media.ensures.media c.into_media-media.ensures.count c.args.plan.now
+pub returns-in-Err-ran-clause-back : goal.returns-in-Err-ran-clause-back
+unfolding setup_of
+returns-in-Err-ran-clause-back g c =
+    media-count c.args.plan.now c.in-Ok-make.disk c.in-Ok.supplies.clients.items c.in-Ok-make-2.desk _ c.in-Ok-make-2.ensures.desk c.in-Ok.ensures.clients c.in-Ok-make.ensures.entries c.in-Ok-make.ensures.setup c.plain-ran.new.desk c.plain-ran.ensures.stays c.plain-ran.ensures.keeps
+    g.M.Medium.device c.into_media-media-2.result.0.items c.into_parts-disk.result.0 c.into_parts-disk.ensures.disk c.into_media-media-2.ensures.facts c.into_media-media-2.ensures.media c.into_media-media-2.ensures.count
+    ∙ length-map c.args.drive.media (λ m. opening_from (g.M.Medium.device m))
 
-pub returns-in-Err-ran-clause-some : goal.returns-in-Err-ran-clause-some
-returns-in-Err-ran-clause-some g c =
-    some-ran g.M.Medium.device c.run_lines-ran.new.disk _ c.into_media-media.result.0.items (c.run_lines-ran.ensures.setup ∙ c.in-Ok.ensures.setup) c.into_media-media.ensures.facts c.into_media-media.ensures.media c.into_media-media.ensures.count c.args.plan.now
+pub fill_blocks-requires-clause-room : goal.fill_blocks-requires-clause-room
+unfolding setup_of
+fill_blocks-requires-clause-room g c =
+    let count = media-count c.args.plan.now c.in-Ok-make.disk c.in-Ok.supplies.clients.items c.in-Ok-make-2.desk _ c.in-Ok-make-2.ensures.desk c.in-Ok.ensures.clients c.in-Ok-make.ensures.entries c.in-Ok-make.ensures.setup c.plain-ran.new.desk c.plain-ran.ensures.stays c.plain-ran.ensures.keeps
+    g.M.Medium.device c.into_media-media-2.result.0.items c.into_parts-disk.result.0 c.into_parts-disk.ensures.disk c.into_media-media-2.ensures.facts c.into_media-media-2.ensures.media c.into_media-media-2.ensures.count
+    ∙ length-map c.args.drive.media (λ m. opening_from (g.M.Medium.device m)) in
+    omega (arith, ap length c.as_slice.ensures.value, count, c.requires.count, c.in-Ok.ensures.media)
+
+pub fill_lines-requires-clause-room : goal.fill_lines-requires-clause-room
+fill_lines-requires-clause-room g c =
+    let few = tokens-fit c.args.plan.now c.in-Ok-make.disk c.in-Ok.supplies.clients.items c.in-Ok-make-2.desk _ c.in-Ok-make-2.ensures.desk c.in-Ok.ensures.clients c.in-Ok-make.ensures.entries c.in-Ok-make.ensures.setup c.plain-ran.new.desk c.plain-ran.ensures.stays c.plain-ran.ensures.keeps in
+    omega (arith, few, ap Rattle.history.specs.Tokens.accepted (c.into_media-media-2.ensures.entries ∙ ap (λ (s : State). s.entries) c.into_parts-disk.ensures.disk), c.in-Ok.ensures.tokens)
+
+pub fill_lines-requires-clause-kept : goal.fill_lines-requires-clause-kept
+fill_lines-requires-clause-kept g c k d inside =
+    slots-kept c.args.plan.now c.in-Ok-make.disk c.in-Ok.supplies.clients.items c.in-Ok-make-2.desk _ c.in-Ok-make-2.ensures.desk c.in-Ok.ensures.clients c.in-Ok-make.ensures.entries c.in-Ok-make.ensures.setup c.plain-ran.new.desk c.plain-ran.ensures.stays c.plain-ran.ensures.keeps
+    c.in-Ok-ran.ensures.whole c.into_parts-disk.result.1.items c.into_parts-disk.ensures.slots c.into_parts-disk.ensures.buffers k _ (slice_get-get_or c.into_parts-disk.result.1.items k d inside)
 
 pub returns-in-Ok-ran-clause-over : goal.returns-in-Ok-ran-clause-over
 returns-in-Ok-ran-clause-over g c =
-    let setup = c.run_lines-ran.ensures.setup ∙ c.in-Ok.ensures.setup in
-    let alone = alone-client c.args.plan.now.clients c.index-as_slice-0.result c.requires.simple (rw c.as_slice.ensures at c.index-as_slice-0.is) in
-    let legal = plain-ran g.M.Medium.device c.run_lines-ran.new.disk _ c.into_media-media.result.0.items setup c.into_media-media.ensures.facts c.into_media-media.ensures.media c.into_media-media.ensures.count in
-    let ran = plain-here c.args.plan.now c.index-as_slice-0.result _ c.run_lines-ran.new.disk.entries c.in-Ok-ran.ends.items legal alone
-    (rw (c.in-Ok.ensures.setup, c.as_slice-2.ensures) at c.in-Ok-ran.ensures.plain) (rw (c.in-Ok.ensures.setup, c.as_slice-2.ensures) at c.in-Ok-ran.ensures.faultless) (rw c.in-Ok.ensures.setup at c.in-Ok-ran.ensures.given) in
-    let ends = rw c.in-Ok.ensures.setup at c.in-Ok-ran.ensures.ends in
-    over-of c.finished_run-run.result c.run_lines-ran.new.disk.entries c.in-Ok-ran.ends.items _ _ (rw c.as_slice-in-Ok-ran.ensures.value at c.finished_run-run.ensures.blocks) (rw c.into_media-media.ensures.entries at c.finished_run-run.ensures.history) c.finished_run-run.ensures.ends
-    (λ run blocks entries is. all-ran g.M.Medium.device c.run_lines-ran.new.disk _ c.into_media-media.result.0.items setup c.into_media-media.ensures.facts c.into_media-media.ensures.media c.into_media-media.ensures.count c.args.plan.now run entries
-    (rw is ran) (rw is ends) blocks (all-fit g.M.Medium.device (λ m. (g.met.M.Medium.shaped m).fits) c.into_media-media.result.0.items))
+    finished c.args.plan.now c.in-Ok-make.disk c.in-Ok.supplies.clients.items c.in-Ok-make-2.desk _ c.in-Ok-make-2.ensures.desk c.in-Ok.ensures.clients c.in-Ok-make.ensures.entries c.in-Ok-make.ensures.setup c.plain-ran.new.desk c.plain-ran.ensures.stays c.plain-ran.ensures.keeps
+    g.M.Medium.device c.into_media-media-2.result.0.items c.into_parts-disk.result.0 c.into_parts-disk.ensures.disk c.into_media-media-2.ensures.facts c.into_media-media-2.ensures.media c.into_media-media-2.ensures.count
+    (record { blocks = c.fill_blocks.new.blocks; history = c.into_media-media-2.result.1; ends = c.fill_lines.new.ends }) c.into_parts-disk.result.1.items c.into_media-media-2.ensures.entries c.into_parts-disk.ensures.slots c.into_parts-disk.ensures.buffers c.fill_lines.ensures
+    (rw c.as_slice.ensures.value at c.fill_blocks.ensures) (all-fit g.M.Medium.device (λ m. (g.met.M.Medium.shaped m).fits) c.into_media-media-2.result.0.items)
+    c.in-Ok-ran.ensures.whole c.in-Ok-ran.ensures.plain c.in-Ok-ran.ensures.faultless
+
+pub returns-in-Err-ran-clause-some : goal.returns-in-Err-ran-clause-some
+returns-in-Err-ran-clause-some g c none =
+    stopped c.args.plan.now c.in-Ok-make.disk c.in-Ok.supplies.clients.items c.in-Ok-make-2.desk _ c.in-Ok-make-2.ensures.desk c.in-Ok.ensures.clients c.in-Ok-make.ensures.entries c.in-Ok-make.ensures.setup c.plain-ran.new.desk c.plain-ran.ensures.stays c.plain-ran.ensures.keeps
+    g.M.Medium.device c.into_media-media-2.result.0.items c.into_parts-disk.result.0 c.into_parts-disk.ensures.disk c.into_media-media-2.ensures.facts c.into_media-media-2.ensures.media c.into_media-media-2.ensures.count
+    c.in-Err-ran.ensures.memory c.in-Err-ran.ensures.front

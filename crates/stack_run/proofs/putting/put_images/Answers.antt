@@ -1,7 +1,7 @@
 use Rattle.std.proofs.Common.{◌∙◌, ap, sym, subst, length, map, List}
 use Rattle.std.proofs.lemmas.List.{length-map}
 use Rattle.stack_run.specs.declared.wanted.Wanted.{Wanted}
-use Rattle.stack_run.specs.Chains.{PutsOr, Chain, AreApart, AreTaken}
+use Rattle.stack_run.specs.Chains.{PutsOr, SpentAmong, Chain, AreApart, AreTaken}
 use Rattle.stack_run.proofs.LoopLemmas.{slice-after, after-count, after-apart, after-taken, ends-spent, ends-so}
 use Rattle.stack_run.proofs.putting.put_images.Goals as goal
 
@@ -21,10 +21,12 @@ put_rest-requires-clause-taken g c κs within =
 
 pub returns-then-put_rest-clause-stops : goal.returns-then-put_rest-clause-stops
 returns-then-put_rest-clause-stops g c =
-    ends-spent _ _ _ _ _ _ _ c.in-Err.ensures.stops c.put_rest.result (g.I.Images.at c.put_rest.new.images)
-    (subst (λ (l : List Wanted). Chain (PutsOr c.put_rest.result) l (map (λ m. g.I.M.Medium.device m) c.put_some.new.media.items) (g.I.Images.at c.put_some.new.images) (g.I.Images.at c.put_rest.new.images)) (slice-after _ _ _ _ _ _ _ c.in-Err.ensures.stops) c.put_rest.ensures.put)
+    let cut = slice-after _ _ _ _ _ _ _ c.in-Err.ensures.stops in
+    ends-spent _ _ _ _ _ _ _ c.in-Err.ensures.stops c.put_rest.result (g.I.Images.at c.put_rest.new.images) c.requires.apart
+    (subst (λ (l : List Wanted). Chain (PutsOr c.put_rest.result) l (map (λ m. g.I.M.Medium.device m) c.put_some.new.media.items) (g.I.Images.at c.put_some.new.images) (g.I.Images.at c.put_rest.new.images)) cut c.put_rest.ensures.put)
+    (subst (λ (l : List Wanted). SpentAmong l (g.I.Images.at c.put_some.new.images) (g.I.Images.at c.put_rest.new.images)) cut (c.put_rest.ensures.spent c.if-put_rest.true))
 
 pub returns-else-put_rest-clause-stops : goal.returns-else-put_rest-clause-stops
 returns-else-put_rest-clause-stops g c =
-    ends-so _ _ _ _ c.in-Err.stop.fault _ _ (g.I.Images.at c.put_rest.new.images) c.put_rest.result c.in-Err.ensures.stops c.if-put_rest.false
+    ends-so _ _ _ _ c.in-Err.stop.fault _ _ (g.I.Images.at c.put_rest.new.images) c.put_rest.result c.in-Err.ensures.stops c.requires.apart c.if-put_rest.false
     (subst (λ (l : List Wanted). Chain (PutsOr c.put_rest.result) l (map (λ m. g.I.M.Medium.device m) c.put_some.new.media.items) (g.I.Images.at c.put_some.new.images) (g.I.Images.at c.put_rest.new.images)) (slice-after _ _ _ _ _ _ _ c.in-Err.ensures.stops) c.put_rest.ensures.put)

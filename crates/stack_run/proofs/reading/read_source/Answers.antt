@@ -1,20 +1,17 @@
 use Rattle.std.proofs.Common.{sym, ◌∙◌}
 use Rattle.script_text.specs.declared.language.refusal.Reason.TheVariants as why
-use Rattle.stack_run.proofs.Read.{script-read, script-refused, runs, runs-not, says-not, simple-disks}
+use Rattle.stack_run.proofs.Read.{script-read, script-refused, runs, runs-not, says-not}
 use Rattle.stack_run.proofs.reading.read_source.Goals as goal
 
-pub returns-then-is_simple-clause-script : goal.returns-then-is_simple-clause-script
-returns-then-is_simple-clause-script g c =
+pub returns-in-None-clause-script : goal.returns-in-None-clause-script
+returns-in-None-clause-script g c =
     let fed = c.in-Ok.ensures.fed in
-    script-read _ _ fed.bytes c.in-Ok-finish.script.disks fed.reads (runs fed.bytes c.in-Ok-finish.script.disks (c.in-Ok-finish.ensures.tells fed.bytes fed.fed) (sym c.is_simple.ensures ∙ c.if-is_simple.true))
+    script-read _ _ fed.bytes c.in-Ok-finish.script.disks fed.reads (runs fed.bytes c.in-Ok-finish.script.disks (c.in-Ok-finish.ensures.tells fed.bytes fed.fed) (rw c.as_slice.ensures at (sym c.first_part.ensures) ∙ c.in-None.is))
 
-pub returns-then-is_simple-clause-simple : goal.returns-then-is_simple-clause-simple
-returns-then-is_simple-clause-simple g c = simple-disks c.in-Ok-finish.script.disks (sym c.is_simple.ensures ∙ c.if-is_simple.true)
-
-pub returns-else-is_simple-clause-refused : goal.returns-else-is_simple-clause-refused
-returns-else-is_simple-clause-refused g c =
+pub returns-in-Some-clause-refused : goal.returns-in-Some-clause-refused
+returns-in-Some-clause-refused g c =
     let fed = c.in-Ok.ensures.fed in
-    script-refused _ _ fed.bytes 0 why.Order fed.reads (runs-not fed.bytes c.in-Ok-finish.script.disks (c.in-Ok-finish.ensures.tells fed.bytes fed.fed) (sym c.is_simple.ensures ∙ c.if-is_simple.false))
+    script-refused _ _ fed.bytes c.in-Some.line why.Part fed.reads (runs-not fed.bytes c.in-Ok-finish.script.disks c.in-Some.line (c.in-Ok-finish.ensures.tells fed.bytes fed.fed) (rw c.as_slice.ensures at (sym c.first_part.ensures) ∙ c.in-Some.is))
 
 pub returns-in-Err-Fault-clause-refused : goal.returns-in-Err-Fault-clause-refused
 returns-in-Err-Fault-clause-refused g c =

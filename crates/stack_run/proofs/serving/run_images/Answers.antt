@@ -3,7 +3,6 @@ use Rattle.std.proofs.lemmas.List.{length-map}
 use Rattle.stack_run.specs.declared.wanted.Wanted.{Wanted}
 use Rattle.stack_run.specs.Chains.{PutsOr, SpentAmong, Chain, AreWanted, AreApart, AreTaken, AreMade}
 use Rattle.stack_run.proofs.ChainLemmas.{chain-length}
-use Rattle.stack_run.proofs.StageLemmas.{some-all-count}
 use Rattle.stack_run.proofs.StopLemmas.{before-is, before-count, before-apart, taking-taken, taking-ends, taking-others, taking-free, putting-ends, putting-calls, put-calls, all-put, memory-after, are-taken, are-made, others-so, free-so, changes-among}
 use Rattle.stack_run.proofs.WantedLemmas.{wanted-apart, wanted-can, all-free}
 use Rattle.stack_run.proofs.serving.run_images.Goals as goal
@@ -64,8 +63,7 @@ run_disks-media-requires-clause-made g c =
 
 pub put_images-requires-clause-all : goal.put_images-requires-clause-all
 put_images-requires-clause-all g c κs within =
-    sym (length-map c.run_disks-media.result.0.items (λ m. g.I.M.Medium.device m))
-    ∙ (some-all-count c.args.plans.now _ _ c.run_disks-media.ensures.some ∙ chain-length _ c.args.wanted.now _ _ _ c.in-Ok-take_images.ensures.taken)
+    c.run_disks-media.ensures.back ∙ (sym (length-map c.take_images.new.media.items (λ m. g.I.M.Medium.device m)) ∙ chain-length _ c.args.wanted.now _ _ _ c.in-Ok-take_images.ensures.taken)
 
 pub put_images-requires-clause-apart : goal.put_images-requires-clause-apart
 put_images-requires-clause-apart g c κs within = subst AreApart (sym c.requires.wanted) (wanted-apart c.args.plans.now c.requires.together.images)
@@ -76,8 +74,7 @@ put_images-requires-clause-taken g c κs within =
 
 pub put_rest-requires-clause-all : goal.put_rest-requires-clause-all
 put_rest-requires-clause-all g c κs within =
-    sym (length-map c.run_disks-media.result.0.items (λ m. g.I.M.Medium.device m))
-    ∙ (some-all-count c.args.plans.now _ _ c.run_disks-media.ensures.some ∙ chain-length _ c.args.wanted.now _ _ _ c.in-Ok-take_images.ensures.taken)
+    c.run_disks-media.ensures.back ∙ (sym (length-map c.take_images.new.media.items (λ m. g.I.M.Medium.device m)) ∙ chain-length _ c.args.wanted.now _ _ _ c.in-Ok-take_images.ensures.taken)
 
 pub put_rest-requires-clause-apart : goal.put_rest-requires-clause-apart
 put_rest-requires-clause-apart g c κs within = subst AreApart (sym c.requires.wanted) (wanted-apart c.args.plans.now c.requires.together.images)
@@ -105,7 +102,7 @@ pub returns-in-Err-put_images-clause-stops : goal.returns-in-Err-put_images-clau
 returns-in-Err-put_images-clause-stops g c =
     let apart = subst AreApart (sym c.requires.wanted) (wanted-apart c.args.plans.now c.requires.together.images) in
     putting-ends c.args.plans.now c.args.wanted.now _ _ c.in-Err-put_images.stop.place c.in-Err-put_images.stop.fault _ (g.I.Images.at c.take_images.new.images) _ c.in-Some.runs.items c.requires.wanted apart c.in-Ok-take_images.ensures.taken
-    (rw c.in-Some.is at c.run_disks-media.ensures.over) c.run_disks-media.ensures.some c.in-Err-put_images.ensures.stops
+    (rw c.in-Some.is at c.run_disks-media.ensures.over) c.in-Err-put_images.ensures.stops
 
 pub returns-in-Err-put_images-clause-others : goal.returns-in-Err-put_images-clause-others
 returns-in-Err-put_images-clause-others g c =
@@ -122,7 +119,7 @@ returns-in-Err-put_images-clause-again g c =
 pub returns-in-None-clause-stops : goal.returns-in-None-clause-stops
 returns-in-None-clause-stops g c =
     let apart = subst AreApart (sym c.requires.wanted) (wanted-apart c.args.plans.now c.requires.together.images) in
-    memory-after c.args.plans.now c.args.wanted.now _ _ 0 _ (g.I.Images.at c.take_images.new.images) _ c.requires.wanted apart c.in-Ok-take_images.ensures.taken c.put_rest.result c.run_disks-media.ensures.some c.put_rest.ensures.put
+    memory-after c.args.plans.now c.args.wanted.now _ _ 0 _ (g.I.Images.at c.take_images.new.images) _ c.requires.wanted apart c.in-Ok-take_images.ensures.taken c.put_rest.result (c.run_disks-media.ensures.some c.in-None.is) c.put_rest.ensures.put
 
 pub returns-in-None-clause-others : goal.returns-in-None-clause-others
 returns-in-None-clause-others g c =
