@@ -25,7 +25,7 @@ use Rattle.partition_children.specs.declared.reading.ReadFault.TheVariants.{Devi
 use Rattle.partition_children.specs.Entries.{after_reads}
 use Rattle.partition_children.specs.declared.reading.Target.{Target}
 use Rattle.partition_children.specs.declared.probing.ProbeFault.TheVariants as ends
-use Rattle.partition_children.specs.Probing.{BreaksOff, Ends, EndsProbe, EndsRead, EndsReads, FailsToRead, IsTargetOf, AreReadsMade, StopsAfter, part_read}
+use Rattle.partition_children.specs.Probing.{BreaksOff, ProbeEnds, EndsProbe, EndsRead, EndsReads, FailsToRead, IsTargetOf, AreReadsMade, ProbeStopsAfter, part_read}
 use Rattle.partition_children.specs.Reads.{array_read, chain_reads, gpt_reads, header_reads, probe_reads, reads_by, record_read}
 use Rattle.partition_children.proofs.Headers.{is_place}
 use Rattle.partition_children.proofs.Stages.{after-both, made-none}
@@ -177,16 +177,16 @@ module _ (old new : State) (target : Target) (is : IsTargetOf old target) where
   told-in : (bytes : List ℕ) → contents old.setup (media_id_of old.entries) old.entries ≡ Some bytes → contents old.setup target.view.media_id old.entries ≡ Some bytes
   told-in bytes holds = ap (λ k. contents old.setup k old.entries) (sym is.is_in.named) ∙ holds
 
-  pub broke-off : (fault : ReadFault) → fault ≡ Device → Ends {X = Table} old target (λ bytes. probe_reads bytes target.size) (Err fault) new → EndsProbe old ends.Device new
+  pub broke-off : (fault : ReadFault) → fault ≡ Device → ProbeEnds {X = Table} old target (λ bytes. probe_reads bytes target.size) (Err fault) new → EndsProbe old ends.Device new
   unfolding EndsReads
   broke-off Memory same found bytes holds = absurd cc
   broke-off Device same found bytes holds =
       subst (λ (k : ℕ). BreaksOff old k (probe_reads bytes (size_of old.setup)) new) (sym is.is_in.named)
       (subst (λ (n : ℕ). BreaksOff old target.view.media_id (probe_reads bytes n) new) is.size (found bytes (told-in bytes holds)))
 
-  pub stopped : (fault : ReadFault) → fault ≡ Memory → Ends {X = Table} old target (λ bytes. probe_reads bytes target.size) (Err fault) new → EndsProbe old ends.Memory new
+  pub stopped : (fault : ReadFault) → fault ≡ Memory → ProbeEnds {X = Table} old target (λ bytes. probe_reads bytes target.size) (Err fault) new → EndsProbe old ends.Memory new
   unfolding EndsReads
   stopped Device same found bytes holds = absurd cc
   stopped Memory same found bytes holds =
-      subst (λ (k : ℕ). StopsAfter old k (probe_reads bytes (size_of old.setup)) new) (sym is.is_in.named)
-      (subst (λ (n : ℕ). StopsAfter old target.view.media_id (probe_reads bytes n) new) is.size (found bytes (told-in bytes holds)))
+      subst (λ (k : ℕ). ProbeStopsAfter old k (probe_reads bytes (size_of old.setup)) new) (sym is.is_in.named)
+      (subst (λ (n : ℕ). ProbeStopsAfter old target.view.media_id (probe_reads bytes n) new) is.size (found bytes (told-in bytes holds)))

@@ -98,7 +98,7 @@ pub record BreaksOff (old : State) (k : ℕ) (reads : List (ℕ × ℕ)) (new : 
   pub fails : FailsToRead old.setup k (after_reads old.setup k old.entries made) failed new.entries
 
 -- the first of these reads were made, none or all of them perhaps, and nothing else
-pub record StopsAfter (old : State) (k : ℕ) (reads : List (ℕ × ℕ)) (new : State) : Type 0 where
+pub record ProbeStopsAfter (old : State) (k : ℕ) (reads : List (ℕ × ℕ)) (new : State) : Type 0 where
   pub made : List (ℕ × ℕ)
   pub left : List (ℕ × ℕ)
   pub in_order : reads ≡ made ++ left
@@ -107,7 +107,7 @@ pub record StopsAfter (old : State) (k : ℕ) (reads : List (ℕ × ℕ)) (new :
 -- a stage with these reads that did not succeed
 unfoldable pub EndsReads : State → ℕ → List (ℕ × ℕ) → ReadFault → State → Type 0
 EndsReads old k reads Device new = BreaksOff old k reads new
-EndsReads old k reads Memory new = StopsAfter old k reads new
+EndsReads old k reads Memory new = ProbeStopsAfter old k reads new
 
 -- the medium that is probed: it is in, and these are its view, its blocks and their size
 pub record IsTargetOf (s : State) (target : Target) : Type 0 where
@@ -127,8 +127,8 @@ Finds old target reads value result new =
     → IfOk result (λ x. AreReadsMade old target.view.media_id (reads bytes) new × value bytes x)
 
 -- where it does so, a stage with these reads that did not succeed ended in one of them, or wanted memory
-abbrev pub Ends : {X : Type 0} → State → Target → (List ℕ → List (ℕ × ℕ)) → Result X ReadFault → State → Type 0
-Ends old target reads result new =
+abbrev pub ProbeEnds : {X : Type 0} → State → Target → (List ℕ → List (ℕ × ℕ)) → Result X ReadFault → State → Type 0
+ProbeEnds old target reads result new =
     (bytes : List ℕ) → contents old.setup target.view.media_id old.entries ≡ Some bytes
     → IfErr result (λ fault. EndsReads old target.view.media_id (reads bytes) fault new)
 
@@ -154,4 +154,4 @@ EndsProbe old ends.Device new =
     → BreaksOff old (media_id_of old.entries) (probe_reads bytes (size_of old.setup)) new
 EndsProbe old ends.Memory new =
     (bytes : List ℕ) → contents old.setup (media_id_of old.entries) old.entries ≡ Some bytes
-    → StopsAfter old (media_id_of old.entries) (probe_reads bytes (size_of old.setup)) new
+    → ProbeStopsAfter old (media_id_of old.entries) (probe_reads bytes (size_of old.setup)) new

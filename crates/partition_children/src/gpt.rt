@@ -2,7 +2,7 @@ ghost use Rattle.std.specs.Prelude.{◌≡◌, ◌+◌, ◌-◌, ◌*◌, ◌^�
 ghost use Rattle.gpt_headers.specs.Array.{array_range_of};
 ghost use Rattle.partition_tables.specs.GptTable.{child_of_entry, array_entries, entry_children, good_header, gpt_children, gpt_table, gpt_table_by, header_with_array};
 ghost use Rattle.partition_children.specs.declared.reading.ReadFault.{ReadFault};
-ghost use Rattle.partition_children.specs.Probing.{Ends, Finds, IsQuiet, IsTargetOf, AddsEntriesAlone, read_failures, pair_of, part_read};
+ghost use Rattle.partition_children.specs.Probing.{ProbeEnds, Finds, IsQuiet, IsTargetOf, AddsEntriesAlone, read_failures, pair_of, part_read};
 ghost use Rattle.partition_children.specs.Reads.{array_read, gpt_reads, header_reads};
 
 use crate::child_list::add;
@@ -26,7 +26,7 @@ pub fn gpt_table<M: Medium>(
     ensures stays { AddsEntriesAlone disk.old (read_failures result) disk.new }
     ensures found { Finds disk.old target.now (λ bytes. gpt_reads bytes target.now.size)
         (λ bytes table. table ≡ gpt_table bytes target.now.size) result disk.new }
-    ensures ends { Ends disk.old target.now (λ bytes. gpt_reads bytes target.now.size) result disk.new }
+    ensures ends { ProbeEnds disk.old target.now (λ bytes. gpt_reads bytes target.now.size) result disk.new }
 {
     match good_header(alloc, disk, target, 1)? {
         Some(good) => table_by(alloc, target, TableKind::GptPrimary, &good),
@@ -46,7 +46,7 @@ fn backup_table<M: Medium>(
     ensures found { Finds disk.old target.now (λ bytes. header_reads bytes target.now.size (target.now.blocks - 1))
         (λ bytes table. table ≡ gpt_table_by target.now.blocks None
         (good_header bytes target.now.size (target.now.blocks - 1))) result disk.new }
-    ensures ends { Ends disk.old target.now
+    ensures ends { ProbeEnds disk.old target.now
         (λ bytes. header_reads bytes target.now.size (target.now.blocks - 1)) result disk.new }
 {
     match good_header(alloc, disk, target, target.blocks - 1)? {
@@ -70,7 +70,7 @@ fn good_header<M: Medium>(
     ensures stays { AddsEntriesAlone disk.old (read_failures result) disk.new }
     ensures found { Finds disk.old target.now (λ bytes. header_reads bytes target.now.size lba)
         (λ bytes good. option_map pair_of good ≡ good_header bytes target.now.size lba) result disk.new }
-    ensures ends { Ends disk.old target.now
+    ensures ends { ProbeEnds disk.old target.now
         (λ bytes. header_reads bytes target.now.size lba) result disk.new }
 {
     if !is_header_place(target, lba) {
@@ -103,7 +103,7 @@ fn with_array<M: Medium>(
     ensures found { Finds disk.old target.now (λ bytes. array_read
         (array_range_of header target.now.blocks target.now.size))
         (λ bytes good. option_map pair_of good ≡ header_with_array bytes target.now.size header) result disk.new }
-    ensures ends { Ends disk.old target.now (λ bytes. array_read
+    ensures ends { ProbeEnds disk.old target.now (λ bytes. array_read
         (array_range_of header target.now.blocks target.now.size)) result disk.new }
 {
     let Some((at, length)) = array_range(&header, target.blocks, target.size) else {
@@ -133,7 +133,7 @@ fn read_array<M: Medium>(
     ensures long { IfOk result (λ array. vec_len array ≡ length) }
     ensures found { Finds disk.old target.now (λ bytes. part_read at length)
         (λ bytes array. array.items ≡ slice_range bytes at (at + length)) result disk.new }
-    ensures ends { Ends disk.old target.now (λ bytes. part_read at length) result disk.new }
+    ensures ends { ProbeEnds disk.old target.now (λ bytes. part_read at length) result disk.new }
 {
     if length == 0 {
         return Ok(Vec::new(alloc));

@@ -5,7 +5,7 @@ ghost use Rattle.mbr_records.specs.Chain.{trail_of};
 ghost use Rattle.partition_tables.specs.declared.table.Origin.{Origin};
 ghost use Rattle.partition_tables.specs.declared.table.TableKind.{TableKind};
 ghost use Rattle.partition_tables.specs.MbrTable.{logicals_of, mbr_children, primaries_of};
-ghost use Rattle.partition_children.specs.Probing.{Ends, Finds, IsQuiet, IsTargetOf, AddsEntriesAlone, read_failures};
+ghost use Rattle.partition_children.specs.Probing.{ProbeEnds, Finds, IsQuiet, IsTargetOf, AddsEntriesAlone, read_failures};
 ghost use Rattle.partition_children.specs.Reads.{chain_reads};
 
 use crate::child_list::add;
@@ -37,7 +37,7 @@ pub fn mbr_table<M: Medium>(
           kind = TableKind.Mbr;
           children = mbr_children bytes target.now.size mbr.now;
         }) result disk.new }
-    ensures ends { Ends disk.old target.now (λ bytes. option_map_or
+    ensures ends { ProbeEnds disk.old target.now (λ bytes. option_map_or
         (λ extended. chain_reads bytes target.now.size extended)
         (extended_of target.now.blocks mbr.now.records) []) result disk.new }
 {
@@ -95,7 +95,7 @@ fn add_logicals<M: Medium>(
     ensures found { Finds disk.old target.now (λ bytes. chain_reads bytes target.now.size (chain.start, chain.size))
         (λ bytes done. children.new.items ≡ children.old.items
         ++ logicals_of bytes target.now.size signature (chain.start, chain.size)) result disk.new }
-    ensures ends { Ends disk.old target.now
+    ensures ends { ProbeEnds disk.old target.now
         (λ bytes. chain_reads bytes target.now.size (chain.start, chain.size)) result disk.new }
 {
     let mut number = FIRST_LOGICAL;

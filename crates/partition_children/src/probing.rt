@@ -2,7 +2,7 @@ ghost use Rattle.std.specs.Prelude.{◌≡◌, ◌↔◌, false, Some, IfNone, I
 ghost use Rattle.history.specs.Eras.{is_present};
 ghost use Rattle.partition_tables.specs.Table.{table_by, table_of};
 ghost use Rattle.partition_children.specs.declared.probing.ProbeFault.{ProbeFault};
-ghost use Rattle.partition_children.specs.Probing.{Ends, EndsProbe, Finds, IsProbeOf, IsQuiet, IsTargetOf, AddsEntriesAlone, read_failures, probe_failures};
+ghost use Rattle.partition_children.specs.Probing.{ProbeEnds, EndsProbe, Finds, IsProbeOf, IsQuiet, IsTargetOf, AddsEntriesAlone, read_failures, probe_failures};
 ghost use Rattle.partition_children.specs.Reads.{probe_reads, reads_by};
 
 use crate::gpt::gpt_table;
@@ -72,7 +72,7 @@ fn table_on<M: Medium>(
     ensures stays { AddsEntriesAlone disk.old (read_failures result) disk.new }
     ensures found { Finds disk.old target.now (λ bytes. probe_reads bytes target.now.size)
         (λ bytes table. table ≡ table_of bytes target.now.size) result disk.new }
-    ensures ends { Ends disk.old target.now (λ bytes. probe_reads bytes target.now.size) result disk.new }
+    ensures ends { ProbeEnds disk.old target.now (λ bytes. probe_reads bytes target.now.size) result disk.new }
 {
     let block = read_record(alloc, disk, target, 0)?;
     match Mbr::read(&block) {
@@ -96,7 +96,7 @@ fn table_by<M: Medium>(
     ensures stays { AddsEntriesAlone disk.old (read_failures result) disk.new }
     ensures found { Finds disk.old target.now (λ bytes. reads_by bytes target.now.size (Some mbr.now))
         (λ bytes table. table ≡ table_by bytes target.now.size (Some mbr.now)) result disk.new }
-    ensures ends { Ends disk.old target.now
+    ensures ends { ProbeEnds disk.old target.now
         (λ bytes. reads_by bytes target.now.size (Some mbr.now)) result disk.new }
 {
     if mbr.is_protective() {

@@ -3,7 +3,7 @@ ghost use Rattle.disk_core.specs.declared.answers.Why.{Why};
 ghost use Rattle.efi_status.specs.declared.Status.{Status};
 ghost use Rattle.disk_io2.specs.Views.{whole_view};
 ghost use Rattle.partition_children.specs.declared.reading.ReadFault.{ReadFault};
-ghost use Rattle.partition_children.specs.Probing.{Ends, EndsRead, Finds, IsIn, IsQuiet, IsTargetOf, Reads, AddsEntriesAlone, read_failures};
+ghost use Rattle.partition_children.specs.Probing.{ProbeEnds, EndsRead, Finds, IsIn, IsQuiet, IsTargetOf, Reads, AddsEntriesAlone, read_failures};
 ghost use Rattle.partition_children.specs.Reads.{record_read};
 ghost use Rattle.partition_tables.specs.Blocks.{boot_record_at, table_block};
 
@@ -100,7 +100,7 @@ pub fn read_block<M: Medium>(
     ensures found { Finds disk.old target.now
         (λ bytes. (lba * target.now.size, target.now.size) ∷ [])
         (λ bytes block. block.items ≡ table_block bytes target.now.size lba) result disk.new }
-    ensures ends { Ends disk.old target.now
+    ensures ends { ProbeEnds disk.old target.now
         (λ bytes. (lba * target.now.size, target.now.size) ∷ []) result disk.new }
 {
     let at = lba * u64::from(target.size);
@@ -120,7 +120,7 @@ pub fn read_record<M: Medium>(
     ensures stays { AddsEntriesAlone disk.old (read_failures result) disk.new }
     ensures found { Finds disk.old target.now (λ bytes. record_read target.now.size lba ∷ [])
         (λ bytes block. block ≡ boot_record_at bytes target.now.size lba) result disk.new }
-    ensures ends { Ends disk.old target.now
+    ensures ends { ProbeEnds disk.old target.now
         (λ bytes. record_read target.now.size lba ∷ []) result disk.new }
 {
     let bytes = read_bytes(alloc, disk, target, lba * u64::from(target.size), 512)?;

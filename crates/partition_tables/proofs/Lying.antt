@@ -107,9 +107,9 @@ last_on_medium a b c d e first last blocks h = grind (arith, nat_tests)
 entries_lie : (limit : ℕ) (good : HeaderFields × List ℕ) → All (λ c. Lies limit c) (gpt_children limit good)
 unfolding gpt_children
 entries_lie limit (h, array) =
-    all_made limit (λ (i, e). entries.gives_partition h limit (array_entries h array) i e) child_of_entry
-    (λ (i, e) given. last_on_medium (entries.is_used e) (entries.is_usable_block h limit e.first) (nat_le h.first_usable e.last && nat_le e.last h.last_usable)
-    (not (entries.overlaps_another (array_entries h array) i e)) (not (entries.is_hidden e)) e.first e.last limit given)
+    all_made limit (λ (i, e). entries.entry_gives_partition h limit (array_entries h array) i e) child_of_entry
+    (λ (i, e) given. last_on_medium (entries.is_used_entry e) (entries.is_usable_block h limit e.first) (nat_le h.first_usable e.last && nat_le e.last h.last_usable)
+    (not (entries.overlaps_another_entry (array_entries h array) i e)) (not (entries.is_hidden e)) e.first e.last limit given)
     (enumerate_from 0 (array_entries h array))
 
 gpt_lie : (limit : ℕ) (primary backup : Option (HeaderFields × List ℕ)) → All (λ c. Lies limit c) (gpt_table_by limit primary backup).children

@@ -92,7 +92,7 @@ unfolding gpt_children
 entries_rise blocks (h, array) =
     let entries = array_entries h array in
     rises_lower 1 0 (entry_children blocks h entries) (omega arith)
-    (rises_kept 1 (λ (i, e). gpt.gives_partition h blocks entries i e) child_of_entry (λ p. refl) 0 entries)
+    (rises_kept 1 (λ (i, e). gpt.entry_gives_partition h blocks entries i e) child_of_entry (λ p. refl) 0 entries)
 
 gpt_rise : (blocks : ℕ) (primary backup : Option (HeaderFields × List ℕ)) → Rises 0 (gpt_table_by blocks primary backup).children
 gpt_rise blocks (Some good) backup = entries_rise blocks good

@@ -6,7 +6,7 @@ use Rattle.std.proofs.lemmas.List.{take_more, take-append-drop}
 use Rattle.medium.specs.Device.{Device}
 use Rattle.image_store.specs.Place.{Image, ChangesOnly}
 use Rattle.stack_run.specs.declared.wanted.Wanted.{Wanted}
-use Rattle.stack_run.specs.Chains.{Chain, AreApart}
+use Rattle.stack_run.specs.Chains.{Chain, HaveOtherNames}
 
 -- a call for a wanted image
 abbrev pub Call : Type 1
@@ -121,8 +121,8 @@ sym-all [] at mid all = tt
 sym-all (w ∷ ws) at mid all = (sym all.0, sym-all ws at mid all.1)
 
 -- names that differ, each changed once
-pub chain-points : (R : Call) (ws : List Wanted) (ds : List Device) (at at' : Names) → AreApart ws → Chain R ws ds at at' → Points R ws ds at at'
-unfolding Chain Points AreApart
+pub chain-points : (R : Call) (ws : List Wanted) (ds : List Device) (at at' : Names) → HaveOtherNames ws → Chain R ws ds at at' → Points R ws ds at at'
+unfolding Chain Points HaveOtherNames
 chain-points R [] [] at at' apart chain = tt
 chain-points R [] (d ∷ ds) at at' apart chain = absurd chain
 chain-points R (w ∷ ws) [] at at' apart chain = absurd chain
@@ -137,24 +137,24 @@ all-kept P [] at at' same all = tt
 all-kept P (w ∷ ws) at at' same all = (rw same.0 all.0, all-kept P ws at at' same.1 all.1)
 
 -- the names of a front, and of a rest, differ
-pub apart-front : (ws vs : List Wanted) → AreApart (ws ++ vs) → AreApart ws
-unfolding AreApart
+pub apart-front : (ws vs : List Wanted) → HaveOtherNames (ws ++ vs) → HaveOtherNames ws
+unfolding HaveOtherNames
 apart-front [] vs apart = tt
 apart-front (w ∷ ws) vs apart = (all-front (λ v. w.image ≢ v.image) ws vs apart.0, apart-front ws vs apart.1)
 
-pub apart-back : (ws vs : List Wanted) → AreApart (ws ++ vs) → AreApart vs
-unfolding AreApart
+pub apart-back : (ws vs : List Wanted) → HaveOtherNames (ws ++ vs) → HaveOtherNames vs
+unfolding HaveOtherNames
 apart-back [] vs apart = apart
 apart-back (w ∷ ws) vs apart = apart-back ws vs apart.1
 
 -- a name of the front is none of the rest, and one of the rest none of the front
-pub front-none : (ws vs : List Wanted) → AreApart (ws ++ vs) → AllByRecursion (λ w. IsNoneOf w.image vs) ws
-unfolding AreApart
+pub front-none : (ws vs : List Wanted) → HaveOtherNames (ws ++ vs) → AllByRecursion (λ w. IsNoneOf w.image vs) ws
+unfolding HaveOtherNames
 front-none [] vs apart = tt
 front-none (w ∷ ws) vs apart = (all-back (λ v. w.image ≢ v.image) ws vs apart.0, front-none ws vs apart.1)
 
-pub back-none : (ws : List Wanted) (v : Wanted) (vs : List Wanted) → AreApart (ws ++ v ∷ vs) → IsNoneOf v.image ws
-unfolding AreApart
+pub back-none : (ws : List Wanted) (v : Wanted) (vs : List Wanted) → HaveOtherNames (ws ++ v ∷ vs) → IsNoneOf v.image ws
+unfolding HaveOtherNames
 back-none [] v vs apart = tt
 back-none (w ∷ ws) v vs apart =
     let (here, later) = all-back (λ u. w.image ≢ u.image) ws (v ∷ vs) apart.0 in
@@ -169,8 +169,8 @@ none-nil : (vs : List Wanted) → AllByRecursion (λ v. IsNoneOf v.image []) vs
 none-nil [] = tt
 none-nil (v ∷ vs) = (tt, none-nil vs)
 
-pub behind-none : (us vs : List Wanted) → AreApart (us ++ vs) → AllByRecursion (λ v. IsNoneOf v.image us) vs
-unfolding AreApart
+pub behind-none : (us vs : List Wanted) → HaveOtherNames (us ++ vs) → AllByRecursion (λ v. IsNoneOf v.image us) vs
+unfolding HaveOtherNames
 behind-none [] vs apart = none-nil vs
 behind-none (u ∷ us) vs apart = none-more u us vs (all-back (λ v. u.image ≢ v.image) us vs apart.0) (behind-none us vs apart.1)
 

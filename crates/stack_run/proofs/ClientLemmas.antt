@@ -21,7 +21,7 @@ use Rattle.script_text.specs.Fitting as fit
 use Rattle.script_text.specs.Fitting.{IsDiskPlan}
 use Rattle.script_text.specs.Limits.{most_script_bytes}
 use Rattle.script_text.specs.Planned.{client_lines, disk_lines, planned_lines}
-use Rattle.stack_run.specs.Clients.{roles_in}
+use Rattle.stack_run.specs.Clients.{script_roles}
 use Rattle.stack_run.proofs.DiskLoops.{all-from-rec}
 
 -- a line as a desk takes it
@@ -77,7 +77,7 @@ sum-mapped : {X : Type 0} (f : X → List Order) (xs : List X) → sum_by (λ x.
 sum-mapped f [] = refl
 sum-mapped f (x ∷ xs) = rw (sum_by-cons (λ y. length (f y)) x xs, sum_by-cons length (f x) (map f xs), sum-mapped f xs) refl
 
-module _ (plan : DiskPlan) (clients : List Client) (same : roles_of clients ≡ roles_in plan.clients) where
+module _ (plan : DiskPlan) (clients : List Client) (same : roles_of clients ≡ script_roles plan.clients) where
   orders-same : map (λ (client : Client). client.orders.items) clients ≡ map (λ (client : ClientPlan). client.orders) plan.clients
   orders-same = sym (map-map (λ (role : Role). role.orders) _ clients) ∙ (ap (map (λ (role : Role). role.orders)) same ∙ map-map (λ (role : Role). role.orders) _ plan.clients)
 

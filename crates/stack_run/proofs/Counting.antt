@@ -18,12 +18,12 @@ use Rattle.history_laws.proofs.CountLemmas.{count-more, count-same, accepted-mor
 use Rattle.script_text.specs.declared.report.parts.TokenLine.{TokenLine}
 use Rattle.script_text.specs.Report.{AreEnds, is_success}
 use Rattle.stack_run.specs.declared.summary.Figures.{Figures}
-use Rattle.stack_run.specs.Figures.{succeeded, with_moved, with_accepted, with_entry, figures_of}
+use Rattle.stack_run.specs.Figures.{is_success_by, with_moved, with_accepted, figures_with, figures_of}
 use Rattle.stack_run.specs.Summary.{is_refuse, refused, moved_in}
 
 -- one entry further, of entries of which the oldest stands first
 pub figures-next : (ends : List TokenLine) (es : List Entry) (i : ℕ) (e : Entry) → i < length es
-    → figures_of ends (reverse (take (i + 1) es)) ≡ with_entry ends (get_or es i e) (figures_of ends (reverse (take i es)))
+    → figures_of ends (reverse (take (i + 1) es)) ≡ figures_with ends (get_or es i e) (figures_of ends (reverse (take i es)))
 unfolding figures_of
 figures-next ends es i e there =
     let longer : take (i + 1) es ≡ take i es ++ (get_or es i e ∷ []) = ap (λ n. take n es) (add-one i) ∙ take-suc es i e there in
@@ -34,8 +34,8 @@ pub record AreCounted (ends : List TokenLine) (H : List Entry) (f : Figures) : T
   pub accepted : f.accepted ≡ accepted H
   pub refused : f.refused ≡ refused H
   pub commands : f.commands ≡ commands H
-  pub written : f.written ≡ moved_in (succeeded ends) is_write H
-  pub read : f.read ≡ moved_in (succeeded ends) is_read H
+  pub written : f.written ≡ moved_in (is_success_by ends) is_write H
+  pub read : f.read ≡ moved_in (is_success_by ends) is_read H
 
 -- what one more successful request adds
 record AddsMoved (b : Bool) (k : Kind) (n : ℕ) (f f' : Figures) : Type 0 where
@@ -57,37 +57,37 @@ stays k n f = record { written = none (is_write k) f.written; read = none (is_re
     none true m = sym (zero-add m)
     none false m = sym (zero-add m)
 
-adds : (b : Bool) (k : Kind) (n : ℕ) (f f' : Figures) (ends : List TokenLine) (H : List Entry) → succeeded ends f.accepted ≡ b → f.accepted ≡ accepted H
-    → AddsMoved b k n f f' → (f'.written ≡ (if is_write k && succeeded ends (accepted H) then n else 0) + f.written)
-    × (f'.read ≡ (if is_read k && succeeded ends (accepted H) then n else 0) + f.read)
+adds : (b : Bool) (k : Kind) (n : ℕ) (f f' : Figures) (ends : List TokenLine) (H : List Entry) → is_success_by ends f.accepted ≡ b → f.accepted ≡ accepted H
+    → AddsMoved b k n f f' → (f'.written ≡ (if is_write k && is_success_by ends (accepted H) then n else 0) + f.written)
+    × (f'.read ≡ (if is_read k && is_success_by ends (accepted H) then n else 0) + f.read)
 adds b k n f f' ends H is count more =
-    let same : succeeded ends (accepted H) ≡ b = ap (succeeded ends) (sym count) ∙ is in
+    let same : is_success_by ends (accepted H) ≡ b = ap (is_success_by ends) (sym count) ∙ is in
     (rw same more.written, rw same more.read)
 
 -- so of one more that was accepted
 accept-counted : (ends : List TokenLine) (tag : ℕ) (view : View) (asked : Asked) (bytes : List ℕ) (before : List Entry) (f : Figures) → AreCounted ends before f
-    → AreCounted ends (Accept tag view asked bytes ∷ before) (with_accepted (succeeded ends f.accepted) asked f)
+    → AreCounted ends (Accept tag view asked bytes ∷ before) (with_accepted (is_success_by ends f.accepted) asked f)
 unfolding moved_in
-accept-counted ends tag view asked bytes before f all = by (succeeded ends f.accepted) refl
+accept-counted ends tag view asked bytes before f all = by (is_success_by ends f.accepted) refl
   where
-    counted : (b : Bool) (f' : Figures) → succeeded ends f.accepted ≡ b → AddsMoved b asked.kind asked.length f f' → AreCounted ends (Accept tag view asked bytes ∷ before) (record f' { accepted = f.accepted + 1 })
+    counted : (b : Bool) (f' : Figures) → is_success_by ends f.accepted ≡ b → AddsMoved b asked.kind asked.length f f' → AreCounted ends (Accept tag view asked bytes ∷ before) (record f' { accepted = f.accepted + 1 })
     counted b f' is more =
         let two = adds b asked.kind asked.length f f' ends before is all.accepted more in
         record {
           accepted = ap (λ n. n + 1) all.accepted ∙ sym (accepted-more before (Accept tag view asked bytes) refl);
           refused = more.refused ∙ (all.refused ∙ sym (count-same is_refuse (Accept tag view asked bytes) before refl));
           commands = more.commands ∙ (all.commands ∙ sym (commands-same before (Accept tag view asked bytes) refl));
-          written = two.0 ∙ ap (λ n. (if is_write asked.kind && succeeded ends (accepted before) then asked.length else 0) + n) all.written;
-          read = two.1 ∙ ap (λ n. (if is_read asked.kind && succeeded ends (accepted before) then asked.length else 0) + n) all.read;
+          written = two.0 ∙ ap (λ n. (if is_write asked.kind && is_success_by ends (accepted before) then asked.length else 0) + n) all.written;
+          read = two.1 ∙ ap (λ n. (if is_read asked.kind && is_success_by ends (accepted before) then asked.length else 0) + n) all.read;
         }
 
-    by : (b : Bool) → succeeded ends f.accepted ≡ b → AreCounted ends (Accept tag view asked bytes ∷ before) (with_accepted b asked f)
+    by : (b : Bool) → is_success_by ends f.accepted ≡ b → AreCounted ends (Accept tag view asked bytes ∷ before) (with_accepted b asked f)
     by true is = counted true (with_moved asked.kind asked.length f) is (moves asked.kind asked.length f)
     by false is = counted false f is (stays asked.kind asked.length f)
 
 -- an entry that is none of these counts nowhere
 quiet-counted : (ends : List TokenLine) (e : Entry) (before : List Entry) (f : Figures) → is_accept e ≡ false → is_refuse e ≡ false → is_command e ≡ false
-    → ((test : Kind → Bool) → moved_in (succeeded ends) test (e ∷ before) ≡ moved_in (succeeded ends) test before) → AreCounted ends before f → AreCounted ends (e ∷ before) f
+    → ((test : Kind → Bool) → moved_in (is_success_by ends) test (e ∷ before) ≡ moved_in (is_success_by ends) test before) → AreCounted ends before f → AreCounted ends (e ∷ before) f
 quiet-counted ends e before f no_accept no_refuse no_command same all = record {
   accepted = all.accepted ∙ sym (accepted-same before e no_accept);
   refused = all.refused ∙ sym (count-same is_refuse e before no_refuse);
@@ -97,7 +97,7 @@ quiet-counted ends e before f no_accept no_refuse no_command same all = record {
 }
 
 command-counted : (ends : List TokenLine) (e : Entry) (before : List Entry) (f : Figures) → is_accept e ≡ false → is_refuse e ≡ false → is_command e ≡ true
-    → ((test : Kind → Bool) → moved_in (succeeded ends) test (e ∷ before) ≡ moved_in (succeeded ends) test before) → AreCounted ends before f
+    → ((test : Kind → Bool) → moved_in (is_success_by ends) test (e ∷ before) ≡ moved_in (is_success_by ends) test before) → AreCounted ends before f
     → AreCounted ends (e ∷ before) (record f { commands = f.commands + 1 })
 command-counted ends e before f no_accept no_refuse command same all = record {
   accepted = all.accepted ∙ sym (accepted-same before e no_accept);
@@ -132,22 +132,22 @@ figures-counted ends (Insert tag media_id ∷ before) = quiet-counted ends (Inse
 figures-counted ends (Protect tag on ∷ before) = quiet-counted ends (Protect tag on) before (figures_of ends before) refl refl refl (λ test. refl) (figures-counted ends before)
 
 -- lines that say how the tokens ended tell which succeeded
-success-told : (S : Setup) (H : List Entry) (ends : List TokenLine) → AreEnds S H ends → (t : ℕ) → t < length ends → succeeded ends t ≡ is_success (mark_of S H t)
+success-told : (S : Setup) (H : List Entry) (ends : List TokenLine) → AreEnds S H ends → (t : ℕ) → t < length ends → is_success_by ends t ≡ is_success (mark_of S H t)
 success-told S H ends are t there = by (slice_get_cases ends t).1
   where
-    by : ((line : TokenLine) × (t < length ends) × (slice_get ends t ≡ Some line) × (get_or ends t line ≡ line)) ⊎ ((length ends ≤ t) × (slice_get ends t ≡ None)) → succeeded ends t ≡ is_success (mark_of S H t)
+    by : ((line : TokenLine) × (t < length ends) × (slice_get ends t ≡ Some line) × (get_or ends t line ≡ line)) ⊎ ((length ends ≤ t) × (slice_get ends t ≡ None)) → is_success_by ends t ≡ is_success (mark_of S H t)
     by (inl (line, lt, is, same)) = let each = are.each t in rw is (ap is_success (sym (rw is at each)))
     by (inr (past, none)) = let no_way : t < t = omega arith in absurd (lt_irrefl t no_way)
 
 -- so of the bytes that were moved
 pub moved-told : (S : Setup) (H : List Entry) (ends : List TokenLine) → AreEnds S H ends → (test : Kind → Bool) (G : List Entry) → accepted G ≤ accepted H
-    → moved_in (succeeded ends) test G ≡ moved_in (λ t. is_success (mark_of S H t)) test G
+    → moved_in (is_success_by ends) test G ≡ moved_in (λ t. is_success (mark_of S H t)) test G
 unfolding moved_in
 moved-told S H ends are test [] few = refl
 moved-told S H ends are test (Accept tag view asked bytes ∷ before) few =
     let one = accepted-more before (Accept tag view asked bytes) refl in
     let there : accepted before < length ends = let count = are.count in omega arith in
-    let same : succeeded ends (accepted before) ≡ is_success (mark_of S H (accepted before)) = success-told S H ends are (accepted before) there in
+    let same : is_success_by ends (accepted before) ≡ is_success (mark_of S H (accepted before)) = success-told S H ends are (accepted before) there in
     let rest = moved-told S H ends are test before (omega arith) in
     λ i. (if test asked.kind && same i then asked.length else 0) + rest i
 moved-told S H ends are test (Refuse tag view asked media_id status ∷ before) few = moved-told S H ends are test before (let n = accepted-same before (Refuse tag view asked media_id status) refl in omega arith)

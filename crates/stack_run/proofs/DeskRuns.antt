@@ -21,14 +21,14 @@ use Rattle.script_text.specs.declared.language.plans.DiskPlan.{DiskPlan}
 use Rattle.script_text.specs.Planned.{disk_lines}
 use Rattle.script_text.specs.Report.{tagged_reads, givens_of, AreEnds, AreGiven}
 use Rattle.stack_run.specs.declared.desk_run.Run.{Run}
-use Rattle.stack_run.specs.Clients.{roles_in, script_in}
+use Rattle.stack_run.specs.Clients.{script_roles, script_in}
 use Rattle.stack_run.specs.EndLines.{lines_told}
 use Rattle.stack_run.specs.Runs.{RanPlain, RanInPart, RanOver, RanSomeOver}
 use Rattle.stack_run.proofs.EndLines.{told-ends, told-given, all-kept}
 use Rattle.stack_run.proofs.PlaceCounts.{tokens-few}
 use Rattle.stack_run.proofs.RanLemmas.{part-here, some-ran, all-ran}
 
-module _ (plan : DiskPlan) (disk : State) (clients : List Client) (desk : DeskState) (S : Setup) (is : desk ≡ desk_over disk (roles_of clients)) (roles : roles_of clients ≡ roles_in plan.clients) (fresh : disk.entries ≡ []) (setup : disk.setup ≡ S) where
+module _ (plan : DiskPlan) (disk : State) (clients : List Client) (desk : DeskState) (S : Setup) (is : desk ≡ desk_over disk (roles_of clients)) (roles : roles_of clients ≡ script_roles plan.clients) (fresh : disk.entries ≡ []) (setup : disk.setup ≡ S) where
   desk-setup : desk.disk.setup ≡ S
   desk-setup = ap (λ (s : DeskState). s.disk.setup) is ∙ setup
 

@@ -8,22 +8,22 @@ use Rattle.image_store.specs.Place.{Image, ChangesOnly, IsFree, IsTaken}
 use Rattle.stack_run.specs.declared.refusal.NotRun.{NotRun}
 use Rattle.stack_run.specs.declared.wanted.Wanted.{Wanted}
 use Rattle.stack_run.specs.Media.{LacksBlocks}
-use Rattle.stack_run.specs.Chains.{Takes, Puts, PutsBack, PutsOr, SpentAmong, Chain, IsWanted, AreWanted, AreApart, AreFree, AreTaken, TakingStops, PuttingStops, LacksOne, FailsToTake, PutEnds}
+use Rattle.stack_run.specs.Chains.{TakesImage, Puts, PutsBack, PutsOr, SpentAmong, Chain, IsWanted, AreWanted, HaveOtherNames, AreFree, AreTaken, TakingStops, PuttingStops, LacksOne, FailsToTake, PutEnds}
 use Rattle.stack_run.proofs.ChainLemmas.{Call, Names, IsNoneOf, Points, drop-next, take-next, split-at, length-taken, chain-more, chain-both, chain-map, chain-length, chain-points, chain-others, back-none, stays-all, all-kept, trans-all, behind-none, stay-behind, apart-back, all-back}
 use Rattle.stack_run.proofs.HandedLemmas.{taken-has, has-not-lacks}
 
 -- the images that are left differ from the one that is next
-pub next-apart : (ws : List Wanted) (i : ℕ) (w : Wanted) → AreApart ws → i < length ws → w ≡ get_or ws i w → IsNoneOf w.image (drop (i + 1) ws)
-unfolding AreApart
+pub next-apart : (ws : List Wanted) (i : ℕ) (w : Wanted) → HaveOtherNames ws → i < length ws → w ≡ get_or ws i w → IsNoneOf w.image (drop (i + 1) ws)
+unfolding HaveOtherNames
 next-apart ws i w apart inside is =
-    let rest : AreApart (w ∷ drop (i + 1) ws) = subst AreApart (drop-next ws i w inside is) (apart-back (take i ws) (drop i ws) (subst AreApart (sym (take-append-drop i ws)) apart)) in
+    let rest : HaveOtherNames (w ∷ drop (i + 1) ws) = subst HaveOtherNames (drop-next ws i w inside is) (apart-back (take i ws) (drop i ws) (subst HaveOtherNames (sym (take-append-drop i ws)) apart)) in
     rest.0
 
 -- what holds of the image that is next, and of those behind it
 pub next-holds : (P : Wanted → Type 0) (ws : List Wanted) (i : ℕ) (w : Wanted) → i < length ws → w ≡ get_or ws i w → AllByRecursion P (drop i ws) → P w
 next-holds P ws i w inside is all = let next : AllByRecursion P (w ∷ drop (i + 1) ws) = subst (AllByRecursion P) (drop-next ws i w inside is) all in next.0
 
-pub rest-holds : (P : Image → Type 0) (ws : List Wanted) (i : ℕ) (w : Wanted) (at at' : Names) → AreApart ws → i < length ws → w ≡ get_or ws i w → ChangesOnly w.image at at'
+pub rest-holds : (P : Image → Type 0) (ws : List Wanted) (i : ℕ) (w : Wanted) (at at' : Names) → HaveOtherNames ws → i < length ws → w ≡ get_or ws i w → ChangesOnly w.image at at'
     → AllByRecursion (λ v. P (at v.image)) (drop i ws) → AllByRecursion (λ v. P (at' v.image)) (drop (i + 1) ws)
 rest-holds P ws i w at at' apart inside is only all =
     let next : AllByRecursion (λ v. P (at v.image)) (w ∷ drop (i + 1) ws) = subst (AllByRecursion (λ v. P (at v.image))) (drop-next ws i w inside is) all in
@@ -34,7 +34,7 @@ pub free-next : (ws : List Wanted) (i : ℕ) (w : Wanted) (at : Names) → i < l
 unfolding AreFree
 free-next ws i w at inside is free = next-holds (λ v. IsFree (at v.image).place) ws i w inside is free
 
-pub free-rest : (ws : List Wanted) (i : ℕ) (w : Wanted) (at at' : Names) → AreApart ws → i < length ws → w ≡ get_or ws i w → ChangesOnly w.image at at' → AreFree (drop i ws) at → AreFree (drop (i + 1) ws) at'
+pub free-rest : (ws : List Wanted) (i : ℕ) (w : Wanted) (at at' : Names) → HaveOtherNames ws → i < length ws → w ≡ get_or ws i w → ChangesOnly w.image at at' → AreFree (drop i ws) at → AreFree (drop (i + 1) ws) at'
 unfolding AreFree
 free-rest ws i w at at' apart inside is only free = rest-holds (λ im. IsFree im.place) ws i w at at' apart inside is only free
 
@@ -43,7 +43,7 @@ pub taken-next : (ws : List Wanted) (i : ℕ) (w : Wanted) (at : Names) → i < 
 unfolding AreTaken
 taken-next ws i w at inside is taken = next-holds (λ v. IsTaken (at v.image).place) ws i w inside is taken
 
-pub taken-rest : (ws : List Wanted) (i : ℕ) (w : Wanted) (at at' : Names) → AreApart ws → i < length ws → w ≡ get_or ws i w → ChangesOnly w.image at at' → AreTaken (drop i ws) at → AreTaken (drop (i + 1) ws) at'
+pub taken-rest : (ws : List Wanted) (i : ℕ) (w : Wanted) (at at' : Names) → HaveOtherNames ws → i < length ws → w ≡ get_or ws i w → ChangesOnly w.image at at' → AreTaken (drop i ws) at → AreTaken (drop (i + 1) ws) at'
 unfolding AreTaken
 taken-rest ws i w at at' apart inside is only taken = rest-holds (λ im. IsTaken im.place) ws i w at at' apart inside is only taken
 
@@ -59,7 +59,7 @@ chain-next R ws i w ds ds' d at mid at' inside is chain only call more =
     rw (take-next ws i w inside is, more) (chain-more R (take i ws) w ds d at mid at' chain only call)
 
 -- a chain of takings meets no image that lacks blocks
-points-has : (ws : List Wanted) (ds : List Device) (at at' : Names) → Points Takes ws ds at at' → (before : List Wanted) (w : Wanted) (after : List Wanted) → ws ≡ before ++ w ∷ after → LacksBlocks w (at w.image).place → ⊥
+points-has : (ws : List Wanted) (ds : List Device) (at at' : Names) → Points TakesImage ws ds at at' → (before : List Wanted) (w : Wanted) (after : List Wanted) → ws ≡ before ++ w ∷ after → LacksBlocks w (at w.image).place → ⊥
 unfolding Points
 points-has [] ds at at' points [] w after is lacks = cc
 points-has [] ds at at' points (v ∷ before) w after is lacks = cc
@@ -71,12 +71,12 @@ points-has (u ∷ ws) (d ∷ ds) at at' points (v ∷ before) w after is lacks =
     let rest : ws ≡ before ++ w ∷ after = cc in
     points-has ws ds at at' points.1 before w after rest lacks
 
-pub all-have : (ws : List Wanted) (ds : List Device) (at at' : Names) → AreApart ws → Chain Takes ws ds at at' → LacksOne ws at → ⊥
-all-have ws ds at at' apart chain lacks = points-has ws ds at at' (chain-points Takes ws ds at at' apart chain) lacks.before lacks.want lacks.after lacks.is lacks.lacks
+pub all-have : (ws : List Wanted) (ds : List Device) (at at' : Names) → HaveOtherNames ws → Chain TakesImage ws ds at at' → LacksOne ws at → ⊥
+all-have ws ds at at' apart chain lacks = points-has ws ds at at' (chain-points TakesImage ws ds at at' apart chain) lacks.before lacks.want lacks.after lacks.is lacks.lacks
 
 -- where taking stops
 pub taking-stops : (ws : List Wanted) (ds : List Device) (i : ℕ) (w : Wanted) (fault : NotRun) (at mid at' : Names) → i < length ws → w ≡ get_or ws i w
-    → Chain Takes (take i ws) ds at mid → ChangesOnly w.image mid at' → FailsToTake fault w (mid w.image) (at' w.image) → IsFree (at' w.image).place → TakingStops ws ds i fault at at'
+    → Chain TakesImage (take i ws) ds at mid → ChangesOnly w.image mid at' → FailsToTake fault w (mid w.image) (at' w.image) → IsFree (at' w.image).place → TakingStops ws ds i fault at at'
 taking-stops ws ds i w fault at mid at' inside is chain only fails free = record {
   before = take i ws;
   want = w;
@@ -175,19 +175,19 @@ module _ (ws : List Wanted) (ds left : List Device) (place : ℕ) (fault : NotRu
   pub after-count : length ds ≡ length ws → length left ≡ length stops.after
   after-count all = omega (arith, all, ap length stops.is, ap length stops.are, length-append stops.before (stops.want ∷ stops.after), length-append stops.first (stops.d ∷ left), chain-length PutsBack stops.before stops.first at stops.mid stops.put)
 
-  apart-is : AreApart ws → AreApart (stops.before ++ stops.want ∷ stops.after)
-  apart-is apart = subst AreApart stops.is apart
+  apart-is : HaveOtherNames ws → HaveOtherNames (stops.before ++ stops.want ∷ stops.after)
+  apart-is apart = subst HaveOtherNames stops.is apart
 
-  pub after-apart : AreApart ws → AreApart stops.after
-  unfolding AreApart
-  after-apart apart = let rest : AreApart (stops.want ∷ stops.after) = apart-back stops.before (stops.want ∷ stops.after) (apart-is apart) in rest.1
+  pub after-apart : HaveOtherNames ws → HaveOtherNames stops.after
+  unfolding HaveOtherNames
+  after-apart apart = let rest : HaveOtherNames (stops.want ∷ stops.after) = apart-back stops.before (stops.want ∷ stops.after) (apart-is apart) in rest.1
 
-  pub after-taken : AreApart ws → AreTaken ws at → AreTaken stops.after mid
-  unfolding AreApart AreTaken
+  pub after-taken : HaveOtherNames ws → AreTaken ws at → AreTaken stops.after mid
+  unfolding HaveOtherNames AreTaken
   after-taken apart taken =
       let all : AllByRecursion (λ v. IsTaken (at v.image).place) (stops.before ++ stops.want ∷ stops.after) = subst (AllByRecursion (λ v. IsTaken (at v.image).place)) stops.is taken in
       let rest = all-back (λ v. IsTaken (at v.image).place) stops.before (stops.want ∷ stops.after) all in
-      let apart2 : AreApart (stops.want ∷ stops.after) = apart-back stops.before (stops.want ∷ stops.after) (apart-is apart) in
+      let apart2 : HaveOtherNames (stops.want ∷ stops.after) = apart-back stops.before (stops.want ∷ stops.after) (apart-is apart) in
       let none = behind-none stops.before (stops.want ∷ stops.after) (apart-is apart) in
       let first = stay-behind PutsBack stops.before stops.after stops.first at stops.mid stops.put none.1 in
       all-kept (λ im. IsTaken im.place) stops.after at mid (trans-all stops.after at stops.mid mid first (stays-all stops.want stops.after stops.mid mid stops.only apart2.0)) rest.1
@@ -203,25 +203,25 @@ module _ (ws : List Wanted) (ds left : List Device) (place : ℕ) (fault : NotRu
       (chain-both (PutsOr true) stops.before (stops.want ∷ stops.after) stops.first (stops.d ∷ left) at stops.mid at' first (mid, stops.only, record { result = Err fault; puts = stops.fails; told = λ is. refl }, last)))
 
   -- the other names stay as they were until the rest is put back
-  rest-same : AreApart ws → AllByRecursion (λ w. mid w.image ≡ at w.image) stops.after
-  unfolding AreApart
+  rest-same : HaveOtherNames ws → AllByRecursion (λ w. mid w.image ≡ at w.image) stops.after
+  unfolding HaveOtherNames
   rest-same apart =
-      let behind : AreApart (stops.want ∷ stops.after) = apart-back stops.before (stops.want ∷ stops.after) (apart-is apart) in
+      let behind : HaveOtherNames (stops.want ∷ stops.after) = apart-back stops.before (stops.want ∷ stops.after) (apart-is apart) in
       let none = behind-none stops.before (stops.want ∷ stops.after) (apart-is apart) in
       let first = stay-behind PutsBack stops.before stops.after stops.first at stops.mid stops.put none.1 in
       trans-all stops.after at stops.mid mid first (stays-all stops.want stops.after stops.mid mid stops.only behind.0)
 
   -- memory ran out here
-  spent-first : (s : Bool) (at' : Names) → AreApart ws → fault ≡ NotRun.Memory → Chain (PutsOr s) stops.after left mid at' → SpentAmong ws at at'
-  unfolding AreApart
+  spent-first : (s : Bool) (at' : Names) → HaveOtherNames ws → fault ≡ NotRun.Memory → Chain (PutsOr s) stops.after left mid at' → SpentAmong ws at at'
+  unfolding HaveOtherNames
   spent-first s at' apart is rest =
-      let behind : AreApart (stops.want ∷ stops.after) = apart-back stops.before (stops.want ∷ stops.after) (apart-is apart) in
+      let behind : HaveOtherNames (stops.want ∷ stops.after) = apart-back stops.before (stops.want ∷ stops.after) (apart-is apart) in
       let last : at' stops.want.image ≡ mid stops.want.image = chain-others (PutsOr s) stops.after left mid at' rest stops.want.image behind.0 in
       let first : stops.mid stops.want.image ≡ at stops.want.image = chain-others PutsBack stops.before stops.first at stops.mid stops.put stops.want.image (back-none stops.before stops.want stops.after (apart-is apart)) in
       record { before = stops.before; want = stops.want; after = stops.after; is = stops.is; d = stops.d; puts = rw (last, sym first, sym is) stops.fails }
 
   -- or behind it
-  spent-behind : (at' : Names) → AreApart ws → SpentAmong stops.after mid at' → SpentAmong ws at at'
+  spent-behind : (at' : Names) → HaveOtherNames ws → SpentAmong stops.after mid at' → SpentAmong ws at at'
   spent-behind at' apart spent =
       let same : mid spent.want.image ≡ at spent.want.image = (all-back (λ w. mid w.image ≡ at w.image) spent.before (spent.want ∷ spent.after) (subst (AllByRecursion (λ w. mid w.image ≡ at w.image)) spent.is (rest-same apart))).0 in
       record {
@@ -233,14 +233,14 @@ module _ (ws : List Wanted) (ds left : List Device) (place : ℕ) (fault : NotRu
         puts = rw (sym same) spent.puts;
       }
 
-  pub ends-spent : (s : Bool) (at' : Names) → AreApart ws → Chain (PutsOr s) stops.after left mid at' → SpentAmong stops.after mid at' → PutEnds NotRun.Memory ws ds place at at'
+  pub ends-spent : (s : Bool) (at' : Names) → HaveOtherNames ws → Chain (PutsOr s) stops.after left mid at' → SpentAmong stops.after mid at' → PutEnds NotRun.Memory ws ds place at at'
   ends-spent s at' apart rest spent = (spent-whole s at' rest, spent-behind at' apart spent)
 
-  pub ends-first : (s : Bool) (at' : Names) → AreApart ws → fault ≡ NotRun.Memory → Chain (PutsOr s) stops.after left mid at' → PutEnds NotRun.Memory ws ds place at at'
+  pub ends-first : (s : Bool) (at' : Names) → HaveOtherNames ws → fault ≡ NotRun.Memory → Chain (PutsOr s) stops.after left mid at' → PutEnds NotRun.Memory ws ds place at at'
   ends-first s at' apart is rest = (spent-whole s at' rest, spent-first s at' apart is rest)
 
 -- or it ran out nowhere
-pub ends-so : (ws : List Wanted) (ds left : List Device) (place : ℕ) (fault : NotRun) (at mid at' : Names) (s : Bool) (stops : PuttingStops ws ds left place fault at mid) → AreApart ws → s ≡ false → Chain (PutsOr s) stops.after left mid at' → PutEnds fault ws ds place at at'
+pub ends-so : (ws : List Wanted) (ds left : List Device) (place : ℕ) (fault : NotRun) (at mid at' : Names) (s : Bool) (stops : PuttingStops ws ds left place fault at mid) → HaveOtherNames ws → s ≡ false → Chain (PutsOr s) stops.after left mid at' → PutEnds fault ws ds place at at'
 ends-so ws ds left place NotRun.Image at mid at' s stops apart none rest = record { left = left; mid = mid; stops = stops; rest = subst (λ b. Chain (PutsOr b) stops.after left mid at') none rest }
 ends-so ws ds left place NotRun.Memory at mid at' s stops apart none rest = ends-first ws ds left place NotRun.Memory at mid stops s at' apart refl rest
 
@@ -267,13 +267,13 @@ spent-here R us w ds d at mid at' none chain puts = record {
   puts = rw (sym (chain-others R us ds at mid chain w.image none)) puts;
 }
 
-pub spent-next : (ws : List Wanted) (i : ℕ) (w : Wanted) (ds : List Device) (d : Device) (s one : Bool) (at mid at' : Names) → AreApart ws → i < length ws → w ≡ get_or ws i w
+pub spent-next : (ws : List Wanted) (i : ℕ) (w : Wanted) (ds : List Device) (d : Device) (s one : Bool) (at mid at' : Names) → HaveOtherNames ws → i < length ws → w ≡ get_or ws i w
     → Chain (PutsOr s) (take i ws) ds at mid → (s ≡ true → SpentAmong (take i ws) at mid) → ChangesOnly w.image mid at' → (one ≡ true → Puts (Err NotRun.Memory) d (mid w.image) (at' w.image)) → (s || one) ≡ true → SpentAmong (take (i + 1) ws) at at'
 spent-next ws i w ds d s one at mid at' apart inside is chain before only here some =
     subst (λ l. SpentAmong l at at') (sym (take-next ws i w inside is)) (by s refl)
   where
     none : IsNoneOf w.image (take i ws)
-    none = back-none (take i ws) w (drop (i + 1) ws) (subst AreApart (split-at ws i w inside is) apart)
+    none = back-none (take i ws) w (drop (i + 1) ws) (subst HaveOtherNames (split-at ws i w inside is) apart)
 
     by : (b : Bool) → s ≡ b → SpentAmong (take i ws ++ w ∷ []) at at'
     by true is_spent = spent-later (take i ws) w at mid at' none only (before is_spent)

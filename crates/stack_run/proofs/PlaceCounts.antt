@@ -12,7 +12,7 @@ use Rattle.shared_disk.specs.Lines.{Role, with_line_entry}
 use Rattle.shared_disk.specs.Script.{Script, Deed, Enters, Does, entries_by, places_by, with_place, MayComeNext, Follows, KeepsScript}
 use Rattle.script_text.specs.declared.language.plans.ClientPlan.{ClientPlan}
 use Rattle.script_text.specs.Planned.{client_lines}
-use Rattle.stack_run.specs.Clients.{roles_in}
+use Rattle.stack_run.specs.Clients.{script_roles}
 
 -- how many lines the clients from i on have done
 abbrev places_from : List Entry → List Deed → ℕ → List Role → ℕ
@@ -126,11 +126,11 @@ accepted-few S d places H keeps begins =
     let none : accepted d.opening ≡ 0 = ap accepted begins ∙ accepted-none in
     omega (arith, most, few, none, ap accepted keeps.history)
 
-lines-same : (clients : List ClientPlan) → sum_by (λ (role : Role). length role.orders) (roles_in clients) ≡ sum_by client_lines clients
+lines-same : (clients : List ClientPlan) → sum_by (λ (role : Role). length role.orders) (script_roles clients) ≡ sum_by client_lines clients
 lines-same [] = refl
-lines-same (client ∷ more) = rw (sum_by-cons (λ (role : Role). length role.orders) (Rattle.stack_run.specs.Clients.role_in client) (roles_in more), sum_by-cons client_lines client more, lines-same more) refl
+lines-same (client ∷ more) = rw (sum_by-cons (λ (role : Role). length role.orders) (Rattle.stack_run.specs.Clients.role_in client) (script_roles more), sum_by-cons client_lines client more, lines-same more) refl
 
 -- no more than the lines of a disk
-pub tokens-few : (S : Setup) (d : Script) (places : List (List ℕ)) (H : List Entry) (clients : List ClientPlan) → KeepsScript S d places H → d.opening ≡ [] → d.roles ≡ roles_in clients → accepted H ≤ sum_by client_lines clients
+pub tokens-few : (S : Setup) (d : Script) (places : List (List ℕ)) (H : List Entry) (clients : List ClientPlan) → KeepsScript S d places H → d.opening ≡ [] → d.roles ≡ script_roles clients → accepted H ≤ sum_by client_lines clients
 tokens-few S d places H clients keeps begins roles =
     omega (arith, accepted-few S d places H keeps begins, ap (sum_by (λ (role : Role). length role.orders)) roles, lines-same clients)

@@ -22,7 +22,7 @@ use Rattle.shared_disk.proofs.KeptLemmas.{keeps-nothing}
 use Rattle.device_workers.specs.Plain.{plain_history}
 use Rattle.device_workers.specs.Serving.{WantsMemory, IsPlainFront}
 use Rattle.device_workers.proofs.FreshLemmas.{opens-none}
-use Rattle.stack_run.specs.Clients.{roles_in, script_in}
+use Rattle.stack_run.specs.Clients.{script_roles, script_in}
 use Rattle.stack_run.specs.declared.desk_run.Run.{Run}
 use Rattle.stack_run.specs.Runs.{RanPlain, RanInPart, Follow, RanOver, RanSomeOver}
 
@@ -45,9 +45,9 @@ pub nothing-done : (plan : DiskPlan) (S : Setup) → RanInPart plan S [] []
 nothing-done plan S = record {
   begins = refl;
   legal = fresh-legal S;
-  places = map (λ role. []) (roles_in plan.clients);
-  keeps = keeps-nothing S (script_in plan []) (map (λ role. []) (roles_in plan.clients)) opens-none (length-map (roles_in plan.clients) (λ role. [])) (no-places (roles_in plan.clients));
-  front = record { outcomes = []; more = plain_history S [] (roles_in plan.clients) []; front = sym (append-nil (plain_history S [] (roles_in plan.clients) [])) };
+  places = map (λ role. []) (script_roles plan.clients);
+  keeps = keeps-nothing S (script_in plan []) (map (λ role. []) (script_roles plan.clients)) opens-none (length-map (script_roles plan.clients) (λ role. [])) (no-places (script_roles plan.clients));
+  front = record { outcomes = []; more = plain_history S [] (script_roles plan.clients) []; front = sym (append-nil (plain_history S [] (script_roles plan.clients) [])) };
   short = inl refl;
 }
 

@@ -7,7 +7,7 @@ use Rattle.script_text.specs.declared.language.plans.DiskPlan.{DiskPlan}
 use Rattle.script_text.specs.Report.{givens_of}
 use Rattle.stack_run.specs.declared.desk_run.Run.{Run}
 use Rattle.stack_run.specs.Media.{IsLeft}
-use Rattle.stack_run.specs.Serving.{HasRun, AreReports, disk_report}
+use Rattle.stack_run.specs.Serving.{DiskHasRun, AreReports, disk_report}
 use Rattle.stack_run.specs.Stages.{HasRunAs, AllRan}
 use Rattle.stack_run.specs.Reporting.{IsReportable, AreReportable, TellsDisk, IsWrittenSo}
 use Rattle.stack_run.proofs.ChainLemmas.{Names, drop-next}
@@ -35,7 +35,7 @@ writes-none plans runs wrote at at' ran = record { front = []; added = appends-n
     one = refl
 
 -- the run of a disk, without what its writer needs
-abbrev pub run-of : (plan : DiskPlan) (at at' : Names) (run : Run) → HasRunAs plan at at' run → HasRun IsLeft plan at at'
+abbrev pub run-of : (plan : DiskPlan) (at at' : Names) (run : Run) → HasRunAs plan at at' run → DiskHasRun IsLeft plan at at'
 run-of plan at at' run ran = record { setup = ran.setup; history = run.history.entries; given = givens_of run.ends.items; opened = ran.opened; ran = ran.ran; images = ran.images }
 
 abbrev pub text-of : (number : ℕ) (plan : DiskPlan) (at at' : Names) (run : Run) → HasRunAs plan at at' run → List ℕ

@@ -19,9 +19,9 @@ use Rattle.stack_run.specs.declared.desk_run.Run.{Run}
 use Rattle.stack_run.specs.declared.refusal.NotRun.{NotRun}
 use Rattle.stack_run.specs.declared.wanted.Wanted.{Wanted}
 use Rattle.stack_run.specs.Media.{media_names, wanted_by, wanted_of, Opens, OpenEach, IsSetupOf, Leaves, IsLeft, IsLost, Stayed, IsLeftOrLost, IsLeftOrGone, EachMedium}
-use Rattle.stack_run.specs.Chains.{Takes, Puts, PutsBack, PutsOr}
+use Rattle.stack_run.specs.Chains.{TakesImage, Puts, PutsBack, PutsOr}
 use Rattle.stack_run.specs.Runs.{setup_over, IsEra, AreEras, IsSplit, RanDisk, RanAll, AllInPart, RanSomeOfAll}
-use Rattle.stack_run.specs.Serving.{HasRun, HasRunInPart}
+use Rattle.stack_run.specs.Serving.{DiskHasRun, HasRunInPart}
 use Rattle.stack_run.specs.Stages.{AllRan}
 use Rattle.stack_run.proofs.ChainLemmas.{Call, Names, IsNoneOf, Points}
 use Rattle.stack_run.proofs.DiskLoops.{count-named}
@@ -61,7 +61,7 @@ module _ (S : Setup) (k : ℕ) (bytes : List ℕ) (first : first_of S k ≡ Some
   kept-told H = if-told S.cached (flushed_contents S k H) (contents S k H) (flushed-told H) (contents-told H)
 
 -- one medium of a disk
-module _ (S : Setup) (H : List Entry) (k : ℕ) (want : Wanted) (d d' : Device) (old mid new : Image) (sized : size_of S ≡ want.size) (takes : Takes want d old mid) (era : IsEra S H k d d') where
+module _ (S : Setup) (H : List Entry) (k : ℕ) (want : Wanted) (d d' : Device) (old mid new : Image) (sized : size_of S ≡ want.size) (takes : TakesImage want d old mid) (era : IsEra S H k d d') where
   worn-is : new.worn ≡ adds mid.worn d'.failed → new.worn ≡ adds old.worn (era_faults k H)
   worn-is is = is ∙ (rw (takes.worn, era.meets.failed) refl)
 
@@ -107,8 +107,8 @@ module _ (S : Setup) (H : List Entry) (k : ℕ) (want : Wanted) (d d' : Device) 
 
 -- all media of a disk
 module _ (plan : DiskPlan) (S : Setup) (H : List Entry) (sized : size_of S ≡ plan.size) (at mid at' : Names) (Call2 : Call) (Ends : ℕ → Image → Image → Type 0)
-    (each : (k : ℕ) (want : Wanted) (d d' : Device) (old mid new : Image) → size_of S ≡ want.size → Takes want d old mid → IsEra S H k d d' → Call2 want d' mid new → Ends k old new) where
-  pub each-medium : (names : List (List ℕ)) (k : ℕ) (ds ds' : List Device) → Points Takes (map (wanted_by plan) names) ds at mid → AreEras S H k ds ds' → Points Call2 (map (wanted_by plan) names) ds' mid at' → EachMedium Ends k names at at'
+    (each : (k : ℕ) (want : Wanted) (d d' : Device) (old mid new : Image) → size_of S ≡ want.size → TakesImage want d old mid → IsEra S H k d d' → Call2 want d' mid new → Ends k old new) where
+  pub each-medium : (names : List (List ℕ)) (k : ℕ) (ds ds' : List Device) → Points TakesImage (map (wanted_by plan) names) ds at mid → AreEras S H k ds ds' → Points Call2 (map (wanted_by plan) names) ds' mid at' → EachMedium Ends k names at at'
   unfolding Points AreEras
   each-medium [] k ds ds' takes eras puts = tt
   each-medium (n ∷ names) k [] ds' takes eras puts = absurd takes
@@ -117,7 +117,7 @@ module _ (plan : DiskPlan) (S : Setup) (H : List Entry) (sized : size_of S ≡ p
       (each k (wanted_by plan n) d d' (at n) (mid n) (at' n) sized takes.0 eras.0 puts.0, each-medium names (k + 1) ds ds' takes.1 eras.1 puts.1)
 
 -- the setup of a disk over its images
-opens : (want : Wanted) (d : Device) (old mid : Image) → Takes want d old mid → Opens want.size old.place (opening_from d)
+opens : (want : Wanted) (d : Device) (old mid : Image) → TakesImage want d old mid → Opens want.size old.place (opening_from d)
 unfolding GivesBlocks
 opens want d old mid takes = by old.place takes.taking
   where
@@ -127,7 +127,7 @@ opens want d old mid takes = by old.place takes.taking
     by (Taken tail) taking = absurd taking.blocks
     by Untold taking = tt
 
-open-each : (plan : DiskPlan) (names : List (List ℕ)) (ds : List Device) (at mid : Names) → Points Takes (map (wanted_by plan) names) ds at mid → OpenEach plan.size at names (map opening_from ds) × AllByRecursion (λ (o : Opening). o.blocks % plan.physical ≡ 0) (map opening_from ds)
+open-each : (plan : DiskPlan) (names : List (List ℕ)) (ds : List Device) (at mid : Names) → Points TakesImage (map (wanted_by plan) names) ds at mid → OpenEach plan.size at names (map opening_from ds) × AllByRecursion (λ (o : Opening). o.blocks % plan.physical ≡ 0) (map opening_from ds)
 unfolding Points
 open-each plan [] [] at mid takes = (tt, tt)
 open-each plan [] (d ∷ ds) at mid takes = absurd takes
@@ -136,7 +136,7 @@ open-each plan (n ∷ names) (d ∷ ds) at mid takes =
     let (opened, whole) = open-each plan names ds at mid takes.1 in
     ((opens (wanted_by plan n) d (at n) (mid n) takes.0, opened), (takes.0.whole, whole))
 
-pub setup-of-disk : (plan : DiskPlan) (ds : List Device) (at mid : Names) → Points Takes (map (wanted_by plan) (media_names plan)) ds at mid → IsSetupOf plan at (setup_over plan ds)
+pub setup-of-disk : (plan : DiskPlan) (ds : List Device) (at mid : Names) → Points TakesImage (map (wanted_by plan) (media_names plan)) ds at mid → IsSetupOf plan at (setup_over plan ds)
 setup-of-disk plan ds at mid takes =
     let (opened, whole) = open-each plan (media_names plan) ds at mid takes in
     record { geometry = refl; cached = refl; protected = refl; media = opened; whole = whole }
@@ -157,13 +157,13 @@ module _ (R : Call) (plan : DiskPlan) (plans : List DiskPlan) (ds own rest : Lis
   disk-points points = points-split R (map (wanted_by plan) (media_names plan)) (wanted_of plans) own rest at at' (count ∙ sym (count-named plan)) (subst (λ l. Points R (wanted_of (plan ∷ plans)) l at at') cut points)
 
 -- all disks ran, and all images are put back
-pub all-ran-so : (plans : List DiskPlan) (before after : List Device) (runs : List Run) (at mid at' : Names) → Points Takes (wanted_of plans) before at mid → RanAll plans before after runs → Points PutsBack (wanted_of plans) after mid at' → AllRan plans at at' runs
+pub all-ran-so : (plans : List DiskPlan) (before after : List Device) (runs : List Run) (at mid at' : Names) → Points TakesImage (wanted_of plans) before at mid → RanAll plans before after runs → Points PutsBack (wanted_of plans) after mid at' → AllRan plans at at' runs
 unfolding RanAll AllRan
 all-ran-so [] before after [] at mid at' takes ran puts = tt
 all-ran-so [] before after (run ∷ runs) at mid at' takes (b, a, r) puts = absurd (cc)
 all-ran-so (plan ∷ plans) before after [] at mid at' takes ran puts = absurd ran
 all-ran-so (plan ∷ plans) before after (run ∷ runs) at mid at' takes (own, own', rest, rest', split, disk, more) puts =
-    let (took, took2) = disk-points Takes plan plans before own rest at mid split.taken disk.count takes in
+    let (took, took2) = disk-points TakesImage plan plans before own rest at mid split.taken disk.count takes in
     let count' = eras-count (setup_over plan own) run.history.entries 1 own own' disk.media ∙ disk.count in
     let (put, put2) = disk-points PutsBack plan plans after own' rest' mid at' split.back count' puts in (
       record {
@@ -184,11 +184,11 @@ all-ran-so (plan ∷ plans) before after (run ∷ runs) at mid at' takes (own, o
 
 -- all disks ran, and an image could not be put back
 module _ (s : Bool) (Ends : Setup → List Entry → ℕ → Image → Image → Type 0)
-    (each : (S : Setup) (H : List Entry) (k : ℕ) (want : Wanted) (d d' : Device) (old mid new : Image) → size_of S ≡ want.size → Takes want d old mid → IsEra S H k d d' → PutsOr s want d' mid new → Ends S H k old new) where
-  disk-ends : (plan : DiskPlan) (plans : List DiskPlan) (before after own own' rest rest' : List Device) (run : Run) (at mid at' : Names) → Points Takes (wanted_of (plan ∷ plans)) before at mid → IsSplit before after own own' rest rest' → RanDisk plan own own' run
-      → Points (PutsOr s) (wanted_of (plan ∷ plans)) after mid at' → HasRun Ends plan at at' × (Points Takes (wanted_of plans) rest at mid × Points (PutsOr s) (wanted_of plans) rest' mid at')
+    (each : (S : Setup) (H : List Entry) (k : ℕ) (want : Wanted) (d d' : Device) (old mid new : Image) → size_of S ≡ want.size → TakesImage want d old mid → IsEra S H k d d' → PutsOr s want d' mid new → Ends S H k old new) where
+  disk-ends : (plan : DiskPlan) (plans : List DiskPlan) (before after own own' rest rest' : List Device) (run : Run) (at mid at' : Names) → Points TakesImage (wanted_of (plan ∷ plans)) before at mid → IsSplit before after own own' rest rest' → RanDisk plan own own' run
+      → Points (PutsOr s) (wanted_of (plan ∷ plans)) after mid at' → DiskHasRun Ends plan at at' × (Points TakesImage (wanted_of plans) rest at mid × Points (PutsOr s) (wanted_of plans) rest' mid at')
   disk-ends plan plans before after own own' rest rest' run at mid at' takes split disk puts =
-      let (took, took2) = disk-points Takes plan plans before own rest at mid split.taken disk.count takes in
+      let (took, took2) = disk-points TakesImage plan plans before own rest at mid split.taken disk.count takes in
       let count' = eras-count (setup_over plan own) run.history.entries 1 own own' disk.media ∙ disk.count in
       let (put, put2) = disk-points (PutsOr s) plan plans after own' rest' mid at' split.back count' puts in (
         record {
@@ -202,7 +202,7 @@ module _ (s : Bool) (Ends : Setup → List Entry → ℕ → Image → Image →
         (took2, put2),
       )
 
-  all-ends : (plans : List DiskPlan) (before after : List Device) (runs : List Run) (at mid at' : Names) → Points Takes (wanted_of plans) before at mid → RanAll plans before after runs → Points (PutsOr s) (wanted_of plans) after mid at' → AllByRecursion (λ plan. HasRun Ends plan at at') plans
+  all-ends : (plans : List DiskPlan) (before after : List Device) (runs : List Run) (at mid at' : Names) → Points TakesImage (wanted_of plans) before at mid → RanAll plans before after runs → Points (PutsOr s) (wanted_of plans) after mid at' → AllByRecursion (λ plan. DiskHasRun Ends plan at at') plans
   unfolding RanAll
   all-ends [] before after runs at mid at' takes ran puts = tt
   all-ends (plan ∷ plans) before after [] at mid at' takes ran puts = absurd ran
@@ -210,21 +210,21 @@ module _ (s : Bool) (Ends : Setup → List Entry → ℕ → Image → Image →
       let (here, (took, put)) = disk-ends plan plans before after own own' rest rest' run at mid at' takes split disk puts in
       (here, all-ends plans rest rest' runs at mid at' took more put)
 
-pub all-ran-lost : (plans : List DiskPlan) (before after : List Device) (runs : List Run) (at mid at' : Names) → Points Takes (wanted_of plans) before at mid → RanAll plans before after runs → Points (PutsOr false) (wanted_of plans) after mid at' → AllByRecursion (λ plan. HasRun IsLeftOrLost plan at at') plans
+pub all-ran-lost : (plans : List DiskPlan) (before after : List Device) (runs : List Run) (at mid at' : Names) → Points TakesImage (wanted_of plans) before at mid → RanAll plans before after runs → Points (PutsOr false) (wanted_of plans) after mid at' → AllByRecursion (λ plan. DiskHasRun IsLeftOrLost plan at at') plans
 all-ran-lost plans before after runs at mid at' takes ran puts = all-ends false IsLeftOrLost (λ S H k w d d' old m new. is-left-or-lost S H k w d d' old m new) plans before after runs at mid at' takes ran puts
 
-gone-each : (s : Bool) (S : Setup) (H : List Entry) (k : ℕ) (want : Wanted) (d d' : Device) (old mid new : Image) → size_of S ≡ want.size → Takes want d old mid → IsEra S H k d d' → PutsOr s want d' mid new → IsLeftOrGone S H k old new
+gone-each : (s : Bool) (S : Setup) (H : List Entry) (k : ℕ) (want : Wanted) (d d' : Device) (old mid new : Image) → size_of S ≡ want.size → TakesImage want d old mid → IsEra S H k d d' → PutsOr s want d' mid new → IsLeftOrGone S H k old new
 gone-each s S H k w d d' old mid new sized takes era puts = is-left-or-gone S H k w d d' old mid new sized takes era s puts
 
-pub all-ran-gone : (plans : List DiskPlan) (before after : List Device) (runs : List Run) (s : Bool) (at mid at' : Names) → Points Takes (wanted_of plans) before at mid → RanAll plans before after runs → Points (PutsOr s) (wanted_of plans) after mid at' → AllByRecursion (λ plan. HasRun IsLeftOrGone plan at at') plans
+pub all-ran-gone : (plans : List DiskPlan) (before after : List Device) (runs : List Run) (s : Bool) (at mid at' : Names) → Points TakesImage (wanted_of plans) before at mid → RanAll plans before after runs → Points (PutsOr s) (wanted_of plans) after mid at' → AllByRecursion (λ plan. DiskHasRun IsLeftOrGone plan at at') plans
 all-ran-gone plans before after runs s at mid at' takes ran puts = all-ends s IsLeftOrGone (gone-each s) plans before after runs at mid at' takes ran puts
 
 -- these ran in part
-part-ran-so : (plans : List DiskPlan) (before after : List Device) (s : Bool) (at mid at' : Names) → Points Takes (wanted_of plans) before at mid → AllInPart plans before after → Points (PutsOr s) (wanted_of plans) after mid at' → AllByRecursion (λ plan. HasRunInPart plan at at') plans
+part-ran-so : (plans : List DiskPlan) (before after : List Device) (s : Bool) (at mid at' : Names) → Points TakesImage (wanted_of plans) before at mid → AllInPart plans before after → Points (PutsOr s) (wanted_of plans) after mid at' → AllByRecursion (λ plan. HasRunInPart plan at at') plans
 unfolding AllInPart
 part-ran-so [] before after s at mid at' takes ran puts = tt
 part-ran-so (plan ∷ plans) before after s at mid at' takes (own, own', rest, rest', split, disk, more) puts =
-    let (took, took2) = disk-points Takes plan plans before own rest at mid split.taken disk.count takes in
+    let (took, took2) = disk-points TakesImage plan plans before own rest at mid split.taken disk.count takes in
     let count' = eras-count (setup_over plan own) disk.history 1 own own' disk.media ∙ disk.count in
     let (put, put2) = disk-points (PutsOr s) plan plans after own' rest' mid at' split.back count' puts in (
       record {
@@ -238,8 +238,8 @@ part-ran-so (plan ∷ plans) before after s at mid at' takes (own, own', rest, r
     )
 
 -- the first disks ran to their end, and the others in part
-pub some-ran-so : (ran left : List DiskPlan) (before after : List Device) (s : Bool) (at mid at' : Names) → Points Takes (wanted_of (ran ++ left)) before at mid → RanSomeOfAll ran left before after → Points (PutsOr s) (wanted_of (ran ++ left)) after mid at'
-    → AllByRecursion (λ plan. HasRun IsLeftOrGone plan at at') ran × AllByRecursion (λ plan. HasRunInPart plan at at') left
+pub some-ran-so : (ran left : List DiskPlan) (before after : List Device) (s : Bool) (at mid at' : Names) → Points TakesImage (wanted_of (ran ++ left)) before at mid → RanSomeOfAll ran left before after → Points (PutsOr s) (wanted_of (ran ++ left)) after mid at'
+    → AllByRecursion (λ plan. DiskHasRun IsLeftOrGone plan at at') ran × AllByRecursion (λ plan. HasRunInPart plan at at') left
 unfolding RanSomeOfAll
 some-ran-so [] left before after s at mid at' takes some puts = (tt, part-ran-so left before after s at mid at' takes some puts)
 some-ran-so (plan ∷ ran) left before after s at mid at' takes (own, own', rest, rest', split, (run, disk), more) puts =

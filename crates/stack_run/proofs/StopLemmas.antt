@@ -14,7 +14,7 @@ use Rattle.stack_run.specs.declared.wanted.Wanted.{Wanted}
 use Rattle.history.specs.Setup.{Opening}
 use Rattle.std.proofs.lemmas.List.{length-map}
 use Rattle.stack_run.specs.Media.{media_names, OpenEach, wanted_of, MayHaveBlocks, Stayed, IsAsItWas, IsBackOrLost, IsBackOrGone, IsUnmade, ChangesAmong}
-use Rattle.stack_run.specs.Chains.{Takes, Puts, PutsBack, PutsOr, SpentAmong, Chain, AreApart, AreTaken, AreMade, TakingStops, PuttingStops, PutsAround, PutEnds, FailsToTake}
+use Rattle.stack_run.specs.Chains.{TakesImage, Puts, PutsBack, PutsOr, SpentAmong, Chain, HaveOtherNames, AreTaken, AreMade, TakingStops, PuttingStops, PutsAround, PutEnds, FailsToTake}
 use Rattle.stack_run.specs.Runs.{RanAll, RunsStop}
 use Rattle.stack_run.specs.Serving.{IsFirstAt, NotTaken, NotTakenSpent, MemoryLeaves}
 use Rattle.stack_run.specs.Stages.{HasRunAs, AllRan, ImageStops, RunStops}
@@ -29,7 +29,7 @@ unchanged : (old new : Image) → new ≡ old → IsAsItWas Stayed old new
 unchanged old new same = record { place = ap (λ (i : Image). i.place) same; worn = ap (λ (i : Image). adds i.worn 0) same; count = ap (λ (i : Image). i.faults) same }
 
 -- an image that was taken, and put back with nothing done
-back-gone : (s : Bool) (w : Wanted) (d : Device) (old mid new : Image) → Takes w d old mid → PutsOr s w d mid new → IsBackOrGone old new
+back-gone : (s : Bool) (w : Wanted) (d : Device) (old mid new : Image) → TakesImage w d old mid → PutsOr s w d mid new → IsBackOrGone old new
 back-gone s w d old mid new takes puts = by puts.result puts.puts
   where
     by : (result : Result (Unit {0}) NotRun) → Puts result d mid new → IsBackOrGone old new
@@ -37,7 +37,7 @@ back-gone s w d old mid new takes puts = by puts.result puts.puts
     by (Err NotRun.Image) put = inl (inr (is-lost old mid new w.size w.cached d takes.taking takes.worn Rose NotRun.Image put (rw takes.quiet at put.cause.failed refl)))
     by (Err NotRun.Memory) put = inr (is-lost old mid new w.size w.cached d takes.taking takes.worn Stayed NotRun.Memory put (put.cause.quiet (λ same. cc) ∙ takes.quiet))
 
-back-lost : (w : Wanted) (d : Device) (old mid new : Image) → Takes w d old mid → PutsOr false w d mid new → IsBackOrLost old new
+back-lost : (w : Wanted) (d : Device) (old mid new : Image) → TakesImage w d old mid → PutsOr false w d mid new → IsBackOrLost old new
 back-lost w d old mid new takes puts = by puts.result puts.puts puts.told
   where
     by : (result : Result (Unit {0}) NotRun) → Puts result d mid new → (result ≡ Err NotRun.Memory → false ≡ true) → IsBackOrLost old new
@@ -53,7 +53,7 @@ both-points R Q P each [] ds at mid at' first last = tt
 both-points R Q P each (w ∷ ws) [] at mid at' first last = absurd first
 both-points R Q P each (w ∷ ws) (d ∷ ds) at mid at' first last = (each w d _ _ _ first.0 last.0, both-points R Q P each ws ds at mid at' first.1 last.1)
 
-has-points : (ws : List Wanted) (ds : List Device) (at mid : Names) → Points Takes ws ds at mid → AllByRecursion (λ w. MayHaveBlocks w (at w.image).place) ws
+has-points : (ws : List Wanted) (ds : List Device) (at mid : Names) → Points TakesImage ws ds at mid → AllByRecursion (λ w. MayHaveBlocks w (at w.image).place) ws
 unfolding Points
 has-points [] ds at mid points = tt
 has-points (w ∷ ws) [] at mid points = absurd points
@@ -65,38 +65,38 @@ free-points s [] ds at at' points = tt
 free-points s (w ∷ ws) [] at at' points = absurd points
 free-points s (w ∷ ws) (d ∷ ds) at at' points = (points.0.puts.free, free-points s ws ds at at' points.1)
 
-taken-points : (ws : List Wanted) (ds : List Device) (at mid : Names) → Points Takes ws ds at mid → AllByRecursion (λ w. IsTaken (mid w.image).place) ws
+taken-points : (ws : List Wanted) (ds : List Device) (at mid : Names) → Points TakesImage ws ds at mid → AllByRecursion (λ w. IsTaken (mid w.image).place) ws
 unfolding Points
 taken-points [] ds at mid points = tt
 taken-points (w ∷ ws) [] at mid points = absurd points
 taken-points (w ∷ ws) (d ∷ ds) at mid points = (points.0.taking.taken, taken-points ws ds at mid points.1)
 
-some-taken : (ws : List Wanted) (ds : List Device) (at mid : Names) → Points Takes ws ds at mid → AllByRecursion (λ w. (d : Device) × Takes w d (at w.image) (mid w.image)) ws
+some-taken : (ws : List Wanted) (ds : List Device) (at mid : Names) → Points TakesImage ws ds at mid → AllByRecursion (λ w. (d : Device) × TakesImage w d (at w.image) (mid w.image)) ws
 unfolding Points
 some-taken [] ds at mid points = tt
 some-taken (w ∷ ws) [] at mid points = absurd points
 some-taken (w ∷ ws) (d ∷ ds) at mid points = ((d, points.0), some-taken ws ds at mid points.1)
 
 -- each is a fresh medium as it was wanted
-made-points : (ws : List Wanted) (ds : List Device) (at mid : Names) → Points Takes ws ds at mid → AreMade ws ds
+made-points : (ws : List Wanted) (ds : List Device) (at mid : Names) → Points TakesImage ws ds at mid → AreMade ws ds
 unfolding Points AreMade
 made-points [] [] at mid points = tt
 made-points [] (d ∷ ds) at mid points = absurd points
 made-points (w ∷ ws) [] at mid points = absurd points
 made-points (w ∷ ws) (d ∷ ds) at mid points = (record { fresh = points.0.taking.fresh; size = points.0.taking.size; cached = points.0.taking.cached; whole = points.0.whole }, made-points ws ds at mid points.1)
 
-pub are-made : (ws : List Wanted) (ds : List Device) (at mid : Names) → AreApart ws → Chain Takes ws ds at mid → AreMade ws ds
-are-made ws ds at mid apart chain = made-points ws ds at mid (chain-points Takes ws ds at mid apart chain)
+pub are-made : (ws : List Wanted) (ds : List Device) (at mid : Names) → HaveOtherNames ws → Chain TakesImage ws ds at mid → AreMade ws ds
+are-made ws ds at mid apart chain = made-points ws ds at mid (chain-points TakesImage ws ds at mid apart chain)
 
 -- the images that were taken are so
-pub are-taken : (ws : List Wanted) (ds : List Device) (at mid : Names) → AreApart ws → Chain Takes ws ds at mid → AreTaken ws mid
+pub are-taken : (ws : List Wanted) (ds : List Device) (at mid : Names) → HaveOtherNames ws → Chain TakesImage ws ds at mid → AreTaken ws mid
 unfolding AreTaken
-are-taken ws ds at mid apart chain = taken-points ws ds at mid (chain-points Takes ws ds at mid apart chain)
+are-taken ws ds at mid apart chain = taken-points ws ds at mid (chain-points TakesImage ws ds at mid apart chain)
 
 -- all names are free again, and all others are as they were
-module _ (s : Bool) (ws : List Wanted) (ds es : List Device) (at mid at' : Names) (apart : AreApart ws) (takes : Chain Takes ws ds at mid) (puts : Chain (PutsOr s) ws es mid at') where
+module _ (s : Bool) (ws : List Wanted) (ds es : List Device) (at mid at' : Names) (apart : HaveOtherNames ws) (takes : Chain TakesImage ws ds at mid) (puts : Chain (PutsOr s) ws es mid at') where
   pub others-so : (name : List ℕ) → IsNoneOf name ws → at' name ≡ at name
-  others-so name none = chain-others (PutsOr s) ws es mid at' puts name none ∙ chain-others Takes ws ds at mid takes name none
+  others-so name none = chain-others (PutsOr s) ws es mid at' puts name none ∙ chain-others TakesImage ws ds at mid takes name none
 
   pub free-so : ((name : List ℕ) → IsFree (at name).place) → (name : List ℕ) → IsFree (at' name).place
   free-so free = by-name (λ name. IsFree (at' name).place) ws (λ name none. subst (λ (i : Image). IsFree i.place) (sym (others-so name none)) (free name)) (free-points s ws es mid at' (chain-points (PutsOr s) ws es mid at' apart puts))
@@ -105,24 +105,24 @@ pub changes-among : (plans : List DiskPlan) (ws : List Wanted) (at at' : Names) 
 changes-among plans ws at at' same others other none = others other (subst (λ l. IsNoneOf other l) (sym same) (none-wanted other plans none))
 
 -- where taking stopped, and what was taken is put back
-module _ (plans : List DiskPlan) (ws : List Wanted) (ds : List Device) (place : ℕ) (fault : NotRun) (at mid : Names) (same : ws ≡ wanted_of plans) (apart : AreApart ws) (stops : TakingStops ws ds place fault at mid) where
-  apart-is : AreApart (stops.before ++ stops.want ∷ stops.after)
-  apart-is = subst AreApart stops.is apart
+module _ (plans : List DiskPlan) (ws : List Wanted) (ds : List Device) (place : ℕ) (fault : NotRun) (at mid : Names) (same : ws ≡ wanted_of plans) (apart : HaveOtherNames ws) (stops : TakingStops ws ds place fault at mid) where
+  apart-is : HaveOtherNames (stops.before ++ stops.want ∷ stops.after)
+  apart-is = subst HaveOtherNames stops.is apart
 
   pub before-is : take place ws ≡ stops.before
   before-is = ap (λ l. take place l) stops.is ∙ (ap (λ n. take n (stops.before ++ stops.want ∷ stops.after)) stops.placed ∙ take-append_seam stops.before (stops.want ∷ stops.after))
 
   pub before-count : length ds ≡ length stops.before
-  before-count = chain-length Takes stops.before ds at stops.mid stops.taken
+  before-count = chain-length TakesImage stops.before ds at stops.mid stops.taken
 
-  pub before-apart : AreApart stops.before
+  pub before-apart : HaveOtherNames stops.before
   before-apart = apart-front stops.before (stops.want ∷ stops.after) apart-is
 
   want-none : IsNoneOf stops.want.image stops.before
   want-none = back-none stops.before stops.want stops.after apart-is
 
-  takes : Points Takes stops.before ds at stops.mid
-  takes = chain-points Takes stops.before ds at stops.mid before-apart stops.taken
+  takes : Points TakesImage stops.before ds at stops.mid
+  takes = chain-points TakesImage stops.before ds at stops.mid before-apart stops.taken
 
   -- the failed one changes none of them
   before-want : AllByRecursion (λ w. w.image ≢ stops.want.image) stops.before
@@ -132,8 +132,8 @@ module _ (plans : List DiskPlan) (ws : List Wanted) (ds : List Device) (place : 
   mid-same [] none = tt
   mid-same (u ∷ us) none = (stops.only u.image none.0, mid-same us none.1)
 
-  takes-mid : Points Takes stops.before ds at mid
-  takes-mid = points-same Takes stops.before ds at stops.mid at mid (refl-all stops.before at) (mid-same stops.before before-want) takes
+  takes-mid : Points TakesImage stops.before ds at mid
+  takes-mid = points-same TakesImage stops.before ds at stops.mid at mid (refl-all stops.before at) (mid-same stops.before before-want) takes
 
   pub taking-taken : AreTaken stops.before mid
   unfolding AreTaken
@@ -144,13 +144,13 @@ module _ (plans : List DiskPlan) (ws : List Wanted) (ds : List Device) (place : 
     puts-points = chain-points (PutsOr s) stops.before ds mid at' before-apart puts
 
     pub other-same : (name : List ℕ) → name ≢ stops.want.image → IsNoneOf name stops.before → at' name ≡ at name
-    other-same name differs none = chain-others (PutsOr s) stops.before ds mid at' puts name none ∙ (stops.only name differs ∙ chain-others Takes stops.before ds at stops.mid stops.taken name none)
+    other-same name differs none = chain-others (PutsOr s) stops.before ds mid at' puts name none ∙ (stops.only name differs ∙ chain-others TakesImage stops.before ds at stops.mid stops.taken name none)
 
     want-same : at' stops.want.image ≡ mid stops.want.image
     want-same = chain-others (PutsOr s) stops.before ds mid at' puts stops.want.image want-none
 
     want-first : stops.mid stops.want.image ≡ at stops.want.image
-    want-first = chain-others Takes stops.before ds at stops.mid stops.taken stops.want.image want-none
+    want-first = chain-others TakesImage stops.before ds at stops.mid stops.taken stops.want.image want-none
 
     want-fails : FailsToTake fault stops.want (at stops.want.image) (at' stops.want.image)
     want-fails = rw (want-same, sym want-first) stops.fails
@@ -171,7 +171,7 @@ module _ (plans : List DiskPlan) (ws : List Wanted) (ds : List Device) (place : 
     gone-all want =
         by-name (λ name. IsBackOrGone (at name) (at' name)) (stops.want ∷ stops.before)
         (λ name none. inl (inl (unchanged (at name) (at' name) (other-same name none.0 none.1))))
-        (want, both-points Takes (PutsOr s) IsBackOrGone (back-gone s) stops.before ds at mid at' takes-mid puts-points)
+        (want, both-points TakesImage (PutsOr s) IsBackOrGone (back-gone s) stops.before ds at mid at' takes-mid puts-points)
 
     first-is : IsFirstAt (λ e. MayHaveBlocks e (at e.image).place) (wanted_of plans) stops.want
     first-is = record { before = stops.before; after = stops.after; is = sym same ∙ stops.is; first = has-points stops.before ds at stops.mid takes }
@@ -185,29 +185,29 @@ module _ (plans : List DiskPlan) (ws : List Wanted) (ds : List Device) (place : 
       back = by-name (λ name. name ≢ stops.want.image → IsBackOrLost (at name) (at' name)) stops.before
           (λ name none differs. inl (unchanged (at name) (at' name) (other-same name differs none)))
           (all-map (λ w. IsBackOrLost (at w.image) (at' w.image)) (λ w. w.image ≢ stops.want.image → IsBackOrLost (at w.image) (at' w.image)) (λ w back differs. back) stops.before
-          (both-points Takes (PutsOr false) IsBackOrLost back-lost stops.before ds at mid at' takes-mid (subst (λ b. Points (PutsOr b) stops.before ds mid at') whole puts-points)));
+          (both-points TakesImage (PutsOr false) IsBackOrLost back-lost stops.before ds at mid at' takes-mid (subst (λ b. Points (PutsOr b) stops.before ds mid at') whole puts-points)));
       others = changes-among plans ws at at' same taking-others;
     }
 
     -- or another one was lost for want of memory
     not-taken-spent : SpentAmong stops.before mid at' → IsUnmade stops.want (at stops.want.image) (at' stops.want.image) → NotTakenSpent at at'
     not-taken-spent spent unmade =
-        let taken : AllByRecursion (λ w. (d : Device) × Takes w d (at w.image) (mid w.image)) stops.before = some-taken stops.before ds at mid takes-mid in
-        let (d, took) = (all-back (λ w. (d : Device) × Takes w d (at w.image) (mid w.image)) spent.before (spent.want ∷ spent.after) (subst (AllByRecursion (λ w. (d : Device) × Takes w d (at w.image) (mid w.image))) spent.is taken)).0 in
+        let taken : AllByRecursion (λ w. (d : Device) × TakesImage w d (at w.image) (mid w.image)) stops.before = some-taken stops.before ds at mid takes-mid in
+        let (d, took) = (all-back (λ w. (d : Device) × TakesImage w d (at w.image) (mid w.image)) spent.before (spent.want ∷ spent.after) (subst (AllByRecursion (λ w. (d : Device) × TakesImage w d (at w.image) (mid w.image))) spent.is taken)).0 in
         record {
           want = stops.want;
           unmade = unmade;
           back = by-name (λ name. name ≢ stops.want.image → IsBackOrGone (at name) (at' name)) stops.before
               (λ name none differs. inl (inl (unchanged (at name) (at' name) (other-same name differs none))))
               (all-map (λ w. IsBackOrGone (at w.image) (at' w.image)) (λ w. w.image ≢ stops.want.image → IsBackOrGone (at w.image) (at' w.image)) (λ w back differs. back) stops.before
-              (both-points Takes (PutsOr s) IsBackOrGone (back-gone s) stops.before ds at mid at' takes-mid puts-points));
+              (both-points TakesImage (PutsOr s) IsBackOrGone (back-gone s) stops.before ds at mid at' takes-mid puts-points));
           spent = spent.want.image;
           lost = lost-place _ _ _ spent.want.size spent.want.cached d spent.d.kept NotRun.Memory took.taking spent.puts.place;
           quiet = spent.puts.cause.quiet (λ is. cc) ∙ took.quiet;
         }
 
 -- the run stops so
-pub taking-ends : (plans : List DiskPlan) (ws : List Wanted) (ds : List Device) (place : ℕ) (fault : NotRun) (at mid at' : Names) → ws ≡ wanted_of plans → AreApart ws → (stops : TakingStops ws ds place fault at mid) → (s : Bool) → Chain (PutsOr s) stops.before ds mid at'
+pub taking-ends : (plans : List DiskPlan) (ws : List Wanted) (ds : List Device) (place : ℕ) (fault : NotRun) (at mid at' : Names) → ws ≡ wanted_of plans → HaveOtherNames ws → (stops : TakingStops ws ds place fault at mid) → (s : Bool) → Chain (PutsOr s) stops.before ds mid at'
     → (s ≡ true → SpentAmong stops.before mid at') → RunStops (if s then NotRun.Memory else fault) plans ws place at at'
 taking-ends plans ws ds place NotRun.Image at mid at' same apart stops false puts spent = record {
   before = stops.before;
@@ -231,9 +231,9 @@ taking-ends plans ws ds place NotRun.Memory at mid at' same apart stops true put
 }
 
 -- where putting back stopped
-module _ (plans : List DiskPlan) (ws : List Wanted) (before after : List Device) (place : ℕ) (at mid at' : Names) (same : ws ≡ wanted_of plans) (apart : AreApart ws) (took : Chain Takes ws before at mid) where
-  takes-all : Points Takes (wanted_of plans) before at mid
-  takes-all = subst (λ l. Points Takes l before at mid) same (chain-points Takes ws before at mid apart took)
+module _ (plans : List DiskPlan) (ws : List Wanted) (before after : List Device) (place : ℕ) (at mid at' : Names) (same : ws ≡ wanted_of plans) (apart : HaveOtherNames ws) (took : Chain TakesImage ws before at mid) where
+  takes-all : Points TakesImage (wanted_of plans) before at mid
+  takes-all = subst (λ l. Points TakesImage l before at mid) same (chain-points TakesImage ws before at mid apart took)
 
   quiet-points : (us : List Wanted) (ds : List Device) (m m' : Names) → Points PutsBack us ds m m' → AllByRecursion (λ w. (m' w.image).faults ≡ (m w.image).faults) us
   unfolding Points
@@ -241,7 +241,7 @@ module _ (plans : List DiskPlan) (ws : List Wanted) (before after : List Device)
   quiet-points (u ∷ us) [] m m' points = absurd points
   quiet-points (u ∷ us) (d ∷ ds) m m' points = (points.0.cause.quiet, quiet-points us ds m m' points.1)
 
-  takes-quiet : (us : List Wanted) (ds : List Device) (m m' : Names) → Points Takes us ds m m' → AllByRecursion (λ w. (m' w.image).faults ≡ (m w.image).faults) us
+  takes-quiet : (us : List Wanted) (ds : List Device) (m m' : Names) → Points TakesImage us ds m m' → AllByRecursion (λ w. (m' w.image).faults ≡ (m w.image).faults) us
   unfolding Points
   takes-quiet [] ds m m' points = tt
   takes-quiet (u ∷ us) [] m m' points = absurd points
@@ -253,7 +253,7 @@ module _ (plans : List DiskPlan) (ws : List Wanted) (before after : List Device)
   -- the lines stop short
   pub memory-after : (s : Bool) → RunsStop plans before after → Chain (PutsOr s) ws after mid at' → MemoryLeaves plans at at'
   memory-after s stop puts =
-      let (whole, part) = some-ran-so stop.ran stop.left before after s at mid at' (subst (λ (l : List DiskPlan). Points Takes (wanted_of l) before at mid) stop.are takes-all) stop.media (subst (λ (l : List DiskPlan). Points (PutsOr s) (wanted_of l) after mid at') stop.are (puts-all s puts)) in
+      let (whole, part) = some-ran-so stop.ran stop.left before after s at mid at' (subst (λ (l : List DiskPlan). Points TakesImage (wanted_of l) before at mid) stop.are takes-all) stop.media (subst (λ (l : List DiskPlan). Points (PutsOr s) (wanted_of l) after mid at') stop.are (puts-all s puts)) in
       record {
         images = inr (inr (inl (record { ran = stop.ran; left = stop.left; are = stop.are; some = stop.some; whole = whole; part = part })));
         others = changes-among plans ws at at' same (others-so s ws before after at mid at' apart took puts);
@@ -262,8 +262,8 @@ module _ (plans : List DiskPlan) (ws : List Wanted) (before after : List Device)
   -- memory ran out in putting an image back
   pub spent-after : (runs : List Run) → RanAll plans before after runs → Chain (PutsOr true) ws after mid at' → SpentAmong ws mid at' → MemoryLeaves plans at at'
   spent-after runs ran puts spent =
-      let taken : AllByRecursion (λ w. (d : Device) × Takes w d (at w.image) (mid w.image)) ws = some-taken ws before at mid (chain-points Takes ws before at mid apart took) in
-      let (d, here) = (all-back (λ w. (d : Device) × Takes w d (at w.image) (mid w.image)) spent.before (spent.want ∷ spent.after) (subst (AllByRecursion (λ w. (d : Device) × Takes w d (at w.image) (mid w.image))) spent.is taken)).0 in
+      let taken : AllByRecursion (λ w. (d : Device) × TakesImage w d (at w.image) (mid w.image)) ws = some-taken ws before at mid (chain-points TakesImage ws before at mid apart took) in
+      let (d, here) = (all-back (λ w. (d : Device) × TakesImage w d (at w.image) (mid w.image)) spent.before (spent.want ∷ spent.after) (subst (AllByRecursion (λ w. (d : Device) × TakesImage w d (at w.image) (mid w.image))) spent.is taken)).0 in
       record {
         images = inr (inr (inr (record {
           ran = all-ran-gone plans before after runs true at mid at' takes-all ran (puts-all true puts);
@@ -287,22 +287,22 @@ module _ (plans : List DiskPlan) (ws : List Wanted) (before after : List Device)
         (subst (λ l. Chain (PutsOr false) l (stops.first ++ stops.d ∷ around.left) mid at') (sym stops.is)
         (chain-both (PutsOr false) stops.before (stops.want ∷ stops.after) stops.first (stops.d ∷ around.left) mid stops.mid at' first (around.mid, stops.only, record { result = Err NotRun.Image; puts = stops.fails; told = λ is. cc }, around.rest)))
 
-    apart-here : AreApart (stops.before ++ stops.want ∷ stops.after)
-    apart-here = subst AreApart stops.is apart
+    apart-here : HaveOtherNames (stops.before ++ stops.want ∷ stops.after)
+    apart-here = subst HaveOtherNames stops.is apart
 
     want-before : IsNoneOf stops.want.image stops.before
     want-before = back-none stops.before stops.want stops.after apart-here
 
     want-after : IsNoneOf stops.want.image stops.after
-    unfolding AreApart
-    want-after = let rest : AreApart (stops.want ∷ stops.after) = apart-back stops.before (stops.want ∷ stops.after) apart-here in rest.0
+    unfolding HaveOtherNames
+    want-after = let rest : HaveOtherNames (stops.want ∷ stops.after) = apart-back stops.before (stops.want ∷ stops.after) apart-here in rest.0
 
     -- the failed name
     cause-is : Rose (at stops.want.image).faults (at' stops.want.image).faults
     cause-is =
         let last : at' stops.want.image ≡ around.mid stops.want.image = chain-others (PutsOr false) stops.after around.left around.mid at' around.rest stops.want.image want-after in
         let first : stops.mid stops.want.image ≡ mid stops.want.image = chain-others PutsBack stops.before stops.first mid stops.mid stops.put stops.want.image want-before in
-        let quiet : (mid stops.want.image).faults ≡ (at stops.want.image).faults = (all-back (λ w. (mid w.image).faults ≡ (at w.image).faults) stops.before (stops.want ∷ stops.after) (subst (AllByRecursion (λ w. (mid w.image).faults ≡ (at w.image).faults)) stops.is (takes-quiet ws before at mid (chain-points Takes ws before at mid apart took)))).0 in
+        let quiet : (mid stops.want.image).faults ≡ (at stops.want.image).faults = (all-back (λ w. (mid w.image).faults ≡ (at w.image).faults) stops.before (stops.want ∷ stops.after) (subst (AllByRecursion (λ w. (mid w.image).faults ≡ (at w.image).faults)) stops.is (takes-quiet ws before at mid (chain-points TakesImage ws before at mid apart took)))).0 in
         let rose : Rose (stops.mid stops.want.image).faults (around.mid stops.want.image).faults = stops.fails.cause.failed refl in
         rw (last, sym quiet, sym first) rose
 
@@ -311,7 +311,7 @@ module _ (plans : List DiskPlan) (ws : List Wanted) (before after : List Device)
     first-quiet =
         let none = front-none stops.before (stops.want ∷ stops.after) apart-here in
         let puts = quiet-points stops.before stops.first mid stops.mid (chain-points PutsBack stops.before stops.first mid stops.mid (apart-front stops.before (stops.want ∷ stops.after) apart-here) stops.put) in
-        let quiet = all-front (λ w. (mid w.image).faults ≡ (at w.image).faults) stops.before (stops.want ∷ stops.after) (subst (AllByRecursion (λ w. (mid w.image).faults ≡ (at w.image).faults)) stops.is (takes-quiet ws before at mid (chain-points Takes ws before at mid apart took))) in
+        let quiet = all-front (λ w. (mid w.image).faults ≡ (at w.image).faults) stops.before (stops.want ∷ stops.after) (subst (AllByRecursion (λ w. (mid w.image).faults ≡ (at w.image).faults)) stops.is (takes-quiet ws before at mid (chain-points TakesImage ws before at mid apart took))) in
         go stops.before none puts quiet
       where
         go : (us : List Wanted) → AllByRecursion (λ w. IsNoneOf w.image (stops.want ∷ stops.after)) us → AllByRecursion (λ w. (stops.mid w.image).faults ≡ (mid w.image).faults) us → AllByRecursion (λ w. (mid w.image).faults ≡ (at w.image).faults) us → AllByRecursion (λ e. (at' e.image).faults ≡ (at e.image).faults) us
@@ -338,13 +338,13 @@ module _ (plans : List DiskPlan) (ws : List Wanted) (before after : List Device)
       });
     }
 
-pub putting-ends : (plans : List DiskPlan) (ws : List Wanted) (before after : List Device) (place : ℕ) (fault : NotRun) (at mid at' : Names) (runs : List Run) → ws ≡ wanted_of plans → AreApart ws → Chain Takes ws before at mid → RanAll plans before after runs
+pub putting-ends : (plans : List DiskPlan) (ws : List Wanted) (before after : List Device) (place : ℕ) (fault : NotRun) (at mid at' : Names) (runs : List Run) → ws ≡ wanted_of plans → HaveOtherNames ws → Chain TakesImage ws before at mid → RanAll plans before after runs
     → PutEnds fault ws after place mid at' → RunStops fault plans ws place at at'
 putting-ends plans ws before after place NotRun.Image at mid at' runs same apart took ran ends = not-put-back plans ws before after place at mid at' same apart took ends runs ran
 putting-ends plans ws before after place NotRun.Memory at mid at' runs same apart took ran ends = spent-after plans ws before after place at mid at' same apart took runs ran ends.0 ends.1
 
 -- the calls that were made, whatever the fault
-pub putting-calls : (plans : List DiskPlan) (ws : List Wanted) (before after : List Device) (place : ℕ) (fault : NotRun) (at mid at' : Names) → ws ≡ wanted_of plans → AreApart ws → Chain Takes ws before at mid → PutEnds fault ws after place mid at' → (s : Bool) × Chain (PutsOr s) ws after mid at'
+pub putting-calls : (plans : List DiskPlan) (ws : List Wanted) (before after : List Device) (place : ℕ) (fault : NotRun) (at mid at' : Names) → ws ≡ wanted_of plans → HaveOtherNames ws → Chain TakesImage ws before at mid → PutEnds fault ws after place mid at' → (s : Bool) × Chain (PutsOr s) ws after mid at'
 putting-calls plans ws before after place NotRun.Image at mid at' same apart took ends = (false, whole plans ws before after place at mid at' same apart took ends)
 putting-calls plans ws before after place NotRun.Memory at mid at' same apart took ends = (true, ends.0)
 
@@ -352,9 +352,9 @@ putting-calls plans ws before after place NotRun.Memory at mid at' same apart to
 pub put-calls : (ws : List Wanted) (ds : List Device) (at at' : Names) → Chain PutsBack ws ds at at' → Chain (PutsOr false) ws ds at at'
 put-calls ws ds at at' chain = chain-map PutsBack (PutsOr false) (λ v d old new puts. record { result = Ok tt; puts = puts; told = λ is. cc }) ws ds at at' chain
 
-pub all-put : (plans : List DiskPlan) (ws : List Wanted) (before after : List Device) (runs : List Run) (at mid at' : Names) → ws ≡ wanted_of plans → AreApart ws → Chain Takes ws before at mid → RanAll plans before after runs → Chain PutsBack ws after mid at' → AllRan plans at at' runs
+pub all-put : (plans : List DiskPlan) (ws : List Wanted) (before after : List Device) (runs : List Run) (at mid at' : Names) → ws ≡ wanted_of plans → HaveOtherNames ws → Chain TakesImage ws before at mid → RanAll plans before after runs → Chain PutsBack ws after mid at' → AllRan plans at at' runs
 all-put plans ws before after runs at mid at' same apart took ran put =
-    all-ran-so plans before after runs at mid at' (subst (λ l. Points Takes l before at mid) same (chain-points Takes ws before at mid apart took)) ran (subst (λ l. Points PutsBack l after mid at') same (chain-points PutsBack ws after mid at' apart put))
+    all-ran-so plans before after runs at mid at' (subst (λ l. Points TakesImage l before at mid) same (chain-points TakesImage ws before at mid apart took)) ran (subst (λ l. Points PutsBack l after mid at') same (chain-points PutsBack ws after mid at' apart put))
 
 -- where nothing was touched
 pub memory-none : (plans : List DiskPlan) (at : Names) → MemoryLeaves plans at at

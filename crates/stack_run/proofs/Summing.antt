@@ -11,7 +11,7 @@ use Rattle.script_text.specs.Text.{line_of}
 use Rattle.script_text.specs.Tables.{digits_of}
 use Rattle.stack_run.specs.declared.summary.Figures.{Figures}
 use Rattle.stack_run.specs.Figures.{figures_of}
-use Rattle.stack_run.specs.Summary.{moved, figure_text, summary_text}
+use Rattle.stack_run.specs.Summary.{moved_bytes, figure_text, summary_text}
 use Rattle.stack_run.proofs.Counting.{figures-counted, moved-told}
 
 -- seven texts that were put one behind the other
@@ -38,8 +38,8 @@ pub summary-told : (S : Setup) (H : List Entry) (ends : List TokenLine) (crc : �
     → figures_text (length H) (figures_of ends H) crc ≡ summary_text S H crc
 summary-told S H ends crc are =
     let all = figures-counted ends H in
-    let written : (figures_of ends H).written ≡ moved S is_write H = all.written ∙ moved-told S H ends are is_write H (omega arith) in
-    let read : (figures_of ends H).read ≡ moved S is_read H = all.read ∙ moved-told S H ends are is_read H (omega arith) in
+    let written : (figures_of ends H).written ≡ moved_bytes S is_write H = all.written ∙ moved-told S H ends are is_write H (omega arith) in
+    let read : (figures_of ends H).read ≡ moved_bytes S is_read H = all.read ∙ moved-told S H ends are is_read H (omega arith) in
     joined
     (figure_text (codes "entries") (length H))
     (figure_text (codes "accepted") (figures_of ends H).accepted)

@@ -11,7 +11,7 @@ use Rattle.script_text.specs.Planned.{is_group_size}
 use Rattle.stack_run.specs.declared.wanted.Wanted.{Wanted}
 use Rattle.stack_run.specs.Media.{media_names, wanted_by, wanted_of, IsNone}
 use Rattle.image_store.specs.Place.{Image, IsFree}
-use Rattle.stack_run.specs.Chains.{IsWanted, AreWanted, AreApart, AreFree}
+use Rattle.stack_run.specs.Chains.{IsWanted, AreWanted, HaveOtherNames, AreFree}
 use Rattle.stack_run.proofs.ChainLemmas.{IsNoneOf, take-next, all-both, all-front, all-back}
 
 pub wanted-both : (ps qs : List DiskPlan) → wanted_of (ps ++ qs) ≡ wanted_of ps ++ wanted_of qs
@@ -54,8 +54,8 @@ differ-all name [] all = tt
 differ-all name (n ∷ names) all = (differ name n all.0, differ-all name names all.1)
 
 -- the rest of a disk's images, and those of the other disks
-apart-rest : (p : DiskPlan) (names : List (List ℕ)) (ps : List DiskPlan) → IsDistinct bytes_eq (names ++ images_of ps) → AreApart (wanted_of ps) → AreApart (map (wanted_by p) names ++ wanted_of ps)
-unfolding AreApart IsDistinct
+apart-rest : (p : DiskPlan) (names : List (List ℕ)) (ps : List DiskPlan) → IsDistinct bytes_eq (names ++ images_of ps) → HaveOtherNames (wanted_of ps) → HaveOtherNames (map (wanted_by p) names ++ wanted_of ps)
+unfolding HaveOtherNames IsDistinct
 apart-rest p [] ps distinct apart = apart
 apart-rest p (n ∷ names) ps distinct apart =
     let none = differ-all n (names ++ images_of ps) distinct.0 in (
@@ -71,8 +71,8 @@ distinct-back [] ys distinct = distinct
 distinct-back (x ∷ xs) ys distinct = distinct-back xs ys distinct.1
 
 -- no two of them have one name
-pub wanted-apart : (plans : List DiskPlan) → IsDistinct bytes_eq (images_of plans) → AreApart (wanted_of plans)
-unfolding wanted_of images_of AreApart
+pub wanted-apart : (plans : List DiskPlan) → IsDistinct bytes_eq (images_of plans) → HaveOtherNames (wanted_of plans)
+unfolding wanted_of images_of HaveOtherNames
 wanted-apart [] distinct = tt
 wanted-apart (p ∷ ps) distinct = apart-rest p (media_names p) ps distinct (wanted-apart ps (distinct-back (media_names p) (images_of ps) distinct))
 

@@ -18,7 +18,7 @@ pub record IsMade (want : Wanted) (d : Device) : Type 0 where
   pub whole : d.blocks % want.physical ≡ 0
 
 -- an image was taken as this medium
-pub record Takes (want : Wanted) (d : Device) (old new : Image) : Type 0 where
+pub record TakesImage (want : Wanted) (d : Device) (old new : Image) : Type 0 where
   pub taking : IsTaking old.place new.place want.size want.cached d
   pub whole : d.blocks % want.physical ≡ 0
   pub worn : new.worn ≡ old.worn
@@ -85,9 +85,9 @@ unfoldable pub AreWanted : List Wanted → Type 0
 AreWanted wanted = AllByRecursion IsWanted wanted
 
 -- no two of them have one name
-unfoldable pub AreApart : List Wanted → Type 0
-AreApart [] = Unit {0}
-AreApart (want ∷ wanted) = AllByRecursion (λ other. want.image ≢ other.image) wanted × AreApart wanted
+unfoldable pub HaveOtherNames : List Wanted → Type 0
+HaveOtherNames [] = Unit {0}
+HaveOtherNames (want ∷ wanted) = AllByRecursion (λ other. want.image ≢ other.image) wanted × HaveOtherNames wanted
 
 -- all these names are free
 unfoldable pub AreFree : List Wanted → (List ℕ → Image) → Type 0
@@ -117,7 +117,7 @@ pub record TakingStops (wanted : List Wanted) (devices : List Device) (place : �
   pub is : wanted ≡ before ++ want ∷ after
   pub placed : place ≡ length before
   pub mid : List ℕ → Image
-  pub taken : Chain Takes before devices at mid
+  pub taken : Chain TakesImage before devices at mid
   pub only : ChangesOnly want.image mid at'
   pub fails : FailsToTake fault want (mid want.image) (at' want.image)
   pub free : IsFree (at' want.image).place

@@ -11,9 +11,9 @@ use Rattle.shared_disk.specs.Script.{Script}
 abbrev pub role_in : ClientPlan → Role
 role_in client = record { stand = Whole; orders = client.orders }
 
-abbrev pub roles_in : List ClientPlan → List Role
-roles_in clients = map role_in clients
+abbrev pub script_roles : List ClientPlan → List Role
+script_roles clients = map role_in clients
 
 -- the script of a disk whose history begins so
 abbrev pub script_in : DiskPlan → List Entry → Script
-script_in plan opening = record { opening = opening; roles = roles_in plan.clients }
+script_in plan opening = record { opening = opening; roles = script_roles plan.clients }

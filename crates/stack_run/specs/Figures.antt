@@ -14,8 +14,8 @@ is_end_success None = false
 is_end_success (Some line) = is_success (Some line.status)
 
 -- by these lines the token succeeded
-abbrev pub succeeded : List TokenLine → ℕ → Bool
-succeeded ends t = is_end_success (slice_get ends t)
+abbrev pub is_success_by : List TokenLine → ℕ → Bool
+is_success_by ends t = is_end_success (slice_get ends t)
 
 -- one more request of this length and kind succeeded
 abbrev pub with_moved : Kind → ℕ → Figures → Figures
@@ -29,12 +29,12 @@ with_accepted true asked f = record (with_moved asked.kind asked.length f) { acc
 with_accepted false asked f = record f { accepted = f.accepted + 1 }
 
 -- one more entry
-abbrev pub with_entry : List TokenLine → Entry → Figures → Figures
-with_entry ends (Accept tag view asked bytes) f = with_accepted (succeeded ends f.accepted) asked f
-with_entry ends (Refuse tag view asked media_id status) f = record f { refused = f.refused + 1 }
-with_entry ends (Done t c) f = record f { commands = f.commands + 1 }
-with_entry ends (Fault t c done) f = record f { commands = f.commands + 1 }
-with_entry ends e f = f
+abbrev pub figures_with : List TokenLine → Entry → Figures → Figures
+figures_with ends (Accept tag view asked bytes) f = with_accepted (is_success_by ends f.accepted) asked f
+figures_with ends (Refuse tag view asked media_id status) f = record f { refused = f.refused + 1 }
+figures_with ends (Done t c) f = record f { commands = f.commands + 1 }
+figures_with ends (Fault t c done) f = record f { commands = f.commands + 1 }
+figures_with ends e f = f
 
 abbrev pub no_figures : Figures
 no_figures = record { accepted = 0; refused = 0; commands = 0; written = 0; read = 0 }
@@ -42,7 +42,7 @@ no_figures = record { accepted = 0; refused = 0; commands = 0; written = 0; read
 -- those of a history, which stands newest entry first
 unfoldable pub figures_of : List TokenLine → List Entry → Figures
 figures_of ends [] = no_figures
-figures_of ends (e ∷ before) = with_entry ends e (figures_of ends before)
+figures_of ends (e ∷ before) = figures_with ends e (figures_of ends before)
 
 -- n entries make no more, with less than 2^64 bytes each
 pub record AreWithin (n : ℕ) (f : Figures) : Type 0 where

@@ -12,11 +12,11 @@ place_of w = w / 8 % 1046528
 abbrev pub length_of : ℕ → ℕ
 length_of w = 1 + w / 2 ^ 32 % 2048
 
-abbrev pub byte_of : ℕ → ℕ
-byte_of w = w / 2 ^ 56
+abbrev pub drawn_byte : ℕ → ℕ
+drawn_byte w = w / 2 ^ 56
 
 abbrev pub fill_text : ℕ → List ℕ
-fill_text w = line_of (codes "fill" ∷ decimal (place_of w) ∷ decimal (length_of w) ∷ digits_of 2 (byte_of w) ∷ [])
+fill_text w = line_of (codes "fill" ∷ decimal (place_of w) ∷ decimal (length_of w) ∷ digits_of 2 (drawn_byte w) ∷ [])
 
 abbrev pub read_text : ℕ → List ℕ
 read_text w = line_of (codes "read" ∷ decimal (place_of w) ∷ decimal (length_of w) ∷ [])

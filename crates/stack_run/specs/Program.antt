@@ -63,13 +63,13 @@ pub record IsWritten (line : List ℕ) (out out' : Outlet) : Type 0 where
   pub quiet : out'.faults ≡ out.faults
 
 -- the sink failed or ran out of memory, and a front was written
-pub record IsCut (line : List ℕ) (out out' : Outlet) : Type 0 where
+pub record IsFrontOfLine (line : List ℕ) (out out' : Outlet) : Type 0 where
   pub front : AppendsFront out.wrote out'.wrote line
   pub cause : Rose out.faults out'.faults ⊎ Rose out.spent out'.spent
 
 -- a line was written, or a front of it where the sink failed or ran out of memory
 abbrev pub WritesLine : List ℕ → Outlet → Outlet → Type 0
-WritesLine line out out' = IsWritten line out out' ⊎ IsCut line out out'
+WritesLine line out out' = IsWritten line out out' ⊎ IsFrontOfLine line out out'
 
 -- the line of a refusal was written, and no image has changed
 pub record WritesRefusal (text : List ℕ) (at at' : List ℕ → Image) (out out' : Outlet) : Type 0 where

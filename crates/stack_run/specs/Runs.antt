@@ -16,7 +16,7 @@ use Rattle.script_text.specs.declared.language.plans.DiskPlan.{DiskPlan}
 use Rattle.script_text.specs.Report.{givens_of, AreEnds, AreGiven}
 use Rattle.stack_run.specs.declared.desk_run.Run.{Run}
 use Rattle.stack_run.specs.Media.{groups_of}
-use Rattle.stack_run.specs.Clients.{roles_in, script_in}
+use Rattle.stack_run.specs.Clients.{script_roles, script_in}
 
 -- a legal history that begins with the opening one and runs the whole script of the disk's clients by the plain schedule, with its own
 -- outcomes, of the lines alone where no command failed; and this is what its reads gave
@@ -29,8 +29,8 @@ pub record RanPlain (plan : DiskPlan) (S : Setup) (opening H : List Entry) (give
   pub reads : AreGiven S H given
 
 -- some client's next line may want memory, where they have done so many lines
-abbrev pub IsShort : List Role → List (List ℕ) → Type 0
-IsShort roles places = (i : ℕ) × (order : Order) × (next_order roles i (length (places_at places i)) ≡ Some order) × (wants_memory order ≡ true)
+abbrev pub WantsMore : List Role → List (List ℕ) → Type 0
+WantsMore roles places = (i : ℕ) × (order : Order) × (next_order roles i (length (places_at places i)) ≡ Some order) × (wants_memory order ≡ true)
 
 -- what want of memory leaves of it: a front of a plain run, which keeps the script; nothing was done, or a line that is left may want memory
 pub record RanInPart (plan : DiskPlan) (S : Setup) (opening H : List Entry) : Type 0 where
@@ -39,7 +39,7 @@ pub record RanInPart (plan : DiskPlan) (S : Setup) (opening H : List Entry) : Ty
   pub places : List (List ℕ)
   pub keeps : KeepsScript S (script_in plan opening) places H
   pub front : IsPlainFront S (script_in plan opening) H
-  pub short : (H ≡ []) ⊎ IsShort (roles_in plan.clients) places
+  pub short : (H ≡ []) ⊎ WantsMore (script_roles plan.clients) places
 
 -- the setup of a disk over these media
 abbrev pub setup_over : DiskPlan → List Device → Setup

@@ -29,7 +29,7 @@ disk_report number plan S table H given =
     head_text number plan.image (size_of S) (blocks_of S 1) (per_of S) ++ (table ++ body_text S H given (kept_media (size_of S) (media_names plan) (blocks_in S)))
 
 -- the lines of a disk ran to their end over its images, each of which ended so
-pub record HasRun (Ends : Setup → List Entry → ℕ → Image → Image → Type 0) (plan : DiskPlan) (at at' : List ℕ → Image) : Type 0 where
+pub record DiskHasRun (Ends : Setup → List Entry → ℕ → Image → Image → Type 0) (plan : DiskPlan) (at at' : List ℕ → Image) : Type 0 where
   pub setup : Setup
   pub history : List Entry
   pub given : List (Option (List ℕ))
@@ -47,7 +47,7 @@ pub record HasRunInPart (plan : DiskPlan) (at at' : List ℕ → Image) : Type 0
 
 -- this is the report of a disk that was not probed, and then this rest
 pub record IsReport (number : ℕ) (plan : DiskPlan) (at at' : List ℕ → Image) (text rest : List ℕ) : Type 0 where
-  pub run : HasRun IsLeft plan at at'
+  pub run : DiskHasRun IsLeft plan at at'
   pub is : text ≡ disk_report number plan run.setup [] run.history run.given ++ rest
 
 -- the reports of all disks, the first of which has this number
@@ -80,7 +80,7 @@ pub record NotTaken (plans : List DiskPlan) (at at' : List ℕ → Image) (name 
 
 -- all disks ran to their end, and this is the first image that could not be put back
 pub record NotPutBack (plans : List DiskPlan) (at at' : List ℕ → Image) (name : List ℕ) : Type 0 where
-  pub ran : AllByRecursion (λ plan. HasRun IsLeftOrLost plan at at') plans
+  pub ran : AllByRecursion (λ plan. DiskHasRun IsLeftOrLost plan at at') plans
   pub want : Wanted
   pub named : want.image ≡ name
   pub first : IsFirstAt (λ earlier. (at' earlier.image).faults ≡ (at earlier.image).faults) (wanted_of plans) want
@@ -102,12 +102,12 @@ pub record StopsShort (plans : List DiskPlan) (at at' : List ℕ → Image) : Ty
   pub left : List DiskPlan
   pub are : plans ≡ ran ++ left
   pub some : left ≡ [] → ran ≡ []
-  pub whole : AllByRecursion (λ plan. HasRun IsLeftOrGone plan at at') ran
+  pub whole : AllByRecursion (λ plan. DiskHasRun IsLeftOrGone plan at at') ran
   pub part : AllByRecursion (λ plan. HasRunInPart plan at at') left
 
 -- all disks ran to their end, and memory ran out in putting an image back
 pub record NotPutSpent (plans : List DiskPlan) (at at' : List ℕ → Image) : Type 0 where
-  pub ran : AllByRecursion (λ plan. HasRun IsLeftOrGone plan at at') plans
+  pub ran : AllByRecursion (λ plan. DiskHasRun IsLeftOrGone plan at at') plans
   pub spent : List ℕ
   pub lost : IsLostPlace (at spent).place (at' spent).place
   pub quiet : (at' spent).faults ≡ (at spent).faults

@@ -26,8 +26,8 @@ moved_in succeeded test (Accept tag view asked bytes ∷ before) =
 moved_in succeeded test (e ∷ before) = moved_in succeeded test before
 
 -- the lengths in bytes of the successful requests of a kind
-abbrev pub moved : Setup → (Kind → Bool) → List Entry → ℕ
-moved S test H = moved_in (λ t. is_success (mark_of S H t)) test H
+abbrev pub moved_bytes : Setup → (Kind → Bool) → List Entry → ℕ
+moved_bytes S test H = moved_in (λ t. is_success (mark_of S H t)) test H
 
 abbrev pub figure_text : List ℕ → ℕ → List ℕ
 figure_text word number = line_of (word ∷ decimal number ∷ [])
@@ -39,6 +39,6 @@ summary_text S H crc =
     ++ (figure_text (codes "accepted") (accepted H)
     ++ (figure_text (codes "refused") (refused H)
     ++ (figure_text (codes "commands") (commands H)
-    ++ (figure_text (codes "written") (moved S is_write H)
-    ++ (figure_text (codes "read") (moved S is_read H)
+    ++ (figure_text (codes "written") (moved_bytes S is_write H)
+    ++ (figure_text (codes "read") (moved_bytes S is_read H)
     ++ line_of (codes "crc" ∷ digits_of 8 crc ∷ []))))))

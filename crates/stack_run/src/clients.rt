@@ -1,7 +1,7 @@
 ghost use Rattle.std.specs.Prelude.{◌≡◌, ◌<◌, ◌^◌, sum_by, IfOk};
 ghost use Rattle.script_text.specs.Planned.{client_lines};
 ghost use Rattle.shared_disk.specs.Lines.{role_of, roles_of};
-ghost use Rattle.stack_run.specs.Clients.{role_in, roles_in};
+ghost use Rattle.stack_run.specs.Clients.{role_in, script_roles};
 
 use byte_lists::Bytes;
 use history::{Order, Payload};
@@ -75,7 +75,7 @@ fn client_in(alloc: Global, plan: &ClientPlan) -> Result<Client, AllocError>
 
 // The clients of a disk, each on the whole of it, with copies of their lines. The error is want of memory.
 pub fn clients_in(alloc: Global, plans: &[ClientPlan]) -> Result<Vec<Client>, AllocError>
-    ensures { IfOk result (λ clients. roles_of clients.items ≡ roles_in plans.now) }
+    ensures { IfOk result (λ clients. roles_of clients.items ≡ script_roles plans.now) }
 {
     let mut clients = Vec::with_capacity(alloc, plans.len())?;
     for plan in plans {

@@ -5,7 +5,7 @@ ghost use Rattle.shared_disk.specs.Lines.{roles_of};
 ghost use Rattle.script_text.specs.Fitting.{IsDiskPlan};
 ghost use Rattle.script_text.specs.Limits.{most_script_bytes};
 ghost use Rattle.script_text.specs.Planned.{disk_lines};
-ghost use Rattle.stack_run.specs.Clients.{roles_in};
+ghost use Rattle.stack_run.specs.Clients.{script_roles};
 ghost use Rattle.stack_run.specs.Runs.{RanOver, RanSomeOver};
 
 use crate::clients::{clients_in, count_lines};
@@ -38,7 +38,7 @@ struct Supplies {
 // The supplies of a disk's run. The error is want of memory.
 fn supplies_for(alloc: Global, plan: &DiskPlan) -> Result<Supplies, AllocError>
     requires lines { disk_lines plan.now ≤ most_script_bytes }
-    ensures clients { IfOk result (λ all. roles_of all.clients.items ≡ roles_in plan.now.clients) }
+    ensures clients { IfOk result (λ all. roles_of all.clients.items ≡ script_roles plan.now.clients) }
     ensures no_blocks { IfOk result (λ all. all.blocks.items ≡ []) }
     ensures media { IfOk result (λ all. length plan.now.spares + 1 ≤ vec_capacity all.blocks) }
     ensures no_ends { IfOk result (λ all. all.ends.items ≡ []) }

@@ -1,6 +1,6 @@
 ghost use Rattle.std.specs.Prelude.{◌≡◌, [], true, map, length, Err, IfErr, OnOk};
 ghost use Rattle.image_store.specs.Place.{IsTaken, ChangesOnly};
-ghost use Rattle.stack_run.specs.Chains.{Puts, PutsBack, PutsOr, SpentAmong, Chain, AreApart, AreTaken, PuttingStops, PutEnds};
+ghost use Rattle.stack_run.specs.Chains.{Puts, PutsBack, PutsOr, SpentAmong, Chain, HaveOtherNames, AreTaken, PuttingStops, PutEnds};
 
 use crate::refusal::{NotRun, Stopped};
 use crate::wanted::Wanted;
@@ -34,7 +34,7 @@ fn put_some<I: Images>(
     media: &mut Vec<I::M>,
 ) -> Result<(), Stopped>
     requires all { length media.old.items ≡ length wanted.now }
-    requires apart { AreApart wanted.now }
+    requires apart { HaveOtherNames wanted.now }
     requires taken { AreTaken wanted.now (I.at images.old) }
     ensures put { OnOk result (Chain PutsBack wanted.now (map I.M.device media.old.items)
         (I.at images.old) (I.at images.new)) }
@@ -77,7 +77,7 @@ pub fn put_rest<I: Images>(
     mut media: Vec<I::M>,
 ) -> bool
     requires all { length media.items ≡ length wanted.now }
-    requires apart { AreApart wanted.now }
+    requires apart { HaveOtherNames wanted.now }
     requires taken { AreTaken wanted.now (I.at images.old) }
     ensures put { Chain (PutsOr result) wanted.now (map I.M.device media.items) (I.at images.old)
         (I.at images.new) }
@@ -102,7 +102,7 @@ pub fn put_images<I: Images>(
     mut media: Vec<I::M>,
 ) -> Result<(), Stopped>
     requires all { length media.items ≡ length wanted.now }
-    requires apart { AreApart wanted.now }
+    requires apart { HaveOtherNames wanted.now }
     requires taken { AreTaken wanted.now (I.at images.old) }
     ensures put { OnOk result (Chain PutsBack wanted.now (map I.M.device media.items)
         (I.at images.old) (I.at images.new)) }

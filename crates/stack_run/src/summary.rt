@@ -5,7 +5,7 @@ ghost use Rattle.history.specs.Setup.{Setup};
 ghost use Rattle.script_text.specs.Report.{AreEnds, is_success};
 ghost use Rattle.script_text.specs.Tables.{digits_of};
 ghost use Rattle.script_text.specs.Text.{line_of};
-ghost use Rattle.stack_run.specs.Figures.{succeeded, with_moved, with_accepted, with_entry, no_figures, figures_of, AreWithin};
+ghost use Rattle.stack_run.specs.Figures.{is_success_by, with_moved, with_accepted, figures_with, no_figures, figures_of, AreWithin};
 ghost use Rattle.stack_run.specs.Summary.{figure_text, summary_text};
 
 use efi_status::Status;
@@ -48,7 +48,7 @@ fn with_moved(figures: Figures, asked: &Asked) -> Figures
 
 // Whether a token succeeded by these lines.
 fn has_succeeded(ends: &[TokenLine], token: u64) -> bool
-    ensures { result ≡ succeeded ends.now token }
+    ensures { result ≡ is_success_by ends.now token }
 {
     match ends.get(token as usize) {
         Some(line) => line.status == Status::Success,
@@ -61,7 +61,7 @@ fn with_accepted(figures: Figures, asked: &Asked, ends: &[TokenLine]) -> Figures
     requires accepted { figures.accepted < 2 ^ 63 }
     requires written { figures.written < 2 ^ 127 }
     requires read { figures.read < 2 ^ 127 }
-    ensures figures { result ≡ with_accepted (succeeded ends.now figures.accepted) asked.now figures }
+    ensures figures { result ≡ with_accepted (is_success_by ends.now figures.accepted) asked.now figures }
     ensures within { (n : ℕ) → AreWithin n figures → AreWithin (n + 1) result }
 {
     let accepted = figures.accepted + 1;
@@ -83,7 +83,7 @@ fn with_entry(figures: Figures, entry: &Entry, ends: &[TokenLine]) -> Figures
     requires commands { figures.commands < 2 ^ 63 }
     requires written { figures.written < 2 ^ 127 }
     requires read { figures.read < 2 ^ 127 }
-    ensures figures { result ≡ with_entry ends.now entry.now figures }
+    ensures figures { result ≡ figures_with ends.now entry.now figures }
     ensures within { (n : ℕ) → AreWithin n figures → AreWithin (n + 1) result }
 {
     match entry {

@@ -1,7 +1,7 @@
 ghost use Rattle.std.specs.Prelude.{◌≡◌, ◌≤◌, [], map, vec_capacity, length, IfOk, IfErr, IsErr, IsErrOf, OnOk, OnErr};
 ghost use Rattle.image_store.specs.Place.{IsFree, IsTaken, ChangesOnly};
 ghost use Rattle.stack_run.specs.Media.{IsBackOrGone, IsUnmade, LacksBlocks};
-ghost use Rattle.stack_run.specs.Chains.{Takes, Unmakes, Chain, IsWanted, AreWanted, AreApart, AreFree, TakingStops, LacksOne};
+ghost use Rattle.stack_run.specs.Chains.{TakesImage, Unmakes, Chain, IsWanted, AreWanted, HaveOtherNames, AreFree, TakingStops, LacksOne};
 
 use crate::putting::put_image;
 use crate::refusal::{NotRun, Stopped};
@@ -27,7 +27,7 @@ fn refuse_medium<I: Images>(alloc: Global, want: &Wanted, images: &mut I, medium
 fn take_image<I: Images>(alloc: Global, want: &Wanted, images: &mut I) -> Result<I::M, NotRun>
     requires want { IsWanted want.now }
     requires free { IsFree (I.at images.old want.now.image).place }
-    ensures takes { IfOk result (λ medium. Takes want.now (I.M.device medium)
+    ensures takes { IfOk result (λ medium. TakesImage want.now (I.M.device medium)
         (I.at images.old want.now.image) (I.at images.new want.now.image)) }
     ensures image { IsErrOf result NotRun.Image → IsUnmade want.now
         (I.at images.old want.now.image) (I.at images.new want.now.image) }
@@ -60,9 +60,9 @@ pub fn take_images<I: Images>(
     requires empty { media.old.items ≡ [] }
     requires room { length wanted.now ≤ vec_capacity media.old }
     requires wanted { AreWanted wanted.now }
-    requires apart { AreApart wanted.now }
+    requires apart { HaveOtherNames wanted.now }
     requires free { AreFree wanted.now (I.at images.old) }
-    ensures taken { OnOk result (Chain Takes wanted.now (map I.M.device media.new.items)
+    ensures taken { OnOk result (Chain TakesImage wanted.now (map I.M.device media.new.items)
         (I.at images.old) (I.at images.new)) }
     ensures stops { IfErr result (λ stop. TakingStops wanted.now
         (map I.M.device media.new.items) stop.place stop.fault (I.at images.old)

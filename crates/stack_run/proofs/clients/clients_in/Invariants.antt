@@ -1,7 +1,7 @@
 use Rattle.std.proofs.Common.{◌≡◌, take}
 use Rattle.shared_disk.specs.Lines.{roles_of}
-use Rattle.stack_run.specs.Clients.{roles_in}
+use Rattle.stack_run.specs.Clients.{script_roles}
 use Rattle.stack_run.proofs.clients.clients_in.Given as goal
 
 abbrev pub invariant-loop-plan : goal.invariant-loop-plan
-invariant-loop-plan l = roles_of l.clients.items ≡ roles_in (take l.plan-index l.plans)
+invariant-loop-plan l = roles_of l.clients.items ≡ script_roles (take l.plan-index l.plans)

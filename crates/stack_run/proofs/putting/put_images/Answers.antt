@@ -1,7 +1,7 @@
 use Rattle.std.proofs.Common.{◌∙◌, ap, sym, subst, length, map, List}
 use Rattle.std.proofs.lemmas.List.{length-map}
 use Rattle.stack_run.specs.declared.wanted.Wanted.{Wanted}
-use Rattle.stack_run.specs.Chains.{PutsOr, SpentAmong, Chain, AreApart, AreTaken}
+use Rattle.stack_run.specs.Chains.{PutsOr, SpentAmong, Chain, HaveOtherNames, AreTaken}
 use Rattle.stack_run.proofs.LoopLemmas.{slice-after, after-count, after-apart, after-taken, ends-spent, ends-so}
 use Rattle.stack_run.proofs.putting.put_images.Goals as goal
 
@@ -13,7 +13,7 @@ put_rest-requires-clause-all g c κs within =
 
 pub put_rest-requires-clause-apart : goal.put_rest-requires-clause-apart
 put_rest-requires-clause-apart g c κs within =
-    subst AreApart (sym (slice-after _ _ _ _ _ _ _ c.in-Err.ensures.stops)) (after-apart _ _ _ _ _ _ _ c.in-Err.ensures.stops c.requires.apart)
+    subst HaveOtherNames (sym (slice-after _ _ _ _ _ _ _ c.in-Err.ensures.stops)) (after-apart _ _ _ _ _ _ _ c.in-Err.ensures.stops c.requires.apart)
 
 pub put_rest-requires-clause-taken : goal.put_rest-requires-clause-taken
 put_rest-requires-clause-taken g c κs within =

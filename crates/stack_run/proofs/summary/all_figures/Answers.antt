@@ -1,14 +1,14 @@
 use Rattle.std.proofs.Common.{◌≡◌, length, reverse, take, ap, ◌∙◌, sym, arith}
 use Rattle.std.proofs.Math.Seq.{take-length}
 use Rattle.std.proofs.lemmas.List.{reverse-reverse}
-use Rattle.stack_run.specs.Figures.{with_entry, figures_of}
+use Rattle.stack_run.specs.Figures.{figures_with, figures_of}
 use Rattle.stack_run.proofs.Counting.{figures-next}
 use Rattle.stack_run.proofs.summary.all_figures.Goals as goal
 
 pub loop-entry-preserved : goal.loop-entry-preserved
 loop-entry-preserved c =
     let one = figures-next c.args.ends.now c.entries-entry-items.result.now c.loop-entry.entry-index c.entry-item.result c.loop-entry-test.true in
-    let added : with_entry c.args.ends.now c.entry-item.result c.loop-entry.figures ≡ _ = λ i. with_entry c.args.ends.now (c.entry-item.is i) (c.loop-entry.invariant.1 i) in
+    let added : figures_with c.args.ends.now c.entry-item.result c.loop-entry.figures ≡ _ = λ i. figures_with c.args.ends.now (c.entry-item.is i) (c.loop-entry.invariant.1 i) in
     (c.loop-entry.invariant.0, c.with_entry-figures.ensures.figures ∙ (added ∙ sym one), c.with_entry-figures.ensures.within _ c.loop-entry.invariant.2)
 
 pub returns : goal.returns

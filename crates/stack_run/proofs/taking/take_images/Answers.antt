@@ -1,6 +1,6 @@
 use Rattle.std.proofs.Common.{◌≡◌, [], ◌∷◌, ◌++◌, ◌∙◌, ap, sym, subst, refl, map, length, arith, take}
 use Rattle.std.proofs.lemmas.List.{map-append, take_all}
-use Rattle.stack_run.specs.Chains.{Takes}
+use Rattle.stack_run.specs.Chains.{TakesImage}
 use Rattle.stack_run.proofs.ChainLemmas.{chain-none}
 use Rattle.stack_run.proofs.LoopLemmas.{free-next, free-rest, wanted-next, chain-next, all-have, taking-stops, fails-so}
 use Rattle.stack_run.proofs.taking.take_images.Goals as goal
@@ -9,7 +9,7 @@ pub loop-place-init : goal.loop-place-init
 loop-place-init g c =
     let none : c.args.media.now.items ≡ [] = c.requires.empty in
     record {
-      taken = rw none (chain-none Takes (g.I.Images.at c.args.images.now));
+      taken = rw none (chain-none TakesImage (g.I.Images.at c.args.images.now));
       free = c.requires.free;
       room = c.requires.room;
       count = omega (arith, ap length none);
@@ -34,7 +34,7 @@ pub loop-place-preserved : goal.loop-place-preserved
 loop-place-preserved g c =
     let more = ap (map (λ m. g.I.M.Medium.device m)) c.push_reserved.ensures.items ∙ map-append (λ m. g.I.M.Medium.device m) c.loop-place.media.items (c.in-Ok.medium ∷ []) in
     record {
-      taken = chain-next Takes c.args.wanted.now c.loop-place.place c.index-wanted-place.result _ _ _ _ _ _ c.loop-place-test.true c.index-wanted-place.is c.loop-place.invariant.taken c.take_image.ensures.others c.in-Ok.ensures.takes more;
+      taken = chain-next TakesImage c.args.wanted.now c.loop-place.place c.index-wanted-place.result _ _ _ _ _ _ c.loop-place-test.true c.index-wanted-place.is c.loop-place.invariant.taken c.take_image.ensures.others c.in-Ok.ensures.takes more;
       free = free-rest c.args.wanted.now c.loop-place.place c.index-wanted-place.result _ _ c.requires.apart c.loop-place-test.true c.index-wanted-place.is c.take_image.ensures.others c.loop-place.invariant.free;
       room = omega (arith, c.loop-place.invariant.room, c.push_reserved.ensures.capacity);
       count = omega (arith, c.loop-place.invariant.count, c.push_reserved.ensures.len);
