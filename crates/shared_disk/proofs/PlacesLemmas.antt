@@ -224,11 +224,16 @@ own-by S d (Does j (Some x) ∷ log) follows i p e behind there tag other = elim
     here last same =
         let does : DoesNext S d.roles H j (length (places_by d.opening log j)) (Some x) = follows.1 in
         let own : tag_of x ≡ j + 1 = line-tag S H (j + 1) does.role.stand does.order x (sym does.entry) in
-        let client : j ≡ i = omega (arith, own, rw same tag) in
+        let theirs : tag_of x ≡ i + 1 = subst (λ (y : Entry). tag_of y ≡ i + 1) (sym same) tag in
+        let client : j ≡ i = omega (arith, own, theirs) in
         let mine : DoesNext S d.roles H i (length xs) (Some x) = subst (λ k. DoesNext S d.roles H k (length (places_by d.opening log k)) (Some x)) client does in
         let eq : nat_eq j i ≡ true = rw client (eq-eqb i i refl) in
         let (at, is) = stands-here S d H (Some x) i (length xs) mine in
-        rw eq (length xs, rw last (snoc-last xs (length H)), subst (λ q. (at : StandsAt S d (x ∷ H) i (length xs) q) × (at.entry ≡ Some e)) (sym last) (at, is ∙ ap Some same))
+        let place : slice_get (xs ++ length H ∷ []) (length xs) ≡ Some p = snoc-last xs (length H) ∙ ap Some (sym last) in
+        let stands : (at : StandsAt S d (x ∷ H) i (length xs) p) × (at.entry ≡ Some e) =
+            subst (λ q. (at : StandsAt S d (x ∷ H) i (length xs) q) × (at.entry ≡ Some e)) (sym last) (at, is ∙ ap Some same) in
+        let line : IsLine S d (x ∷ H) (xs ++ length H ∷ []) i p e = (length xs, place, stands.0, stands.1) in
+        subst (λ b. IsLine S d (x ∷ H) (with_place b (length H) xs) i p e) (sym eq) line
 
 pub own-entries : (S : Setup) (d : Script) (places : List (List ℕ)) (H : List Entry) → KeepsScript S d places H → (i p : ℕ) (e : Entry) → length d.opening ≤ p → HasEntryAt H p (Some e) → tag_of e ≡ i + 1 → is_handed_back e ≡ false
     → (n : ℕ) × (slice_get (places_at places i) n ≡ Some p) × (at : StandsAt S d H i n p) × (at.entry ≡ Some e)
