@@ -12,3 +12,4 @@ pub mod Said
 pub mod Serving
 pub mod Summary
 pub mod Stages
+pub mod Words

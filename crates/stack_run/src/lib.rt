@@ -17,6 +17,7 @@ mod serving;
 mod summary;
 mod taking;
 mod wanted;
+mod words;
 
 pub use exit::end_program;
 pub use generator::generate;

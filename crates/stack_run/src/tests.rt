@@ -7,6 +7,7 @@ mod disks;
 mod generated;
 mod refusals;
 mod rows;
+mod words;
 
 use crate::run_plain;
 use clients::CLIENTS;
