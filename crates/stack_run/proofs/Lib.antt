@@ -19,3 +19,6 @@ pub mod StageLemmas
 pub mod Summing
 pub mod StopLemmas
 pub mod WantedLemmas
+pub mod Spaced
+pub mod WordsOf
+pub mod GeneratedScript

@@ -1,8 +1,12 @@
 -- The script that a number makes (own profile): one disk `g`, so many clients, and each with so many lines.
-use Rattle.std.specs.Prelude.{ℕ, zero, suc, ◌+◌, ◌/◌, ◌%◌, ◌^◌, nat_eq, nat_lt, if◌then◌else◌, List, [], ◌∷◌, ◌++◌, codes, decimal}
+use Rattle.std.specs.Prelude.{◌≡◌, ℕ, zero, suc, ◌+◌, ◌/◌, ◌%◌, ◌^◌, Bool, true, false, nat_eq, nat_lt, if◌then◌else◌, List, [], ◌∷◌, ◌++◌, codes, decimal, is_none, Ok}
+use Rattle.std.specs.List.{list_all}
 use Rattle.rand_xoshiro.specs.SplitMix64.{mix_u64}
 use Rattle.script_text.specs.Text.{line_of}
 use Rattle.script_text.specs.Tables.{digits_of}
+use Rattle.script_text.specs.declared.language.plans.DiskPlan.{DiskPlan}
+use Rattle.script_text.specs.declared.language.plans.ClientPlan.{ClientPlan}
+use Rattle.script_text.specs.Whole.{script_of}
 use Rattle.stack_run.specs.declared.generator.Draft.{Draft}
 
 -- the place in bytes, the length in bytes and the byte that a word gives
@@ -64,3 +68,26 @@ opening number = record { text = line_of (codes "disk g 512 1" ∷ []); state = 
 
 abbrev pub generated_text : ℕ → ℕ → ℕ → List ℕ
 generated_text number clients lines = (with_clients lines clients (opening number)).text
+
+-- each client is on the whole disk
+abbrev pub are_whole : List ClientPlan → Bool
+are_whole clients = list_all (λ client. is_none client.part) clients
+
+-- the disk `g` with these clients
+abbrev pub generated_disk : List ClientPlan → DiskPlan
+generated_disk clients = record {
+  image = codes "g";
+  size = 512;
+  workers = 1;
+  cached = false;
+  protected = false;
+  physical = 1;
+  spares = [];
+  clients = clients;
+}
+
+-- the text is a script of the disk `g` alone, each of whose clients is on the whole of it
+pub record IsGeneratedScript (text : List ℕ) : Type 0 where
+  pub clients : List ClientPlan
+  pub says : script_of text ≡ Ok (generated_disk clients ∷ [])
+  pub whole : are_whole clients ≡ true

@@ -1,7 +1,7 @@
 #![tactic(auto, unfolding(crate::specs::Generated::request_text, crate::specs::Generated::with_line, script_text::specs::Text::line_of))]
 
 ghost use Rattle.std.specs.Prelude.{◌≡◌, ◌*◌, ◌≤◌, string_bytes, IfOk, OnOk};
-ghost use Rattle.stack_run.specs.Generated.{place_of, length_of, fill_text, read_text, request_text, made_of, with_line, with_client, generated_text};
+ghost use Rattle.stack_run.specs.Generated.{place_of, length_of, fill_text, read_text, request_text, made_of, with_line, with_client, generated_text, IsGeneratedScript};
 
 use rand_core::SeedableRng;
 use rand_core::utils::NextWord;
@@ -95,6 +95,7 @@ pub fn generate(alloc: Global, number: u64, clients: u64, lines: u64) -> Result<
     requires lines { 1 ≤ lines }
     requires all { clients * lines ≤ 100000 }
     ensures text { IfOk result (λ text. text.items ≡ generated_text number clients lines) }
+    ensures script { IfOk result (λ text. IsGeneratedScript text.items) }
 {
     let mut draft = Draft {
         text: Vec::from_slice(alloc, b"disk g 512 1\n")?,

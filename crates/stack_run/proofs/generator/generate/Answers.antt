@@ -3,6 +3,7 @@ use Rattle.std.proofs.lemmas.Nat.{from_le_bytes-to_le_bytes_8}
 use Rattle.script_text.specs.Text.{line_of}
 use Rattle.stack_run.specs.Generated.{with_client, with_clients, opening}
 use Rattle.stack_run.proofs.Drafts.{clients-next}
+use Rattle.stack_run.proofs.GeneratedScript.{generated-script}
 use Rattle.stack_run.proofs.generator.generate.Goals as goal
 
 pub loop-init : goal.loop-init
@@ -16,7 +17,13 @@ pub loop-preserved : goal.loop-preserved
 loop-preserved c =
     c.in_ok-add_client.ensures ∙ (ap (with_client c.args.lines) c.loop.invariant ∙ sym (clients-next c.args.lines c.loop.counter _))
 
-pub returns : goal.returns
-returns c =
+whole-text : goal.returns-clause-text
+whole-text c =
     let all : c.loop.counter ≡ c.args.clients = omega arith in
-    record { text = ap (λ m. m.text) (c.loop.invariant ∙ ap (λ n. with_clients c.args.lines n (opening c.args.number)) all) }
+    ap (λ m. m.text) (c.loop.invariant ∙ ap (λ n. with_clients c.args.lines n (opening c.args.number)) all)
+
+pub returns-clause-text : goal.returns-clause-text
+returns-clause-text c = whole-text c
+
+pub returns-clause-script : goal.returns-clause-script
+returns-clause-script c = rw (whole-text c) (generated-script c.args.number c.args.clients c.args.lines c.requires.most c.requires.all)
