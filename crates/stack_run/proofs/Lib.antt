@@ -22,3 +22,4 @@ pub mod WantedLemmas
 pub mod Spaced
 pub mod WordsOf
 pub mod GeneratedScript
+pub mod SummedLemmas

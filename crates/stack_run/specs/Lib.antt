@@ -3,6 +3,7 @@ pub mod EndLines
 pub mod Figures
 pub mod Chains
 pub mod Generated
+pub mod GeneratedRun
 pub mod Media
 pub mod Program
 pub mod Reading

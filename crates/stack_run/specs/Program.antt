@@ -1,5 +1,5 @@
--- The program's words, its statuses, and what stands behind each of them (own profile).
-use Rattle.std.specs.Prelude.{◌≡◌, ℕ, ◌⊎◌, Bool, false, List, [], ◌∷◌, ◌++◌, codes, decimal, Option, None, Some, Result, Ok, Err, IsErr, bytes_eq}
+-- The program's statuses, and what stands behind each of them (own profile).
+use Rattle.std.specs.Prelude.{◌≡◌, ℕ, ◌⊎◌, List, [], ◌∷◌, ◌++◌, codes, decimal, Option, None, Some, Result, Ok, Err, IsErr}
 use Rattle.medium.specs.Counts.{Rose}
 use Rattle.image_store.specs.declared.sink.PutFault.{PutFault}
 use Rattle.image_store.specs.declared.sink.PutFault.TheVariants as put
@@ -17,12 +17,6 @@ use Rattle.stack_run.specs.declared.wanted.Wanted.{Wanted}
 use Rattle.stack_run.specs.Stages.{ImageStops}
 use Rattle.stack_run.specs.Reading.{IsScript, IsRefused}
 use Rattle.stack_run.specs.Serving.{Served, NotTaken, NotPutBack, MemoryLeaves, LacksImage, HasImages}
-
--- the words are the one word `plain`
-abbrev pub is_plain : List (List ℕ) → Bool
-is_plain [] = false
-is_plain (word ∷ []) = bytes_eq word (codes "plain")
-is_plain (word ∷ other ∷ more) = false
 
 abbrev pub status_of : Refusal → ℕ
 status_of Words = 1

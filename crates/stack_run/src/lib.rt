@@ -6,6 +6,7 @@ mod desk_run;
 mod disk_runs;
 mod end_lines;
 mod exit;
+mod generated_run;
 mod generator;
 mod program;
 mod putting;

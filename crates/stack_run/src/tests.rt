@@ -12,6 +12,7 @@ mod words;
 use crate::run_plain;
 use clients::CLIENTS;
 use disks::DISKS;
+use generated::{GENERATED, LARGE};
 use image_store::{MemImages, MemSink, MemSource};
 use medium::Planned;
 use refusals::REFUSALS;
@@ -243,6 +244,24 @@ fn serves_as_many_clients_as_may_be(rt: HostRuntime) -> Result<(), Fail> {
     assert_eq!(rt; ran.status, 0);
     let report = refusals_of(alloc, 64)?;
     assert_eq!(rt; ran.sink.bytes(), report.as_bytes());
+    Ok(())
+}
+
+#[test]
+fn runs_generated_scripts(rt: HostRuntime) -> Result<(), Fail> {
+    compare_all(&rt, rt.alloc(), &GENERATED)?;
+    Ok(())
+}
+
+#[test]
+fn runs_a_large_generated_script(rt: HostRuntime) -> Result<(), Fail> {
+    compare_all(&rt, rt.alloc(), &[LARGE])?;
+    Ok(())
+}
+
+#[test]
+fn runs_it_again_the_same_way(rt: HostRuntime) -> Result<(), Fail> {
+    compare_all(&rt, rt.alloc(), &[LARGE])?;
     Ok(())
 }
 

@@ -1,8 +1,12 @@
+use super::{FIRST, Given, Row, UNCHANGED};
 use crate::generate;
 use crate::summary::summary_of;
 use byte_lists::Bytes;
 use efi_status::Status;
 use history::{Asked, Command, Entry, History, Kind, UnitKind, View};
+use rand_core::SeedableRng;
+use rand_core::utils::NextWord;
+use rand_xoshiro::SplitMix64;
 use script_text::TokenLine;
 use std::alloc::{AllocError, Global};
 use std::test::Fail;
@@ -15,7 +19,17 @@ struct Made {
     text: &'static str,
 }
 
-// The words drawn for 0 are e220a8397b1dcdaf and 6e789e6aa1b965f4.
+// The words drawn for 0 begin with these.
+const DRAWN: [u64; 2] = [0xe220_a839_7b1d_cdaf, 0x6e78_9e6a_a1b9_65f4];
+
+#[test]
+fn draws_words(rt: HostRuntime) {
+    let mut words = SplitMix64::from_seed(0u64.to_le_bytes());
+    for word in DRAWN {
+        assert_eq!(rt; words.next_word(), word);
+    }
+}
+
 const MADE: [Made; 1] = [Made {
     number: 0,
     clients: 1,
@@ -32,6 +46,57 @@ fn makes_scripts(rt: HostRuntime) -> Result<(), Fail> {
     }
     Ok(())
 }
+
+// The summary of a flush and of a read of 1,643 bytes, which lie in four blocks, over zeros.
+const SMALL: &str =
+    "entries 8\naccepted 2\nrefused 0\ncommands 4\nwritten 0\nread 1643\ncrc a738ea1c\n";
+
+// Each of 16 clients has 62 waits and 938 requests.
+const LARGE_SUMMARY: &str =
+    "entries 78729\naccepted 15008\nrefused 0\ncommands 48713\nwritten 7637789\nread 5834035\ncrc 4eb5df5f\n";
+
+/// Runs of the row `gen`: the source is not read, and no image has changed.
+pub const GENERATED: [Row; 3] = [
+    Row {
+        given: Given {
+            words: &["gen", "0", "1", "2"],
+            ..FIRST
+        },
+        status: 0,
+        written: SMALL,
+        left: UNCHANGED,
+    },
+    Row {
+        given: Given {
+            words: &["gen", "00", "01", "02"],
+            ..FIRST
+        },
+        status: 0,
+        written: SMALL,
+        left: UNCHANGED,
+    },
+    Row {
+        given: Given {
+            words: &["gen", "0", "1", "2"],
+            sink_fails: &[0],
+            ..FIRST
+        },
+        status: 5,
+        written: "",
+        left: UNCHANGED,
+    },
+];
+
+/// A run of 16,000 lines.
+pub const LARGE: Row = Row {
+    given: Given {
+        words: &["gen", "7", "16", "1000"],
+        ..FIRST
+    },
+    status: 0,
+    written: LARGE_SUMMARY,
+    left: UNCHANGED,
+};
 
 const VIEW: View = View {
     start: 0,
