@@ -13,7 +13,7 @@ use Rattle.script_text.specs.declared.language.plans.DiskPlan.{DiskPlan}
 use Rattle.script_text.specs.Limits.{most_requested_bytes, most_disks, most_workers}
 use Rattle.script_text.specs.Wording.{line_of_bytes}
 use Rattle.script_text.specs.Last.{on_last, has_some}
-use Rattle.script_text.specs.Planned.{new_disk, new_client, add_spare, add_client, add_last_order, has_client, has_image, is_new_name, is_group_size, asked_bytes, asked_bytes, planned_disk, has_medium_room, planned_spare, has_client_room, planned_client, is_well_aimed, has_room, planned_order, plans_behind}
+use Rattle.script_text.specs.Planned.{new_disk, new_client, add_spare, add_client, add_last_order, has_client, has_image, is_new_name, is_group_size, asked_bytes, total_asked_bytes, planned_disk, has_medium_room, planned_spare, has_client_room, planned_client, is_well_aimed, has_room, planned_order, plans_behind}
 use Rattle.script_text.specs.Whole.{planned_if, line_says, script_of}
 use Rattle.script_text.specs.Fitting.{images_of, FitTogether}
 use Rattle.script_text.proofs.Chains.{then_ok, else_ok, next_ok, ok_same, both_true, none_true, was_true}
@@ -97,7 +97,7 @@ order_together plans next one mark all is =
     rw (← ok_same (on_last (add_last_order one) plans) next added)
     (record {
       few = rw (length_on_last (add_last_order one) plans) all.few;
-      asked = rw (requested_order one plans (was_true (has_client plans) has)) (sum_within (asked_bytes plans + asked_bytes one) (both_true _ _ room).1);
+      asked = rw (requested_order one plans (was_true (has_client plans) has)) (sum_within (total_asked_bytes plans + asked_bytes one) (both_true _ _ room).1);
       images = rw (images_of_order plans one) all.images;
     })
 

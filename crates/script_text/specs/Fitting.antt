@@ -15,7 +15,7 @@ use Rattle.medium.specs.Device.{is_block_size}
 use Rattle.script_text.specs.declared.language.plans.DiskPlan.{DiskPlan}
 use Rattle.script_text.specs.declared.language.plans.ClientPlan.{ClientPlan}
 use Rattle.script_text.specs.Limits.{most_request_bytes, most_requested_bytes, most_name_bytes, most_disks, most_media, most_clients, most_workers}
-use Rattle.script_text.specs.Planned.{is_group_size, asked_bytes}
+use Rattle.script_text.specs.Planned.{is_group_size, total_asked_bytes}
 
 -- the bytes of a name: the printable ones without a space
 abbrev pub is_name_byte : ℕ → Bool
@@ -92,5 +92,5 @@ images_of (disk ∷ more) = disk.image ∷ (disk.spares ++ images_of more)
 -- all disks together: how many they are, what their lines ask for, and no two media of one image
 pub record FitTogether (disks : List DiskPlan) : Type 0 where
   pub few : length disks ≤ most_disks
-  pub asked : asked_bytes disks ≤ most_requested_bytes
+  pub asked : total_asked_bytes disks ≤ most_requested_bytes
   pub images : IsDistinct bytes_eq (images_of disks)

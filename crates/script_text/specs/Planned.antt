@@ -77,8 +77,8 @@ abbrev pub disk_bytes : DiskPlan → ℕ
 disk_bytes disk = sum_by client_bytes disk.clients
 
 -- the bytes that all lines ask for
-unfoldable pub asked_bytes : List DiskPlan → ℕ
-asked_bytes plans = sum_by disk_bytes plans
+unfoldable pub total_asked_bytes : List DiskPlan → ℕ
+total_asked_bytes plans = sum_by disk_bytes plans
 
 -- how many lines the clients of a disk have, and those of all disks
 abbrev pub client_lines : ClientPlan → ℕ
@@ -140,7 +140,7 @@ is_well_aimed plans (Some k) = last_is (takes_mark k) plans
 
 -- so many bytes may be asked for
 abbrev pub has_room : List DiskPlan → ℕ → Bool
-has_room plans n = nat_le n most_request_bytes && nat_le (asked_bytes plans + n) most_requested_bytes
+has_room plans n = nat_le n most_request_bytes && nat_le (total_asked_bytes plans + n) most_requested_bytes
 
 -- a further line of the last client
 unfoldable pub planned_order : List DiskPlan → Order → Option ℕ → Result (List DiskPlan) Reason

@@ -2,7 +2,7 @@ ghost use Rattle.std.specs.Prelude.{◌≡◌, ℕ, ◌+◌, ◌≤◌, ◌<◌,
 ghost use Rattle.script_text.specs.Limits.{most_requested_bytes, most_disks};
 ghost use Rattle.script_text.specs.Last.{has_some, on_last};
 ghost use Rattle.script_text.specs.Taken.{FindsImages};
-ghost use Rattle.script_text.specs.Planned.{add_spare, add_client, add_last_order, has_client, has_image, has_medium_room, has_client_room, has_room, is_well_aimed, takes_mark, asked_bytes, asked_bytes};
+ghost use Rattle.script_text.specs.Planned.{add_spare, add_client, add_last_order, has_client, has_image, has_medium_room, has_client_room, has_room, is_well_aimed, takes_mark, total_asked_bytes, asked_bytes};
 
 use crate::language::limits::{ALL_REQUEST_BYTES, CLIENTS, DISKS, MEDIA, REQUEST_BYTES};
 use crate::language::line::Flags;
@@ -25,7 +25,7 @@ impl Model for Draft {
     ghost use Rattle.std.specs.Prelude.{◌≡◌, ◌≤◌, List};
     ghost use Rattle.script_text.specs.declared.language.plans.DiskPlan.{DiskPlan};
     ghost use Rattle.script_text.specs.Limits.{most_requested_bytes};
-    ghost use Rattle.script_text.specs.Planned.{asked_bytes};
+    ghost use Rattle.script_text.specs.Planned.{total_asked_bytes};
     ghost use Rattle.script_text.specs.Fitting.{images_of};
     ghost use Rattle.script_text.specs.Taken.{FindsImages};
 
@@ -33,7 +33,7 @@ impl Model for Draft {
 
     ghost view = { λ draft. draft.disks.items };
 
-    ghost invariant = { λ draft. (draft.bytes ≡ asked_bytes draft.disks.items)
+    ghost invariant = { λ draft. (draft.bytes ≡ total_asked_bytes draft.disks.items)
         × (draft.bytes ≤ most_requested_bytes)
         × FindsImages draft.names (images_of draft.disks.items) };
 }
@@ -194,7 +194,7 @@ impl Draft {
     #[tactic(auto, using(crate::proofs::PlannedSums::requested_order, crate::proofs::Images::taken_order))]
     pub fn add_order(self, order: Order) -> Result<Draft, AllocError>
         requires client { has_client self ≡ true }
-        requires room { asked_bytes self + asked_bytes order ≤ most_requested_bytes }
+        requires room { total_asked_bytes self + asked_bytes order ≤ most_requested_bytes }
         ensures { IfOk result (λ next. next ≡ on_last (add_last_order order) self) }
     {
         let Draft {
