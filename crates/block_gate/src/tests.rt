@@ -69,10 +69,10 @@ fn both_sets_are_held(rt: HostRuntime) -> Result<(), Fail> {
 
 #[test]
 fn work_of_another_ticket_is_foreign(rt: HostRuntime) -> Result<(), Fail> {
-    let mut gates = Gates::make(rt.alloc(), 1, 2)?;
-    let mut others = Gates::make(rt.alloc(), 1, 2)?;
+    let mut gates = Gates::make(rt.alloc(), 2, 2)?;
+    let mut others = Gates::make(rt.alloc(), 2, 2)?;
     others.hold(7, 5).copy_from_slice(&[8, 9]);
-    assert_eq!(rt; others.free(), 0);
+    assert_eq!(rt; others.free(), 1);
     let back = gates.give_back(others.lend(5, 1, &[6]));
     assert_eq!(rt; came_back(back, &[8, 9], &[6]), Some((5, 7, 1)));
     Ok(())
@@ -80,10 +80,10 @@ fn work_of_another_ticket_is_foreign(rt: HostRuntime) -> Result<(), Fail> {
 
 #[test]
 fn work_of_another_size_is_foreign(rt: HostRuntime) -> Result<(), Fail> {
-    let mut gates = Gates::make(rt.alloc(), 1, 2)?;
+    let mut gates = Gates::make(rt.alloc(), 2, 2)?;
     gates.hold(7, 0).copy_from_slice(&[1, 2]);
     gates.lend(0, 0, &[5]).discard();
-    let mut others = Gates::make(rt.alloc(), 1, 4)?;
+    let mut others = Gates::make(rt.alloc(), 2, 4)?;
     others.hold(7, 0).copy_from_slice(&[1, 2, 3, 4]);
     let back = gates.give_back(others.lend(0, 3, &[6]));
     assert_eq!(rt; came_back(back, &[1, 2, 3, 4], &[6]), Some((0, 7, 3)));
@@ -92,7 +92,7 @@ fn work_of_another_size_is_foreign(rt: HostRuntime) -> Result<(), Fail> {
 
 #[test]
 fn set_of_a_lost_work_is_refitted(rt: HostRuntime) -> Result<(), Fail> {
-    let mut gates = Gates::make(rt.alloc(), 1, 2)?;
+    let mut gates = Gates::make(rt.alloc(), 2, 2)?;
     gates.hold(7, 0).copy_from_slice(&[1, 2]);
     gates.lend(0, 0, &[5]).discard();
     assert_eq!(rt; gates.revoke(0), true);
@@ -100,6 +100,6 @@ fn set_of_a_lost_work_is_refitted(rt: HostRuntime) -> Result<(), Fail> {
     assert_eq!(rt; gates.out(), 1);
     assert_eq!(rt; gates.refit()?, 1);
     assert_eq!(rt; gates.out(), 0);
-    assert_eq!(rt; gates.free(), 1);
+    assert_eq!(rt; gates.free(), 2);
     Ok(())
 }
