@@ -145,7 +145,8 @@ pub fn run_generated<O: Sink>(
         (Appends (O.outlet out.old).wrote (O.outlet out.new).wrote) }
     ensures quiet { result ≡ 0 → (O.outlet out.new).faults ≡ (O.outlet out.old).faults }
     ensures sink { result ≡ 5 → SummaryCut number clients lines (O.outlet out.old) (O.outlet out.new) }
-    ensures memory { result ≡ 6 → WritesLine (refusal_text Refusal.Memory []) (O.outlet out.old) (O.outlet out.new) }
+    ensures memory { result ≡ 6 → WritesLine (refusal_text Refusal.Memory []) (O.outlet out.old)
+        (O.outlet out.new) }
     ensures few { (result ≡ 0) ⊎ ((result ≡ 5) ⊎ (result ≡ 6)) }
 {
     let text = match generated_summary(alloc, number, clients, lines) {

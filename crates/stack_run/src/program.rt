@@ -29,9 +29,11 @@ fn run_script<I: Images, O: Sink>(alloc: Global, script: &Script, images: &mut I
     requires together { FitTogether script.now.disks }
     ensures done { result ≡ 0 → Served script.now.disks (I.at images.old) (I.at images.new)
         (Appends (O.outlet out.old).wrote (O.outlet out.new).wrote) }
-    ensures image { result ≡ 3 → ImageFailed (I.at images.old) (I.at images.new) (O.outlet out.old) (O.outlet out.new) script.now.disks }
+    ensures image { result ≡ 3 → ImageFailed (I.at images.old) (I.at images.new) (O.outlet out.old)
+        (O.outlet out.new) script.now.disks }
     ensures lacks { LacksImage script.now.disks (I.at images.old) → (result ≡ 3) ⊎ (result ≡ 6) }
-    ensures sink { result ≡ 5 → SinkFailed (I.at images.old) (I.at images.new) (O.outlet out.old) (O.outlet out.new) script.now.disks }
+    ensures sink { result ≡ 5 → SinkFailed (I.at images.old) (I.at images.new) (O.outlet out.old)
+        (O.outlet out.new) script.now.disks }
     ensures quiet { result ≡ 0 → (O.outlet out.new).faults ≡ (O.outlet out.old).faults }
     ensures memory { result ≡ 6 → ServingRanOut (I.at images.old) (I.at images.new)
         (O.outlet out.old) (O.outlet out.new) script.now.disks }
@@ -160,7 +162,8 @@ pub fn run_plain<I: Images, R: Source, O: Sink>(
         → ((name : List ℕ) → IsNoRise (I.at images.old name).faults (I.at images.new name).faults)
         → (result ≡ 0) ⊎ (result ≡ 6) }
     ensures generated { IfGenerated (served_row (map string_bytes words.now))
-        (λ number clients lines. Generates number clients lines result (O.outlet out.old) (O.outlet out.new)) }
+        (λ number clients lines. Generates number clients lines result (O.outlet out.old)
+        (O.outlet out.new)) }
     ensures generated_alone { IfGenerated (served_row (map string_bytes words.now))
         (λ number clients lines. (script.new ≡ script.old) × (I.at images.new ≡ I.at images.old)) }
     ensures few { result ≤ 6 }
