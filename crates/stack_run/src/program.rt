@@ -178,6 +178,6 @@ pub fn run_plain<I: Images, R: Source, O: Sink>(
                 lines,
             },
         ) => run_generated(alloc, number, clients, lines, out),
-        _ => refuse(alloc, Refusal::Words, "", out),
+        _ => refuse(Refusal::Words, "", out),
     }
 }
