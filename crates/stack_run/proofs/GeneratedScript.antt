@@ -17,7 +17,7 @@ use Rattle.script_text.specs.declared.language.plans.DiskPlan.{DiskPlan}
 use Rattle.script_text.specs.declared.language.plans.ClientPlan.{ClientPlan}
 use Rattle.script_text.specs.Last.{on_last, last_is, has_some}
 use Rattle.script_text.specs.Limits.{most_script_bytes, most_request_bytes, most_requested_bytes, most_clients}
-use Rattle.script_text.specs.Planned.{new_client, add_client, add_order, add_last_order, asked_bytes, has_client, asked_bytes, plans_behind, planned_disk, planned_client, planned_order}
+use Rattle.script_text.specs.Planned.{new_client, add_client, add_order, add_last_order, asked_bytes, has_client, total_asked_bytes, plans_behind, planned_disk, planned_client, planned_order}
 use Rattle.script_text.specs.Tables.{digits_of}
 use Rattle.script_text.specs.Text.{line_of}
 use Rattle.script_text.specs.Whole.{line_says, lines_say, script_of}
@@ -43,7 +43,7 @@ record IsDraft (d : Made) (c r : ℕ) : Type 0 where
   pub reads : Reads d.text number (plans_of clients)
   pub count : length clients ≡ c
   pub whole : are_whole clients ≡ true
-  pub asked : asked_bytes (plans_of clients) ≤ 2048 * r
+  pub asked : total_asked_bytes (plans_of clients) ≤ 2048 * r
   pub short : length d.text ≤ 13 + 7 * c + 21 * r
 
 -- a line of a client: how many bytes it asks for, and how long it is
@@ -158,12 +158,12 @@ unfolding last_is
 has-clients [] some = absurd (omega arith)
 has-clients (x ∷ clients) some = refl
 
-plan-order : (n : ℕ) (one : Order) (clients : List ClientPlan) → has_client (plans_of clients) ≡ true → asked_bytes one ≤ 2048 → asked_bytes (plans_of clients) + 2048 ≤ most_requested_bytes → plans_behind n (plans_of clients) (Asks one None) ≡ Ok (on_last (add_last_order one) (plans_of clients))
+plan-order : (n : ℕ) (one : Order) (clients : List ClientPlan) → has_client (plans_of clients) ≡ true → asked_bytes one ≤ 2048 → total_asked_bytes (plans_of clients) + 2048 ≤ most_requested_bytes → plans_behind n (plans_of clients) (Asks one None) ≡ Ok (on_last (add_last_order one) (plans_of clients))
 unfolding plans_behind planned_order
 plan-order n one clients has few room =
     let most : asked_bytes one ≤ most_request_bytes = omega arith in
-    let all : asked_bytes (plans_of clients) + asked_bytes one ≤ most_requested_bytes = omega arith in
-    rw (has, le-leb (asked_bytes one) most_request_bytes most, le-leb (asked_bytes (plans_of clients) + asked_bytes one) most_requested_bytes all) refl
+    let all : total_asked_bytes (plans_of clients) + asked_bytes one ≤ most_requested_bytes = omega arith in
+    rw (has, le-leb (asked_bytes one) most_request_bytes most, le-leb (total_asked_bytes (plans_of clients) + asked_bytes one) most_requested_bytes all) refl
 
 last-order : (one : Order) (clients : List ClientPlan) → on_last (add_last_order one) (plans_of clients) ≡ plans_of (on_last (add_order one) clients)
 unfolding on_last
@@ -177,11 +177,11 @@ draft-line text state d c r draft some few line =
     let grown = draft.clients in
     let there : 0 < length draft.clients = omega (arith, draft.count) in
     let has = has-clients draft.clients there in
-    let room : asked_bytes (plans_of draft.clients) + 2048 ≤ most_requested_bytes = omega (arith, draft.asked) in
+    let room : total_asked_bytes (plans_of draft.clients) + 2048 ≤ most_requested_bytes = omega (arith, draft.asked) in
     let plan = plan-order draft.number one draft.clients has l.few room ∙ ap Ok (last-order one draft.clients) in
     let read = reads-line d.text draft.number (plans_of draft.clients) (plans_of (on_last (add_order one) draft.clients)) l.first l.rest (Asks one None) draft.reads l.word l.words l.plain l.kind plan in
     let more = requested_order one (plans_of draft.clients) has in
-    let same : asked_bytes (on_last (add_last_order one) (plans_of draft.clients)) ≡ asked_bytes (plans_of (on_last (add_order one) draft.clients)) = ap asked_bytes (last-order one draft.clients) in
+    let same : total_asked_bytes (on_last (add_last_order one) (plans_of draft.clients)) ≡ total_asked_bytes (plans_of (on_last (add_order one) draft.clients)) = ap total_asked_bytes (last-order one draft.clients) in
     record {
       number = draft.number + 1;
       clients = on_last (add_order one) draft.clients;
@@ -222,7 +222,7 @@ draft-client d c r draft few =
     let client = new_client None draft.number in
     let room : length draft.clients < most_clients = omega (arith, draft.count) in
     let read = reads-line d.text draft.number (plans_of draft.clients) (plans_of (draft.clients ++ client ∷ [])) (codes "client") [] (Client None) draft.reads (record { some = omega arith; clean = refl }) tt refl client-kind (plan-client draft.number draft.clients room) in
-    let same : asked_bytes (plans_of (draft.clients ++ client ∷ [])) ≡ asked_bytes (plans_of draft.clients) = sym (ap asked_bytes (last-client client draft.clients)) ∙ requested_client client (plans_of draft.clients) refl refl in
+    let same : total_asked_bytes (plans_of (draft.clients ++ client ∷ [])) ≡ total_asked_bytes (plans_of draft.clients) = sym (ap total_asked_bytes (last-client client draft.clients)) ∙ requested_client client (plans_of draft.clients) refl refl in
     record {
       number = draft.number + 1;
       clients = draft.clients ++ client ∷ [];
@@ -250,7 +250,7 @@ unfolding plans_behind planned_disk
 plan-disk = refl
 
 begins : (number : ℕ) → IsDraft (opening number) 0 0
-unfolding line_of asked_bytes
+unfolding line_of total_asked_bytes
 begins number = record {
   number = 2;
   clients = [];
