@@ -24,6 +24,7 @@ use Rattle.history.specs.Room.{is_command_of}
 use Rattle.history_laws.specs.Pending.{todo_at, todos_of, is_todo_of, IsBefore, Ordered}
 use Rattle.history_laws.specs.Turns.{turn_of_todo}
 use Rattle.history_laws.specs.Units.{IsUnitCommand}
+use Rattle.history_laws.proofs.ClosedLemmas.{while-request}
 use Rattle.history_laws.proofs.EndLemmas.{mark-fault}
 use Rattle.history_laws.proofs.FinishLemmas.{pending-accept, pending-finish}
 use Rattle.history_laws.proofs.NextLemmas.{first-open-fails}
@@ -35,7 +36,6 @@ use Rattle.history_laws.proofs.TaskLemmas.{task-unit}
 use Rattle.history_laws.specs.Serving.{AreWhileOpen, AreOwnInOrder, Continues, ends_in_fault}
 use Rattle.partition_children.specs.Entries.{get_of, read_asked}
 
--- nothing is left to do where no token is outstanding
 -- each of these is a done get of the token
 abbrev pub AreGets : ℕ → List Entry → Type 0
 AreGets t [] = Unit {0}
