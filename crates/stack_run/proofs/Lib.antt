@@ -11,6 +11,8 @@ pub mod FreeAgain
 pub mod HandedLemmas
 pub mod LoopLemmas
 pub mod PlaceCounts
+pub mod ProbedImage
+pub mod ProbedMedium
 pub mod RanLemmas
 pub mod Read
 pub mod ReportLoops

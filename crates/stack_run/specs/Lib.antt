@@ -4,7 +4,9 @@ pub mod Figures
 pub mod Chains
 pub mod Generated
 pub mod GeneratedRun
+pub mod Listing
 pub mod Media
+pub mod Probing
 pub mod Program
 pub mod Reading
 pub mod Reporting

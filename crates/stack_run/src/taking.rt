@@ -24,7 +24,7 @@ fn refuse_medium<I: Images>(alloc: Global, want: &Wanted, images: &mut I, medium
 }
 
 // Takes an image as a medium of whole groups.
-fn take_image<I: Images>(alloc: Global, want: &Wanted, images: &mut I) -> Result<I::M, NotRun>
+pub fn take_image<I: Images>(alloc: Global, want: &Wanted, images: &mut I) -> Result<I::M, NotRun>
     requires want { IsWanted want.now }
     requires free { IsFree (I.at images.old want.now.image).place }
     ensures takes { IfOk result (λ medium. TakesImage want.now (I.M.device medium)

@@ -5,6 +5,7 @@ ghost use Rattle.image_store.specs.Slots.{images_at};
 mod clients;
 mod disks;
 mod generated;
+mod probes;
 mod refusals;
 mod rows;
 mod words;
