@@ -9,6 +9,7 @@ pub mod EndLines
 pub mod EraLemmas
 pub mod FreeAgain
 pub mod HandedLemmas
+pub mod Listed
 pub mod LoopLemmas
 pub mod PlaceCounts
 pub mod ProbedImage

@@ -11,6 +11,9 @@ use Rattle.stack_run.specs.Chains.{Puts, TakesImage}
 use Rattle.stack_run.specs.Probing.{IsProbed, IsProbedAndLost, IsTableAt, IsTableOf, KeepsBytes, ProbeLeaves, failed_reads}
 use Rattle.stack_run.proofs.HandedLemmas.{back-place, lost-place}
 
+pub err-is : {X : Type 0} (fault other : NotRun) → (◌≡◌ {A = Result X NotRun} (Err fault) (Err other)) → fault ≡ other
+err-is fault other same = cc
+
 -- the bytes of a medium are the image's whole blocks
 at-image : (p0 p1 : Place) (want : Wanted) (d : Device) (table : Option Table) → IsTaking p0 p1 want.size want.cached d → IsTableOf d.first d.size table → IsTableAt p0 want.size table
 unfolding GivesBlocks

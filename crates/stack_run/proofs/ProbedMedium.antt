@@ -1,5 +1,5 @@
 -- A fresh medium that was probed.
-use Rattle.std.proofs.Common.{◌≡◌, ℕ, ◌+◌, List, [], map, length, slice_get, option_map, Option, None, Some, Result, Ok, Err, refl, sym, ◌∙◌, ap, subst}
+use Rattle.std.proofs.Common.{◌≡◌, ℕ, ◌+◌, ◌<◌, false, List, [], ◌∷◌, map, length, slice_get, All, option_map, Option, None, Some, Result, Ok, Err, refl, sym, ◌∙◌, ap, subst, arith}
 use Rattle.std.proofs.lemmas.List.{length-map}
 use Rattle.std.proofs.lemmas.Option.{slice_get-map}
 use Rattle.medium.specs.Device.{Device, IsFresh}
@@ -7,16 +7,21 @@ use Rattle.drive.specs.Drives.{DriveState, FitTheDrive, IsFreshDrive}
 use Rattle.history.specs.declared.entry.Entry.{Entry}
 use Rattle.history.specs.Setup.{Setup, size_of}
 use Rattle.history.specs.Contents.{contents, kept_contents}
-use Rattle.history.specs.Eras.{inserts, media_id_of}
+use Rattle.history.specs.Eras.{ejects, inserts, media_id_of, is_present}
+use Rattle.history.specs.Marks.{first_from}
+use Rattle.history.specs.Next.{first_open}
 use Rattle.history.specs.Room.{faults}
+use Rattle.history.specs.Tokens.{accepted}
+use Rattle.block_gate.specs.Gates.{idle_gates}
 use Rattle.history_laws.proofs.OneMediumLemmas.{faults-alone}
 use Rattle.disk_core.specs.State.{State, setup_of, opening_from}
 use Rattle.disk_core.specs.Facts.{AreFacts, MeetsEra}
+use Rattle.disk_core.specs.Turns.{IsIdle}
 use Rattle.disk_core.proofs.Fresh.{fresh-era}
 use Rattle.partition_tables.specs.declared.table.Table.{Table}
 use Rattle.partition_tables.specs.Table.{table_of}
 use Rattle.partition_children.specs.declared.probing.ProbeFault.{ProbeFault}
-use Rattle.partition_children.specs.Probing.{IsProbeOf, AddsEntriesAlone}
+use Rattle.partition_children.specs.Probing.{IsProbeOf, IsQuiet, AddsEntriesAlone}
 use Rattle.stack_run.specs.Probing.{IsTableOf, KeepsBytes}
 use Rattle.stack_run.proofs.RanLemmas.{all-at}
 
@@ -28,6 +33,27 @@ first-contents S T H bytes same none told = rw (same, none) told
 no-faults : (H : List Entry) → H ≡ [] → faults H ≡ 0
 unfolding faults
 no-faults H none = rw none refl
+
+-- a disk to which nothing has happened
+pub fresh-quiet : (s : State) (size : ℕ) → s.entries ≡ [] → s.gates ≡ idle_gates 1 size → IsQuiet s
+unfolding idle_gates first_open first_from accepted
+fresh-quiet s size none gates = record {
+  idle = subst IsIdle (sym gates) (record { held = refl; gone = refl; free = omega arith });
+  drained = ap (λ H. first_open s.setup H) none;
+}
+
+pub fresh-present : (H : List Entry) → H ≡ [] → is_present H ≡ false → ⊥
+unfolding ejects inserts
+fresh-present H none out = let gone : is_present [] ≡ false = ap is_present (sym none) ∙ out in cc
+
+-- what holds of one holds of all where there is no other
+pub all-of-one : {M : Type 0} (P : M → Type 0) (xs : List M) (m : M) → xs ≡ m ∷ [] → P m → All P xs
+all-of-one P xs m is holds = subst (All P) (sym is) (λ k d inside. let first : k ≡ 0 = omega (arith, inside) in rw first holds)
+
+-- nothing is told where no table could be read
+pub no-table : (told : Option (List ℕ)) (size : ℕ) → IsTableOf told size None
+no-table None size = tt
+no-table (Some bytes) size = tt
 
 module _ {M : Type 0} (device : M → Device) (drive : DriveState M) (fit : FitTheDrive device drive) (fresh : IsFreshDrive device drive) (one : length drive.media ≡ 1) (medium : M) (there : slice_get drive.media 0 ≡ Some medium) where
   abbrev S : Setup
@@ -46,13 +72,6 @@ module _ {M : Type 0} (device : M → Device) (drive : DriveState M) (fit : FitT
   unfolding setup_of
   alone = length-map drive.media (λ m. opening_from (device m)) ∙ one
 
-  -- no disk was made of it
-  pub unprobed : (back : M) → slice_get drive.media 0 ≡ Some back → KeepsBytes 0 (device medium) (device back)
-  unprobed back is = let same : medium ≡ back = some-same (sym there ∙ is) in subst (λ m. KeepsBytes 0 (device medium) (device m)) same (record { kept = is-fresh.kept; failed = is-fresh.failed })
-    where
-      some-same : {m n : M} → Some m ≡ Some n → m ≡ n
-      some-same e = cc
-
   module _ (old new : State) (setup : old.setup ≡ S) (none : old.entries ≡ []) where
     -- it has the bytes that it had
     pub keeps : (n : ℕ) → AddsEntriesAlone old n new → AreFacts new → (media : List M) → map device media ≡ new.devices → (back : M) → slice_get media 0 ≡ Some back → KeepsBytes n (device medium) (device back)
@@ -64,7 +83,7 @@ module _ {M : Type 0} (device : M → Device) (drive : DriveState M) (fit : FitT
         let count : length new.setup.media ≡ 1 = ap (λ (T : Setup). length T.media) (stays.setup ∙ setup) ∙ alone in
         record {
           kept = meets.kept ∙ (ap (λ T. kept_contents T 1 new.entries) stays.setup ∙ (stays.kept 1 ∙ (kept_old ∙ (sym begins.kept ∙ is-fresh.kept))));
-          failed = meets.failed ∙ (faults-alone new.setup new.entries facts.legal count ∙ (stays.failures ∙ ap (λ m. m + n) (no-faults old.entries none)));
+          failed = meets.failed ∙ (faults-alone new.setup new.entries facts.legal count ∙ (stays.failures ∙ (ap (λ m. m + n) (no-faults old.entries none) ∙ omega arith)));
         }
 
     -- and the table is theirs
