@@ -7,6 +7,7 @@ pub mod DiskLoops
 pub mod Drafts
 pub mod EndLines
 pub mod EraLemmas
+pub mod FileRows
 pub mod FreeAgain
 pub mod HandedLemmas
 pub mod Listed

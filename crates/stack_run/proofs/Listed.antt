@@ -11,8 +11,8 @@ unfolding line_of
 joined number digits text head line begins is =
     let last : List ℕ = text ++ 10 ∷ [] in
     let parts : ((number ++ 32 ∷ (digits ++ 32 ∷ [])) ++ text) ++ 10 ∷ [] ≡ number ++ 32 ∷ (digits ++ 32 ∷ last) =
-        append_assoc (number ++ 32 ∷ (digits ++ 32 ∷ [])) text (10 ∷ [])
-        ∙ (append_assoc number (32 ∷ (digits ++ 32 ∷ [])) last ∙ ap (λ l. number ++ 32 ∷ l) (append_assoc digits (32 ∷ []) last)) in
+    append_assoc (number ++ 32 ∷ (digits ++ 32 ∷ [])) text (10 ∷ [])
+    ∙ (append_assoc number (32 ∷ (digits ++ 32 ∷ [])) last ∙ ap (λ l. number ++ 32 ∷ l) (append_assoc digits (32 ∷ []) last)) in
     is ∙ (ap (λ l. (l ++ text) ++ 10 ∷ []) begins ∙ ap (λ l. codes "path " ++ l) parts)
 
 paths-behind : (place : ℕ) (children : List Child) (child : Child) → lines_text (λ place child. path_text child) place (children ++ child ∷ []) ≡ lines_text (λ place child. path_text child) place children ++ path_text child

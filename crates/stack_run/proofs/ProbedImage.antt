@@ -45,10 +45,10 @@ module _ (old mid new : Image) (want : Wanted) (d d' : Device) (takes : TakesIma
   -- memory ran out in its probe
   pub left-so : (result : Result (Unit {0}) NotRun) → KeepsBytes 0 d d' → Puts result d' mid new → ProbeLeaves want.size old new
   left-so (Ok tt) keeps puts = inl (inl (inl (record {
-      place = place-back 0 keeps puts;
-      worn = ap (λ w. adds w 0) (worn-so 0 keeps puts.worn) ∙ twice old.worn;
-      count = puts.cause.quiet ∙ takes.quiet;
-    })))
+    place = place-back 0 keeps puts;
+    worn = ap (λ w. adds w 0) (worn-so 0 keeps puts.worn) ∙ twice old.worn;
+    count = puts.cause.quiet ∙ takes.quiet;
+  })))
   left-so (Err NotRun.Image) keeps puts = inl (inl (inr (lost-so 0 keeps Rose NotRun.Image puts (rw takes.quiet at puts.cause.failed refl))))
   left-so (Err NotRun.Memory) keeps puts = inl (inr (lost-so 0 keeps Stayed NotRun.Memory puts (puts.cause.quiet (λ same. cc) ∙ takes.quiet)))
 

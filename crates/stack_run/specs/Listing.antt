@@ -15,8 +15,9 @@ use Rattle.stack_run.specs.declared.listing.Listing.{Listing}
 use Rattle.stack_run.specs.declared.listing.Listing.TheVariants as listing
 use Rattle.stack_run.specs.declared.refusal.Refusal.TheVariants.{Image as ImageOf, Memory}
 use Rattle.stack_run.specs.declared.wanted.Wanted.{Wanted}
-use Rattle.stack_run.specs.Probing.{IsProbed, ProbeFails, ProbeLeaves}
-use Rattle.stack_run.specs.Program.{refusal_text, WritesLine}
+use Rattle.stack_run.specs.Media.{LacksBlocks}
+use Rattle.stack_run.specs.Probing.{IsProbed, ProbeFails, ProbeLeaves, wanted_alone}
+use Rattle.stack_run.specs.Program.{refusal_text, IsServingStatus, WritesLine}
 
 -- the line of a child's path: its number, its node in lower-case hexadecimal digits, and the node's text
 unfoldable pub path_text : Child → List ℕ
@@ -57,3 +58,12 @@ pub record ProbeRanOut (size : ℕ) (old new : Image) (out out' : Outlet) : Type
 pub record ListingRanOut (what : Listing) (size : ℕ) (old new : Image) (out out' : Outlet) : Type 0 where
   pub listed : IsListed what size old new (AppendsFront out.wrote out'.wrote)
   pub quiet : out'.faults ≡ out.faults
+
+-- what `probe` and `paths` answer, write and leave of their image
+pub record ListsImage (what : Listing) (name : List ℕ) (size status : ℕ) (old new : Image) (out out' : Outlet) : Type 0 where
+  pub done : status ≡ 0 → IsListed what size old new (Appends out.wrote out'.wrote)
+  pub image : status ≡ 3 → IsUnlisted (wanted_alone name size) old new out out'
+  pub lacks : LacksBlocks (wanted_alone name size) old.place → (status ≡ 3) ⊎ (status ≡ 6)
+  pub sink : status ≡ 5 → IsListedInPart what size old new out out'
+  pub memory : status ≡ 6 → ProbeRanOut size old new out out' ⊎ ListingRanOut what size old new out out'
+  pub few : IsServingStatus status

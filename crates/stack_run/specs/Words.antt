@@ -5,6 +5,8 @@ use Rattle.medium.specs.Device.{is_block_size}
 use Rattle.script_text.specs.Fitting.{is_name_byte}
 use Rattle.script_text.specs.Limits.{most_name_bytes}
 use Rattle.script_text.specs.Words.{number_of}
+use Rattle.stack_run.specs.declared.listing.Listing.{Listing}
+use Rattle.stack_run.specs.declared.listing.Listing.TheVariants as listing
 use Rattle.stack_run.specs.declared.words.Row.{Row}
 use Rattle.stack_run.specs.declared.words.Row.TheVariants as row
 
@@ -68,19 +70,13 @@ is_file_row (Some (row.Probe file size)) = true
 is_file_row (Some (row.Paths file size)) = true
 is_file_row (Some (row.Generated number clients lines)) = false
 
--- the rows that this version has
-abbrev pub is_served : Row → Bool
-is_served row.Plain = true
-is_served (row.Probe file size) = false
-is_served (row.Paths file size) = false
-is_served (row.Generated number clients lines) = true
-
-abbrev pub if_served : Option Row → Option Row
-if_served None = None
-if_served (Some one) = if is_served one then Some one else None
-
-unfoldable pub served_row : List (List ℕ) → Option Row
-served_row words = if_served (row_of words)
+-- of the rows `probe` and `paths` this holds, with what they tell
+abbrev pub IfProbe : Option Row → (Listing → List ℕ → ℕ → Type 0) → Type 0
+IfProbe None P = Unit {0}
+IfProbe (Some row.Plain) P = Unit {0}
+IfProbe (Some (row.Probe file size)) P = P listing.Table file size
+IfProbe (Some (row.Paths file size)) P = P listing.Paths file size
+IfProbe (Some (row.Generated number clients lines)) P = Unit {0}
 
 -- of the row `gen` this holds
 abbrev pub IfGenerated : Option Row → (ℕ → ℕ → ℕ → Type 0) → Type 0

@@ -1,22 +1,25 @@
 ghost use Rattle.std.specs.Prelude.{◌≡◌, ℕ, ◌≤◌, ◌⊎◌, [], List, map, string_bytes, None, Some, IsSome};
 ghost use Rattle.medium.specs.Counts.{Rose};
 ghost use Rattle.image_store.specs.Edge.{Appends};
-ghost use Rattle.image_store.specs.Place.{IsFree};
+ghost use Rattle.image_store.specs.Place.{ChangesOnly, IsFree};
 ghost use Rattle.script_text.specs.Fitting.{AreDisks, FitTogether};
 ghost use Rattle.script_text.specs.Limits.{most_script_bytes};
 ghost use Rattle.script_text.specs.Planned.{planned_lines};
 ghost use Rattle.stack_run.specs.Serving.{Served, LacksImage};
 ghost use Rattle.stack_run.specs.GeneratedRun.{Generates};
-ghost use Rattle.stack_run.specs.Words.{served_row, IfGenerated};
+ghost use Rattle.stack_run.specs.Listing.{ListsImage};
+ghost use Rattle.stack_run.specs.Words.{row_of, IfGenerated, IfProbe};
 ghost use Rattle.stack_run.specs.Program.{refusal_text, WritesRefusal, ScriptRefused, OfScript, ImageFailed, SinkFailed, ServingRanOut, MemoryRanOut, IsToldRefused, IsToldLacking, IsToldServable, IsNoRise, IsServingStatus};
 
 use crate::generated_run::run_generated;
+use crate::listing::Listing;
+use crate::probe_run::run_probe;
 use crate::reading::{NotRead, read_source};
 use crate::refusal::{Refusal, Unserved};
 use crate::refusing::refuse;
 use crate::serving::serve;
 use crate::wanted::wanted_images;
-use crate::words::{Row, served_row};
+use crate::words::{Row, row_of};
 use image_store::{Images, Sink, Source};
 use script_text::Script;
 use std::alloc::Global;
@@ -107,7 +110,9 @@ fn run_source<I: Images, R: Source, O: Sink>(
 /// Runs the words by the table of this version (own profile). `plain` reads a script, takes the images of its disks, runs
 /// their lines by the plain schedule, puts the images back, and writes the reports. `gen NUMBER CLIENTS LINES` runs the
 /// script that the number makes over an image of zeros in memory, and writes what it did in numbers; the source is then not
-/// read, and no image has changed. It answers the program's status, and each status with its cause:
+/// read, and no image has changed. `probe FILE SIZE` and `paths FILE SIZE` read the partition table of an image, and write it or
+/// the device paths of its children; the source is then not read, and no other image has changed (`run_probe` has their
+/// statuses). It answers the program's status, and each status with its cause:
 ///
 /// - 0: the reports, the images of the disks and every other image are those of one legal history of each disk, the plain
 ///   run of its lines; or the summary is that of the plain run.
@@ -125,59 +130,74 @@ pub fn run_plain<I: Images, R: Source, O: Sink>(
     out: &mut O,
 ) -> u8
     requires free { (name : List ℕ) → IsFree (I.at images.old name).place }
-    ensures done { served_row (map string_bytes words.now) ≡ Some Row.Plain → result ≡ 0
+    ensures done { row_of (map string_bytes words.now) ≡ Some Row.Plain → result ≡ 0
         → OfScript (R.left script.old) (R.left script.new) (λ plans. Served plans (I.at images.old)
         (I.at images.new) (Appends (O.outlet out.old).wrote (O.outlet out.new).wrote)) }
-    ensures words { result ≡ 1 → served_row (map string_bytes words.now) ≡ None }
-    ensures words_exactly { served_row (map string_bytes words.now) ≡ None → result ≡ 1 }
+    ensures words { result ≡ 1 → row_of (map string_bytes words.now) ≡ None }
+    ensures words_exactly { row_of (map string_bytes words.now) ≡ None → result ≡ 1 }
     ensures words_unread { result ≡ 1 → script.new ≡ script.old }
     ensures words_line { result ≡ 1 → WritesRefusal (refusal_text Refusal.Words [])
         (I.at images.old) (I.at images.new) (O.outlet out.old) (O.outlet out.new) }
     ensures script { result ≡ 2 → ScriptRefused (R.left script.old) (R.left script.new)
         (I.at images.old) (I.at images.new) (O.outlet out.old) (O.outlet out.new) }
-    ensures script_exactly { served_row (map string_bytes words.now) ≡ Some Row.Plain
+    ensures script_exactly { row_of (map string_bytes words.now) ≡ Some Row.Plain
         → IsToldRefused (R.left script.old) → (result ≡ 2) ⊎ ((result ≡ 4) ⊎ (result ≡ 6)) }
-    ensures image { result ≡ 3 → OfScript (R.left script.old) (R.left script.new) (ImageFailed
-        (I.at images.old) (I.at images.new) (O.outlet out.old) (O.outlet out.new)) }
-    ensures image_exactly { served_row (map string_bytes words.now) ≡ Some Row.Plain
+    ensures image { row_of (map string_bytes words.now) ≡ Some Row.Plain → result ≡ 3
+        → OfScript (R.left script.old) (R.left script.new) (ImageFailed (I.at images.old)
+        (I.at images.new) (O.outlet out.old) (O.outlet out.new)) }
+    ensures image_exactly { row_of (map string_bytes words.now) ≡ Some Row.Plain
         → IsToldLacking (R.left script.old) (I.at images.old)
         → (result ≡ 3) ⊎ ((result ≡ 4) ⊎ (result ≡ 6)) }
     ensures source { result ≡ 4 → Rose (R.faults script.old) (R.faults script.new) }
     ensures source_exactly { (R.faults script.new ≡ R.faults script.old) ⊎ (result ≡ 4) }
     ensures source_line { result ≡ 4 → WritesRefusal (refusal_text Refusal.Source [])
         (I.at images.old) (I.at images.new) (O.outlet out.old) (O.outlet out.new) }
-    ensures sink { served_row (map string_bytes words.now) ≡ Some Row.Plain → result ≡ 5
+    ensures sink { row_of (map string_bytes words.now) ≡ Some Row.Plain → result ≡ 5
         → OfScript (R.left script.old) (R.left script.new) (SinkFailed (I.at images.old)
         (I.at images.new) (O.outlet out.old) (O.outlet out.new)) }
     ensures sink_quiet { result ≡ 0 → (O.outlet out.new).faults ≡ (O.outlet out.old).faults }
-    ensures memory { served_row (map string_bytes words.now) ≡ Some Row.Plain → result ≡ 6
+    ensures memory { row_of (map string_bytes words.now) ≡ Some Row.Plain → result ≡ 6
         → MemoryRanOut (R.left script.old) (R.left script.new) (I.at images.old) (I.at images.new)
         (O.outlet out.old) (O.outlet out.new) }
-    ensures memory_words { result ≡ 6 → IsSome (served_row (map string_bytes words.now)) }
+    ensures memory_words { result ≡ 6 → IsSome (row_of (map string_bytes words.now)) }
     ensures memory_source { result ≡ 6 → R.faults script.new ≡ R.faults script.old }
-    ensures complete { served_row (map string_bytes words.now) ≡ Some Row.Plain → IsToldServable
+    ensures complete { row_of (map string_bytes words.now) ≡ Some Row.Plain → IsToldServable
         (R.left script.old) (I.at images.old)
         → IsNoRise (R.faults script.old) (R.faults script.new) → IsNoRise (O.outlet out.old).faults
         (O.outlet out.new).faults
         → ((name : List ℕ) → IsNoRise (I.at images.old name).faults (I.at images.new name).faults)
         → (result ≡ 0) ⊎ (result ≡ 6) }
-    ensures generated { IfGenerated (served_row (map string_bytes words.now))
+    ensures generated { IfGenerated (row_of (map string_bytes words.now))
         (λ number clients lines. Generates number clients lines result (O.outlet out.old)
         (O.outlet out.new)) }
-    ensures generated_alone { IfGenerated (served_row (map string_bytes words.now))
+    ensures generated_alone { IfGenerated (row_of (map string_bytes words.now))
         (λ number clients lines. (script.new ≡ script.old) × (I.at images.new ≡ I.at images.old)) }
+    ensures probes { IfProbe (row_of (map string_bytes words.now)) (λ what name size.
+        ListsImage what name size result (I.at images.old name) (I.at images.new name)
+        (O.outlet out.old) (O.outlet out.new)) }
+    ensures probes_alone { IfProbe (row_of (map string_bytes words.now)) (λ what name size.
+        (script.new ≡ script.old) × ChangesOnly name (I.at images.old) (I.at images.new)) }
     ensures few { result ≤ 6 }
     ensures again { (name : List ℕ) → IsFree (I.at images.new name).place }
 {
-    match served_row(alloc, words) {
-        Some(Row::Plain) => run_source(alloc, script, images, out),
-        Some(
-            Row::Generated {
-                number,
-                clients,
-                lines,
-            },
+    match row_of(alloc, words) {
+        Ok(Some(Row::Plain)) => run_source(alloc, script, images, out),
+        Ok(Some(Row::Probe { file, size })) => {
+            run_probe(alloc, Listing::Table, file, size, images, out)
+        }
+        Ok(Some(Row::Paths { file, size })) => {
+            run_probe(alloc, Listing::Paths, file, size, images, out)
+        }
+        Ok(
+            Some(
+                Row::Generated {
+                    number,
+                    clients,
+                    lines,
+                },
+            ),
         ) => run_generated(alloc, number, clients, lines, out),
-        _ => refuse(Refusal::Words, "", out),
+        Ok(None) => refuse(Refusal::Words, "", out),
+        Err(_) => refuse(Refusal::Memory, "", out),
     }
 }

@@ -4,7 +4,7 @@ ghost use Rattle.std.specs.Char.{is_ascii_digit};
 ghost use Rattle.medium.specs.Device.{is_block_size};
 ghost use Rattle.script_text.specs.Fitting.{is_name_byte};
 ghost use Rattle.script_text.specs.Words.{number_of};
-ghost use Rattle.stack_run.specs.Words.{is_dashed, is_file, are_counts, size_of, file_size, sized_row, generated_row, row_by, row_of, is_file_row, is_served, served_row, IfGenerated};
+ghost use Rattle.stack_run.specs.Words.{is_dashed, is_file, are_counts, size_of, file_size, sized_row, generated_row, row_by, row_of, is_file_row, IfGenerated};
 
 use script_text::{NAME_BYTES, Name};
 use std::alloc::{AllocError, Global};
@@ -212,30 +212,4 @@ pub fn row_of(alloc: Global, words: &[String]) -> Result<Option<Row>, AllocError
         return Ok(None);
     }
     row_by(alloc, words)
-}
-
-// Whether this version has the row.
-fn is_served(row: &Row) -> bool
-    ensures { result ≡ is_served row.now }
-{
-    match row {
-        Row::Plain => true,
-        Row::Probe { .. } => false,
-        Row::Paths { .. } => false,
-        Row::Generated { .. } => true,
-    }
-}
-
-/// The row of this version's table that the words are in, or none.
-#[tactic(auto, unfolding(crate::specs::Words::served_row))]
-pub fn served_row(alloc: Global, words: &[String]) -> Option<Row>
-    ensures row { result ≡ served_row (map string_bytes words.now) }
-    ensures counts { IfGenerated result (λ _ clients lines. are_counts clients lines ≡ true) }
-{
-    match row_of(alloc, words) {
-        Ok(Some(row)) => { if is_served(&row) { Some(row) } else { None } }
-        Ok(None) => None,
-        // This version has no row that keeps a file.
-        Err(_) => None,
-    }
 }

@@ -3,19 +3,17 @@ ghost use Rattle.std.specs.Prelude.{ℕ, List, IfOk};
 ghost use Rattle.image_store.specs.Place.{IsFree};
 ghost use Rattle.image_store.specs.Slots.{images_at};
 
-use super::Patch;
-use crate::listing::Listing;
-use crate::probe_run::run_probe;
-use image_store::{MemImages, MemSink};
+use super::{Patch, words_of};
+use crate::run_plain;
+use image_store::{MemImages, MemSink, MemSource};
 use medium::Planned;
-use script_text::Name;
 use std::alloc::{AllocError, Global};
 use std::process::Abort;
 use std::test::Fail;
 
 // What is told of which image, zero but for these bytes, and what comes of it.
 struct ProbeRow {
-    what: Listing,
+    word: &'static str,
     length: usize,
     image: &'static [Patch],
     planned: &'static [Planned],
@@ -121,7 +119,7 @@ const MBR: &[Patch] = &[
 ];
 
 const FIRST_PROBE: ProbeRow = ProbeRow {
-    what: Listing::Table,
+    word: "probe",
     length: LENGTH,
     image: GPT,
     planned: &[],
@@ -134,7 +132,7 @@ const FIRST_PROBE: ProbeRow = ProbeRow {
 const PROBES: [ProbeRow; 8] = [
     FIRST_PROBE,
     ProbeRow {
-        what: Listing::Paths,
+        word: "paths",
         written: "path 1 04012a000100000000080000000000000004000000000000111111111111111111111111111111110202 HD(1,GPT,11111111-1111-1111-1111-111111111111,0x800,0x400)\n\
             path 2 04012a0002000000000c000000000000df03000000000000222222222222222222222222222222220202 HD(2,GPT,22222222-2222-2222-2222-222222222222,0xc00,0x3df)\n",
         ..FIRST_PROBE
@@ -148,7 +146,7 @@ const PROBES: [ProbeRow; 8] = [
         ..FIRST_PROBE
     },
     ProbeRow {
-        what: Listing::Paths,
+        word: "paths",
         image: MBR,
         written: "path 1 04012a000100000040000000000000004000000000000000785634120000000000000000000000000101 HD(1,MBR,0x12345678,0x40,0x40)\n\
             path 5 04012a0005000000c4090000000000006400000000000000785634120000000000000000000000000101 HD(5,MBR,0x12345678,0x9c4,0x64)\n\
@@ -157,7 +155,7 @@ const PROBES: [ProbeRow; 8] = [
     },
     // A table without children, and a medium whose first command fails.
     ProbeRow {
-        what: Listing::Paths,
+        word: "paths",
         length: 512,
         image: &[],
         written: "",
@@ -169,7 +167,7 @@ const PROBES: [ProbeRow; 8] = [
         ..FIRST_PROBE
     },
     ProbeRow {
-        what: Listing::Paths,
+        word: "paths",
         planned: &[Planned { call: 0, done: 0 }],
         written: "table unread\n",
         ..FIRST_PROBE
@@ -211,11 +209,16 @@ fn compare_probe(
     let bytes = image_bytes(alloc, row.length, row.image)?;
     let mut images = images_with(alloc, &bytes, row.planned)?;
     let mut sink = MemSink::make(alloc, Vec::new(alloc));
-    let name = Name::copy_of(alloc, "a.img")?;
-    let status = run_probe(alloc, row.what, name, 512, &mut images, &mut sink);
+    let mut source = MemSource::make(Vec::new(alloc), Vec::new(alloc));
+    let words = words_of(alloc, &[row.word, "a.img", "512"])?;
+    let status = run_plain(alloc, words.as_slice(), &mut source, &mut images, &mut sink);
     assert_eq!(rt; status, row.status, "row {place}");
     assert_eq!(rt; sink.bytes(), row.written.as_bytes(), "row {place}");
-    assert_eq!(rt; images.bytes_of("a.img"), Some(bytes.as_slice()), "row {place}");
+    assert_eq!(rt;
+        images.bytes_of("a.img"),
+        Some(bytes.as_slice()),
+        "row {place}"
+    );
     Ok(())
 }
 

@@ -13,7 +13,7 @@ unfolding path_text IsNodeOf IsTextOf
 returns c =
     let node = child_node c.args.child.now in
     let digits : string_bytes c.in_ok-digits.digits ≡ encode_lower (node_bytes node) =
-        c.in_ok-digits.ensures ∙ ap encode_lower (c.as_slice.ensures ∙ (c.write_node.ensures ∙ ap node_bytes c.node_of-node.ensures)) in
+    c.in_ok-digits.ensures ∙ ap encode_lower (c.as_slice.ensures ∙ (c.write_node.ensures ∙ ap node_bytes c.node_of-node.ensures)) in
     let added = c.in_ok-extend_from_slice.ensures.items ∙ ap (λ l. c.into_bytes-line.result.items ++ l) (c.as_slice-3.ensures ∙ (c.in_ok-write_text.ensures ∙ ap text_of c.node_of-node.ensures)) in
     joined (decimal c.args.child.now.number) (encode_lower (node_bytes node)) (text_of node) c.into_bytes-line.result.items c.push.new.self.items
     (ap (λ v. v.items) c.into_bytes-line.ensures.value ∙ (rw digits at c.in_ok-format.ensures.ok)) (c.in_ok-push.ensures.items ∙ ap (λ l. l ++ 10 ∷ []) added)

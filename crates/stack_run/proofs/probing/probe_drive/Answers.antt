@@ -24,13 +24,13 @@ pub returns-clause-probes : goal.returns-clause-probes
 returns-clause-probes g c medium back there is =
     let device = g.M.Medium.device in
     let kept : (n : ℕ) → AddsEntriesAlone c.in-Ok.disk n c.probe.new.disk → KeepsBytes n (device medium) (device back) = λ n stays.
-        keeps device c.args.drive c.requires.fit c.requires.fresh c.requires.one medium there c.in-Ok.disk c.probe.new.disk c.in-Ok.ensures.setup c.in-Ok.ensures.entries n stays
-        c.into_media-media.ensures.facts c.into_media-media.result.0.items c.into_media-media.ensures.media back is in
+    keeps device c.args.drive c.requires.fit c.requires.fresh c.requires.one medium there c.in-Ok.disk c.probe.new.disk c.in-Ok.ensures.setup c.in-Ok.ensures.entries n stays
+    c.into_media-media.ensures.facts c.into_media-media.result.0.items c.into_media-media.ensures.media back is in
     elim c.match-probe.branch [
-      in-Ok-probe w ↦ rw w.probed-is (
-          kept 0 w.in-Ok-probe.ensures.stays,
-          tells device c.args.drive c.requires.fit c.requires.fresh c.requires.one medium there c.in-Ok.disk c.probe.new.disk c.in-Ok.ensures.setup c.in-Ok.ensures.entries w.in-Ok-probe.table w.in-Ok-probe.ensures.found,
-        )
-    | in-Err-Device w ↦ rw w.probed-is (kept 1 (rw w.in-Err-Device.field-0-is at w.in-Err-Device.ensures.stays), no-table _ _)
-    | in-Err-Memory w ↦ rw w.probed-is (kept 0 (rw w.in-Err-Memory.field-0-is at w.in-Err-Memory.ensures.stays))
+      | in-Ok-probe w ↦ rw w.probed-is (
+        kept 0 w.in-Ok-probe.ensures.stays,
+        tells device c.args.drive c.requires.fit c.requires.fresh c.requires.one medium there c.in-Ok.disk c.probe.new.disk c.in-Ok.ensures.setup c.in-Ok.ensures.entries w.in-Ok-probe.table w.in-Ok-probe.ensures.found,
+      )
+      | in-Err-Device w ↦ rw w.probed-is (kept 1 (rw w.in-Err-Device.field-0-is at w.in-Err-Device.ensures.stays), no-table _ _)
+      | in-Err-Memory w ↦ rw w.probed-is (kept 0 (rw w.in-Err-Memory.field-0-is at w.in-Err-Memory.ensures.stays))
     ]
