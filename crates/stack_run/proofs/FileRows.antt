@@ -6,7 +6,7 @@ use Rattle.medium.specs.Device.{IsBlockSize, is_block_size}
 use Rattle.script_text.specs.Words.{number_of}
 use Rattle.stack_run.specs.declared.words.Row.{Row}
 use Rattle.stack_run.specs.declared.words.Row.TheVariants as row
-use Rattle.stack_run.specs.Words.{is_dashed, is_file, are_counts, if_size, size_of, file_size, sized_row, counted_row, generated_row, row_by, row_of, IfProbe}
+use Rattle.stack_run.specs.Words.{is_dashed, is_file, are_counts, if_size, block_size_of, file_size, sized_row, counted_row, generated_row, row_by, row_of, IfProbe}
 
 abbrev pub IsSized : Option Row → Type 0
 IsSized o = IfProbe o (λ what name size. IsBlockSize size)
@@ -42,7 +42,7 @@ counted-sized (Some a) (Some b) None = tt
 counted-sized (Some a) (Some b) (Some c) = row-if (are_counts b c) (Some (row.Generated a b c)) None tt tt
 
 by-sized : (words : List (List ℕ)) → IsSized (row_by words)
-unfolding row_by generated_row file_size size_of
+unfolding row_by generated_row file_size block_size_of
 by-sized [] = tt
 by-sized (word ∷ []) = row-if (bytes_eq word (codes "plain")) (Some row.Plain) None tt tt
 by-sized (word ∷ file ∷ []) = tt

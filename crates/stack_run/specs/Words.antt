@@ -27,12 +27,12 @@ abbrev pub if_size : Option ℕ → Option ℕ
 if_size None = None
 if_size (Some size) = if is_block_size size then Some size else None
 
-unfoldable pub size_of : List ℕ → Option ℕ
-size_of word = if_size (number_of word)
+unfoldable pub block_size_of : List ℕ → Option ℕ
+block_size_of word = if_size (number_of word)
 
 -- FILE SIZE
 unfoldable pub file_size : List ℕ → List ℕ → Option ℕ
-file_size file size = if is_file file then size_of size else None
+file_size file size = if is_file file then block_size_of size else None
 
 abbrev pub sized_row : (ℕ → Row) → Option ℕ → Option Row
 sized_row one None = None

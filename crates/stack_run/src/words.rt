@@ -4,7 +4,7 @@ ghost use Rattle.std.specs.Char.{is_ascii_digit};
 ghost use Rattle.medium.specs.Device.{is_block_size};
 ghost use Rattle.script_text.specs.Fitting.{is_name_byte};
 ghost use Rattle.script_text.specs.Words.{number_of};
-ghost use Rattle.stack_run.specs.Words.{is_dashed, is_file, are_counts, size_of, file_size, sized_row, generated_row, row_by, row_of, is_file_row, IfGenerated};
+ghost use Rattle.stack_run.specs.Words.{is_dashed, is_file, are_counts, block_size_of, file_size, sized_row, generated_row, row_by, row_of, is_file_row, IfGenerated};
 
 use script_text::{NAME_BYTES, Name};
 use std::alloc::{AllocError, Global};
@@ -88,9 +88,9 @@ fn is_printable(bytes: &[u8]) -> bool
 }
 
 // The size of a block that the word names.
-#[tactic(auto, unfolding(crate::specs::Words::size_of))]
-fn size_of(word: &str) -> Option<u32>
-    ensures { result ≡ size_of word.now }
+#[tactic(auto, unfolding(crate::specs::Words::block_size_of))]
+fn block_size_of(word: &str) -> Option<u32>
+    ensures { result ≡ block_size_of word.now }
 {
     match number_of(word) {
         Some(size) => {
@@ -119,7 +119,11 @@ fn are_counts(clients: u64, lines: u64) -> bool
 fn file_size(file: &str, size: &str) -> Option<u32>
     ensures { result ≡ file_size file.now size.now }
 {
-    if is_file(file) { size_of(size) } else { None }
+    if is_file(file) {
+        block_size_of(size)
+    } else {
+        None
+    }
 }
 
 // The row `probe`. The error is want of memory.

@@ -7,7 +7,7 @@ use Rattle.stack_run.proofs.refusing.put_both.Goals as goal
 pub returns-in-Ok : goal.returns-in-Ok
 returns-in-Ok g c = record {
   text = put-behind (g.O.Sink.outlet c.args.out.now).wrote (g.O.Sink.outlet c.put.new.self).wrote (g.O.Sink.outlet c.put-in-Ok.new.self).wrote c.args.front.now c.args.rest.now c.put-in-Ok.result
-    c.in-Ok.ensures.text c.put-in-Ok.ensures.text;
+      c.in-Ok.ensures.text c.put-in-Ok.ensures.text;
   cause = subst (λ n. HasCauseOf put.Failed n (g.O.Sink.outlet c.put-in-Ok.new.self).faults c.put-in-Ok.result) c.in-Ok.ensures.cause.quiet c.put-in-Ok.ensures.cause;
   spent = subst (λ n. HasCauseOf put.Memory n (g.O.Sink.outlet c.put-in-Ok.new.self).spent c.put-in-Ok.result) c.in-Ok.ensures.spent.quiet c.put-in-Ok.ensures.spent;
 }

@@ -7,7 +7,7 @@ use Rattle.stack_run.proofs.refusing.put_three.Goals as goal
 pub returns-in-Ok : goal.returns-in-Ok
 returns-in-Ok g c = record {
   text = put-behind (g.O.Sink.outlet c.args.out.now).wrote (g.O.Sink.outlet c.put.new.self).wrote (g.O.Sink.outlet c.put_both.new.out).wrote c.args.first.now (c.args.second.now ++ c.args.third.now) c.put_both.result
-    c.in-Ok.ensures.text c.put_both.ensures.text;
+      c.in-Ok.ensures.text c.put_both.ensures.text;
   cause = subst (λ n. HasCauseOf put.Failed n (g.O.Sink.outlet c.put_both.new.out).faults c.put_both.result) c.in-Ok.ensures.cause.quiet c.put_both.ensures.cause;
   spent = subst (λ n. HasCauseOf put.Memory n (g.O.Sink.outlet c.put_both.new.out).spent c.put_both.result) c.in-Ok.ensures.spent.quiet c.put_both.ensures.spent;
 }
