@@ -40,12 +40,15 @@ entry-later H p e (Some x) (lt, is) =
     (omega (arith, lt), first-entries-more (p + 1) H e (omega (arith, lt)) ∙ (is ∙ ap (λ xs. x ∷ xs) (sym (first-entries-more p H e (omega (arith, lt))))))
 
 stands-later : (S : Setup) (d : Script) (H : List Entry) (e : Entry) (i n p : ℕ) → (at : StandsAt S d H i n p) → (later : StandsAt S d (e ∷ H) i n p) × (later.entry ≡ at.entry)
-stands-later S d H e i n p at = (record {
-  within = omega (arith, at.within);
-  entry = at.entry;
-  does = subst (λ G. DoesNext S d.roles G i n at.entry) (sym (first-entries-more p H e at.within)) at.does;
-  there = entry-later H p e at.entry at.there;
-}, refl)
+stands-later S d H e i n p at = (
+  record {
+    within = omega (arith, at.within);
+    entry = at.entry;
+    does = subst (λ G. DoesNext S d.roles G i n at.entry) (sym (first-entries-more p H e at.within)) at.does;
+    there = entry-later H p e at.entry at.there;
+  },
+  refl,
+)
 
 -- the same with a line's entry or none
 stands-on : (S : Setup) (d : Script) (H : List Entry) (o : Option Entry) (i n p : ℕ) → (at : StandsAt S d H i n p) → (later : StandsAt S d (with_line_entry o H) i n p) × (later.entry ≡ at.entry)
@@ -54,21 +57,26 @@ stands-on S d H (Some e) i n p at = stands-later S d H e i n p at
 
 -- a line stands where it was done
 stands-here : (S : Setup) (d : Script) (H : List Entry) (o : Option Entry) (i n : ℕ) → DoesNext S d.roles H i n o → (at : StandsAt S d (with_line_entry o H) i n (length H)) × (at.entry ≡ o)
-stands-here S d H None i n does = (record {
-  within = omega arith;
-  entry = None;
-  does = subst (λ G. DoesNext S d.roles G i n None) (sym (first-all H (length H) refl)) does;
-  there = tt;
-}, refl)
+stands-here S d H None i n does = (
+  record {
+    within = omega arith;
+    entry = None;
+    does = subst (λ G. DoesNext S d.roles G i n None) (sym (first-all H (length H) refl)) does;
+    there = tt;
+  },
+  refl,
+)
 stands-here S d H (Some e) i n does =
     let old : first_entries (length H) (e ∷ H) ≡ H = first-entries-more (length H) H e (omega arith) ∙ first-all H (length H) refl in
-    let new : first_entries (length H + 1) (e ∷ H) ≡ e ∷ H = first-all (e ∷ H) (length H + 1) (omega arith) in
-    (record {
-      within = omega arith;
-      entry = Some e;
-      does = subst (λ G. DoesNext S d.roles G i n (Some e)) (sym old) does;
-      there = (omega arith, new ∙ ap (λ xs. e ∷ xs) (sym old));
-    }, refl)
+    let new : first_entries (length H + 1) (e ∷ H) ≡ e ∷ H = first-all (e ∷ H) (length H + 1) (omega arith) in (
+      record {
+        within = omega arith;
+        entry = Some e;
+        does = subst (λ G. DoesNext S d.roles G i n (Some e)) (sym old) does;
+        there = (omega arith, new ∙ ap (λ xs. e ∷ xs) (sym old));
+      },
+      refl,
+    )
 
 same-client : (j i : ℕ) → nat_eq j i ≡ true → j ≡ i
 same-client j i is = eqb-true j i is
@@ -231,7 +239,7 @@ own-by S d (Does j (Some x) ∷ log) follows i p e behind there tag other = elim
         let (at, is) = stands-here S d H (Some x) i (length xs) mine in
         let place : slice_get (xs ++ length H ∷ []) (length xs) ≡ Some p = snoc-last xs (length H) ∙ ap Some (sym last) in
         let stands : (at : StandsAt S d (x ∷ H) i (length xs) p) × (at.entry ≡ Some e) =
-            subst (λ q. (at : StandsAt S d (x ∷ H) i (length xs) q) × (at.entry ≡ Some e)) (sym last) (at, is ∙ ap Some same) in
+        subst (λ q. (at : StandsAt S d (x ∷ H) i (length xs) q) × (at.entry ≡ Some e)) (sym last) (at, is ∙ ap Some same) in
         let line : IsLine S d (x ∷ H) (xs ++ length H ∷ []) i p e = (length xs, place, stands.0, stands.1) in
         subst (λ b. IsLine S d (x ∷ H) (with_place b (length H) xs) i p e) (sym eq) line
 
@@ -239,5 +247,5 @@ pub own-entries : (S : Setup) (d : Script) (places : List (List ℕ)) (H : List 
     → (n : ℕ) × (slice_get (places_at places i) n ≡ Some p) × (at : StandsAt S d H i n p) × (at.entry ≡ Some e)
 own-entries S d places H keeps i p e behind there tag other =
     subst (λ G. IsLine S d G (places_at places i) i p e) keeps.history
-      (subst (λ xs. IsLine S d (entries_by d.opening keeps.log) xs i p e) (sym (keeps.at i))
-        (own-by S d keeps.log keeps.follows i p e behind (subst (λ G. HasEntryAt G p (Some e)) (sym keeps.history) there) tag other))
+    (subst (λ xs. IsLine S d (entries_by d.opening keeps.log) xs i p e) (sym (keeps.at i))
+    (own-by S d keeps.log keeps.follows i p e behind (subst (λ G. HasEntryAt G p (Some e)) (sym keeps.history) there) tag other))
