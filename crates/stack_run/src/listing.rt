@@ -44,8 +44,10 @@ fn path_lines(alloc: Global, children: &[Child]) -> Result<Vec<u8>, AllocError>
 
 // Writes the paths of children, or after a fault a front of them.
 fn write_paths<O: Sink>(alloc: Global, children: &[Child], out: &mut O) -> Result<(), ReportFault>
-    ensures text { PutsText (O.outlet out.old).wrote (O.outlet out.new).wrote result (paths_text children.now) }
-    ensures cause { HasCauseOf ReportFault.Failed (O.outlet out.old).faults (O.outlet out.new).faults result }
+    ensures text { PutsText (O.outlet out.old).wrote (O.outlet out.new).wrote result
+        (paths_text children.now) }
+    ensures cause { HasCauseOf ReportFault.Failed (O.outlet out.old).faults (O.outlet out.new).faults
+        result }
 {
     let lines = match path_lines(alloc, children) {
         Ok(lines) => lines,
@@ -65,8 +67,10 @@ pub fn write_listing<O: Sink>(
     table: &Option<Table>,
     out: &mut O,
 ) -> Result<(), ReportFault>
-    ensures text { PutsText (O.outlet out.old).wrote (O.outlet out.new).wrote result (listing_text what table.now) }
-    ensures cause { HasCauseOf ReportFault.Failed (O.outlet out.old).faults (O.outlet out.new).faults result }
+    ensures text { PutsText (O.outlet out.old).wrote (O.outlet out.new).wrote result
+        (listing_text what table.now) }
+    ensures cause { HasCauseOf ReportFault.Failed (O.outlet out.old).faults (O.outlet out.new).faults
+        result }
 {
     match table {
         None => report_unread(out),

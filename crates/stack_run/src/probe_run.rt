@@ -67,7 +67,8 @@ pub fn run_probe<I: Images, O: Sink>(
         (I.at images.new name) (O.outlet out.old) (O.outlet out.new) }
     ensures memory { result ≡ 6 → ProbeRanOut size (I.at images.old name) (I.at images.new name)
         (O.outlet out.old) (O.outlet out.new)
-        ⊎ ListingRanOut what size (I.at images.old name) (I.at images.new name) (O.outlet out.old) (O.outlet out.new) }
+        ⊎ ListingRanOut what size (I.at images.old name) (I.at images.new name) (O.outlet out.old)
+        (O.outlet out.new) }
     ensures few { IsServingStatus result }
     ensures again { IsFree (I.at images.new name).place }
     ensures others { ChangesOnly name (I.at images.old) (I.at images.new) }
