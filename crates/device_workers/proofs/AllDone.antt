@@ -9,7 +9,7 @@ use Rattle.history.specs.declared.order.Order.{Order}
 use Rattle.history.specs.declared.order.Order.TheVariants as order
 use Rattle.history.specs.Eras.{is_present, media_id_of}
 use Rattle.history.specs.Setup.{Setup, IsSetup}
-use Rattle.history.specs.Tokens.{Request, is_accept, accepted, request, was_collected}
+use Rattle.history.specs.Tokens.{Request, is_accept, token_count, request, was_collected}
 use Rattle.history.specs.Rules.{IsLegal, refusal_of}
 use Rattle.history.specs.Next.{first_open, Turn, next_turn, Outcome, entry_of}
 use Rattle.history_laws.specs.Told.{is_done}
@@ -192,14 +192,14 @@ collects-each test H a (suc n) t q from until named passes = elim (cases_eq a t)
       collects-each test (with_collect test H a) (a + 1) n t q (omega (arith, from, other)) (omega (arith, until)) (one-request test H a t ∙ named) (λ was. passes (one-uncollected test H a t was))
 ]
 
-last-each : (H : List Entry) (t : ℕ) → IsClients H → t < accepted H → was_collected (with_last_collects H) t ≡ true
+last-each : (H : List Entry) (t : ℕ) → IsClients H → t < token_count H → was_collected (with_last_collects H) t ≡ true
 unfolding with_last_collects
 last-each H t clients less =
     let (q, named) = request-some H t less in
-    collects-each (λ tag. not (nat_eq tag 0)) H 0 (accepted H) t q (omega arith) (omega (arith, less)) named (λ was. ap not (ne_eqb q.tag 0 (clients t q named was)))
+    collects-each (λ tag. not (nat_eq tag 0)) H 0 (token_count H) t q (omega arith) (omega (arith, less)) named (λ was. ap not (ne_eqb q.tag 0 (clients t q named was)))
 
-last-accepted : (H : List Entry) → accepted (with_last_collects H) ≡ accepted H
-last-accepted H = last-keep (λ G. accepted G ≡ accepted H) (λ G tag t same. accepted-same G (entry.Collect tag t) refl ∙ same) H refl
+last-accepted : (H : List Entry) → token_count (with_last_collects H) ≡ token_count H
+last-accepted H = last-keep (λ G. token_count G ≡ token_count H) (λ G tag t same. accepted-same G (entry.Collect tag t) refl ∙ same) H refl
 
 last-open : (S : Setup) (H : List Entry) → first_open S (with_last_collects H) ≡ first_open S H
 last-open S H = last-keep (λ G. first_open S G ≡ first_open S H) (λ G tag t same. first-open-collect S G tag t ∙ same) H refl

@@ -10,7 +10,7 @@ use Rattle.history.specs.declared.order.Order.{Order}
 use Rattle.history.specs.declared.order.Order.TheVariants as order
 use Rattle.history.specs.Eras.{is_present, media_id_of}
 use Rattle.history.specs.Setup.{Setup}
-use Rattle.history.specs.Tokens.{Request, is_accept, accepted, request, is_collect_of, was_collected}
+use Rattle.history.specs.Tokens.{Request, is_accept, token_count, request, is_collect_of, was_collected}
 use Rattle.history.specs.Rules.{IsLegal, refusal_of}
 use Rattle.history.specs.Next.{first_open}
 use Rattle.history_laws.proofs.NextLemmas.{first-open-none}
@@ -61,9 +61,9 @@ clients-if H false e other clients = clients
 
 -- and with one that accepts a request of a client
 clients-accept : (H : List Entry) (i : ℕ) (view : View) (asked : Asked) (bytes : List ℕ) → IsClients H → IsClients (entry.Accept (i + 1) view asked bytes ∷ H)
-clients-accept H i view asked bytes clients t q named not_it = elim (cases_eq t (accepted H)) [
+clients-accept H i view asked bytes clients t q named not_it = elim (cases_eq t (token_count H)) [
   | inl same ↦
-      let new : request (entry.Accept (i + 1) view asked bytes ∷ H) (accepted H) ≡ Some q = rw same at named in
+      let new : request (entry.Accept (i + 1) view asked bytes ∷ H) (token_count H) ≡ Some q = rw same at named in
       tag (sym (request-accept H (i + 1) view asked bytes) ∙ new)
   | inr other ↦ clients t q (sym (request-kept H (entry.Accept (i + 1) view asked bytes) t other) ∙ named) (uncollected-before H (entry.Accept (i + 1) view asked bytes) t not_it)
 ]

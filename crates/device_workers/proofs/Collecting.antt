@@ -3,7 +3,7 @@ use Rattle.std.proofs.Common.{◌≡◌, ℕ, zero, suc, ◌+◌, Bool, true, fa
 use Rattle.history.specs.declared.entry.Entry.{Entry}
 use Rattle.history.specs.declared.entry.Entry.TheVariants.{Collect}
 use Rattle.history.specs.Setup.{Setup}
-use Rattle.history.specs.Tokens.{Request, accepted, request, was_collected}
+use Rattle.history.specs.Tokens.{Request, token_count, request, was_collected}
 use Rattle.history.specs.Next.{Outcome}
 use Rattle.history_laws.proofs.WeightLemmas.{weight, weight-collect}
 use Rattle.device_workers.specs.Plain.{outcomes_onto, collect_one, with_collect, collects, with_own_collects, with_last_collects}
@@ -26,12 +26,12 @@ collects-keep P more test H a (suc n) holds = collects-keep P more test (with_co
 -- the same of a client's own collects
 pub own-keep : (P : List Entry → Type 0) → ((G : List Entry) (tag t : ℕ) → P G → P (Collect tag t ∷ G)) → (H : List Entry) (tag : ℕ) → P H → P (with_own_collects H tag)
 unfolding with_own_collects
-own-keep P more H tag holds = collects-keep P more (λ owner. nat_eq owner tag) H 0 (accepted H) holds
+own-keep P more H tag holds = collects-keep P more (λ owner. nat_eq owner tag) H 0 (token_count H) holds
 
 -- and of the last
 pub last-keep : (P : List Entry → Type 0) → ((G : List Entry) (tag t : ℕ) → P G → P (Collect tag t ∷ G)) → (H : List Entry) → P H → P (with_last_collects H)
 unfolding with_last_collects
-last-keep P more H holds = collects-keep P more (λ tag. not (nat_eq tag 0)) H 0 (accepted H) holds
+last-keep P more H holds = collects-keep P more (λ tag. not (nat_eq tag 0)) H 0 (token_count H) holds
 
 -- they make nothing lighter
 pub own-weight : (S : Setup) (H : List Entry) (tag : ℕ) → weight S (with_own_collects H tag) ≡ weight S H

@@ -5,7 +5,7 @@ use Rattle.std.specs.List.{list_all}
 use Rattle.history.specs.declared.entry.Entry.{Entry}
 use Rattle.history.specs.declared.order.Order.{Order}
 use Rattle.history.specs.Setup.{Setup}
-use Rattle.history.specs.Tokens.{accepted, request}
+use Rattle.history.specs.Tokens.{token_count, request}
 use Rattle.history.specs.Marks.{is_outstanding}
 use Rattle.history.specs.Next.{first_open}
 use Rattle.history_laws.proofs.ScanLemmas.{first_from-none, first_from-fails}
@@ -17,7 +17,7 @@ use Rattle.device_workers.proofs.Costs.{cost, Lightens, line-falls, put-falls, t
 -- no token is outstanding, and so none of a client
 pub own-none-open : (S : Setup) (H : List Entry) (tag : ℕ) → first_open S H ≡ None → first_own_open S H tag ≡ None
 unfolding first_open first_own_open
-own-none-open S H tag none = first_from-none (λ u. is_outstanding S H u && has_tag tag (request H u)) 0 (accepted H) (λ u lo hi. rw (first_from-fails (is_outstanding S H) 0 (accepted H) u none lo hi) refl)
+own-none-open S H tag none = first_from-none (λ u. is_outstanding S H u && has_tag tag (request H u)) 0 (token_count H) (λ u lo hi. rw (first_from-fails (is_outstanding S H) 0 (token_count H) u none lo hi) refl)
 
 some-same : {X : Type 0} (x y : X) → Some x ≡ Some y → x ≡ y
 some-same x y is = cc

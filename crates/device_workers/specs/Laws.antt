@@ -3,7 +3,7 @@ use Rattle.std.specs.Prelude.{◌≡◌, ℕ, ◌+◌, ◌<◌, true, List, None
 use Rattle.std.specs.List.{list_all}
 use Rattle.history.specs.declared.entry.Entry.{Entry}
 use Rattle.history.specs.Setup.{Setup, IsSetup}
-use Rattle.history.specs.Tokens.{accepted, was_collected}
+use Rattle.history.specs.Tokens.{token_count, was_collected}
 use Rattle.history.specs.Rules.{IsLegal}
 use Rattle.history.specs.Next.{first_open, Outcome}
 use Rattle.shared_disk.specs.Lines.{Role}
@@ -20,7 +20,7 @@ RoundsAreEnough =
 pub record IsAllDone (S : Setup) (s : Progress) (H : List Entry) : Type 0 where
   pub lines : list_all has_no_order s.lefts ≡ true
   pub ended : first_open S H ≡ None
-  pub collected : (t : ℕ) → t < accepted H → was_collected H t ≡ true
+  pub collected : (t : ℕ) → t < token_count H → was_collected H t ≡ true
 
 -- so it is after the rounds, whatever the lines and the outcomes are
 abbrev pub RoundsDoAll : Type 0

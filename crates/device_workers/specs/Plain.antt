@@ -7,7 +7,7 @@ use Rattle.history.specs.declared.entry.Entry.TheVariants.{Done, Fault, Collect}
 use Rattle.history.specs.declared.order.Order.{Order}
 use Rattle.history.specs.declared.order.Order.TheVariants as order
 use Rattle.history.specs.Setup.{Setup}
-use Rattle.history.specs.Tokens.{Request, accepted, request, was_collected}
+use Rattle.history.specs.Tokens.{Request, token_count, request, was_collected}
 use Rattle.history.specs.Next.{first_open, Turn, next_turn, Outcome, Made, Failed, entry_of}
 use Rattle.disk_core.specs.Calls.{is_fetched}
 use Rattle.shared_disk.specs.declared.clients.Stand.{Stand}
@@ -49,11 +49,11 @@ collects test H a (suc n) = collects test (with_collect test H a) (a + 1) n
 
 -- all uncollected tokens of the client with this tag
 unfoldable pub with_own_collects : List Entry → ℕ → List Entry
-with_own_collects H tag = collects (λ owner. nat_eq owner tag) H 0 (accepted H)
+with_own_collects H tag = collects (λ owner. nat_eq owner tag) H 0 (token_count H)
 
 -- all uncollected tokens whose tag is not 0
 unfoldable pub with_last_collects : List Entry → List Entry
-with_last_collects H = collects (λ tag. not (nat_eq tag 0)) H 0 (accepted H)
+with_last_collects H = collects (λ tag. not (nat_eq tag 0)) H 0 (token_count H)
 
 abbrev pub is_wait : Order → Bool
 is_wait order.Wait = true

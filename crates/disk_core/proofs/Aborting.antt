@@ -10,7 +10,7 @@ use Rattle.history.specs.declared.entry.Entry.{Entry}
 use Rattle.history.specs.declared.entry.Entry.TheVariants.{Cancel, Reset}
 use Rattle.history.specs.Setup.{Setup}
 use Rattle.history.specs.Eras.{is_command, is_eject, is_insert}
-use Rattle.history.specs.Tokens.{Request, is_accept, accepted, request, is_collect_of}
+use Rattle.history.specs.Tokens.{Request, is_accept, token_count, request, is_collect_of}
 use Rattle.history.specs.Marks.{ending, status_if, mark_of, IsOutstanding}
 use Rattle.history.specs.Rules.{MayFollow}
 use Rattle.history.specs.Room.{owed_entries}
@@ -71,7 +71,7 @@ aborting-cancel S H tag view = record {
 aborting-reset : (S : Setup) (H : List Entry) (tag : ℕ) → IsAborting S H All (Reset tag)
 unfolding ending MayFollow
 aborting-reset S H tag = record {
-  means = λ t q open_now named. ap (λ b. status_if b Aborted) (lt-ltb t (accepted H) open_now.token);
+  means = λ t q open_now named. ap (λ b. status_if b Aborted) (lt-ltb t (token_count H) open_now.token);
   may = λ t q open_now named meant. (t, open_now);
   adds_none = refl;
   unmoving = refl;

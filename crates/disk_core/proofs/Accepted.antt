@@ -15,11 +15,11 @@ use Rattle.history.specs.declared.entry.Asked.{Asked}
 use Rattle.history.specs.declared.entry.Entry.{Entry}
 use Rattle.history.specs.declared.entry.Entry.TheVariants.{Accept}
 use Rattle.history.specs.Setup.{Setup, IsSetup, size_of}
-use Rattle.history.specs.Tokens.{Request, accepted, request, was_collected, changes_bytes, from_of, until_of}
+use Rattle.history.specs.Tokens.{Request, token_count, request, was_collected, changes_bytes, from_of, until_of}
 use Rattle.history.specs.Contents.{bytes_read}
 use Rattle.history.specs.Marks.{mark_of}
 use Rattle.history.specs.Rules.{MayAccept, IsLegal}
-use Rattle.history.specs.Tasks.{pending}
+use Rattle.history.specs.Tasks.{units_left}
 use Rattle.history.specs.Room.{owed_entries}
 use Rattle.history_laws.specs.Pending.{todos_of}
 use Rattle.history_laws.proofs.CountLemmas.{accepted-more, fetches-same}
@@ -99,12 +99,12 @@ module _ (S : Setup) (H : List Entry) (tag : ℕ) (view : View) (asked : Asked) 
     pub same : r.request.asked ≡ asked
     pub viewed : r.request.view ≡ view
     pub begins : r.request.at ≡ from_of S q
-    pub mark : mark_of S (e ∷ H) (accepted H) ≡ r.ended
+    pub mark : mark_of S (e ∷ H) (token_count H) ≡ r.ended
     pub left : r.ended ≡ None → r.request.left ≡ left_at_first asked.kind asked.length
     pub kept : r.request.buffer ≡ buffer
     pub shown : IsShown r
 
-  tracks-new : (r : Record) (buffer : List ℕ) → IsNew r buffer → Tracks S (e ∷ H) (accepted H) r q
+  tracks-new : (r : Record) (buffer : List ℕ) → IsNew r buffer → Tracks S (e ∷ H) (token_count H) r q
   tracks-new r buffer is = record {
     named = request-accept H tag view asked bytes;
     asked = is.same;
@@ -114,12 +114,12 @@ module _ (S : Setup) (H : List Entry) (tag : ℕ) (view : View) (asked : Asked) 
     left = λ unended. is.left unended ∙ sym (left-new S H tag view asked bytes setup legal);
   }
 
-  pub records-accept : (records : Records) (r : Record) (buffer : List ℕ) → accepted H ≡ length records → IsNew r buffer → RecordsFollow S H records → RecordsFollow S (e ∷ H) (records ++ Some r ∷ [])
+  pub records-accept : (records : Records) (r : Record) (buffer : List ℕ) → token_count H ≡ length records → IsNew r buffer → RecordsFollow S H records → RecordsFollow S (e ∷ H) (records ++ Some r ∷ [])
   records-accept records r buffer counted is follow = record {
     each = λ t found there. elim (cases_eq t (length records)) [
       | inl same ↦
           let here : r ≡ found = same_Some r found (sym (at-push records t (Some r) ∙ rw (eq-eqb t (length records) same) refl) ∙ there) in
-          (q, subst (λ u. Tracks S (e ∷ H) u found q) (counted ∙ sym same) (subst (λ x. Tracks S (e ∷ H) (accepted H) x q) here (tracks-new r buffer is)))
+          (q, subst (λ u. Tracks S (e ∷ H) u found q) (counted ∙ sym same) (subst (λ x. Tracks S (e ∷ H) (token_count H) x q) here (tracks-new r buffer is)))
       | inr other ↦
           let before = follow.each t found (sym (at-push records t (Some r) ∙ rw (ne_eqb t (length records) other) refl) ∙ there) in
           (before.0, tracks-old t found before.0 before.1)
@@ -132,17 +132,17 @@ module _ (S : Setup) (H : List Entry) (tag : ℕ) (view : View) (asked : Asked) 
     };
   }
 
-  buffer-new : (buffer : List ℕ) → length buffer ≡ buffer_length asked.kind asked.length → (asked.kind ≡ Write → buffer ≡ bytes) → IsBuffer S (e ∷ H) (accepted H) q buffer
+  buffer-new : (buffer : List ℕ) → length buffer ≡ buffer_length asked.kind asked.length → (asked.kind ≡ Write → buffer ≡ bytes) → IsBuffer S (e ∷ H) (token_count H) q buffer
   unfolding bytes_read
   buffer-new buffer long written = record {
     named = request-accept H tag view asked bytes;
     long = long;
     bytes = written;
-    given = λ reads x v from until read. absurd (some-none (bytes_read S (e ∷ H) (accepted H) x) v (unread x) read);
+    given = λ reads x v from until read. absurd (some-none (bytes_read S (e ∷ H) (token_count H) x) v (unread x) read);
   }
     where
-      unread : (x : ℕ) → bytes_read S (e ∷ H) (accepted H) x ≡ None
-      unread x = (unaccepted S H (accepted H) legal (omega arith)).unread x
+      unread : (x : ℕ) → bytes_read S (e ∷ H) (token_count H) x ≡ None
+      unread x = (unaccepted S H (token_count H) legal (omega arith)).unread x
 
   pub kept-accept : (kept : List (Option Kept)) (k : Kept) → length k.buffer ≡ buffer_length asked.kind asked.length → (asked.kind ≡ Write → k.buffer ≡ bytes) → KeptFollow S H kept → KeptFollow S (e ∷ H) (kept ++ Some k ∷ [])
   kept-accept kept k long written follow = record {
@@ -151,7 +151,7 @@ module _ (S : Setup) (H : List Entry) (tag : ℕ) (view : View) (asked : Asked) 
       | inl same ↦
           let here : k ≡ found = same_Some k found (sym (kept-last kept t (Some k) ∙ rw (eq-eqb t (length kept) same) refl) ∙ is) in
           subst (λ u. (was_collected (e ∷ H) u ≡ false) × ((was : Request) × IsBuffer S (e ∷ H) u was found.buffer)) (sym (same ∙ follow.counted))
-          (subst (λ x. (was_collected (e ∷ H) (accepted H) ≡ false) × ((was : Request) × IsBuffer S (e ∷ H) (accepted H) was x.buffer)) here (uncollected-new S H tag view asked bytes setup legal, (q, buffer-new k.buffer long written)))
+          (subst (λ x. (was_collected (e ∷ H) (token_count H) ≡ false) × ((was : Request) × IsBuffer S (e ∷ H) (token_count H) was x.buffer)) here (uncollected-new S H tag view asked bytes setup legal, (q, buffer-new k.buffer long written)))
       | inr other ↦
           let old = follow.there t found (sym (kept-last kept t (Some k) ∙ rw (ne_eqb t (length kept) other) refl) ∙ is) in
           (collected-same H e t refl ∙ old.0, (old.1.0, buffer-same S H e t old.1.0 found.buffer (λ x. read-same S H e t x refl) old.1.1))
@@ -165,16 +165,16 @@ module _ (S : Setup) (H : List Entry) (tag : ℕ) (view : View) (asked : Asked) 
     ];
   }
 
-  pub queue-accept : (queue : List Sub) (parts : Parts) → AreParts S.geometry (from_of S q) (until_of S q) parts → queue ≡ map (sub_of (size_of S)) (pending S H)
-      → queue ++ subs_of_request S.geometry (accepted H) asked.kind parts ≡ map (sub_of (size_of S)) (pending S (e ∷ H))
+  pub queue-accept : (queue : List Sub) (parts : Parts) → AreParts S.geometry (from_of S q) (until_of S q) parts → queue ≡ map (sub_of (size_of S)) (units_left S H)
+      → queue ++ subs_of_request S.geometry (token_count H) asked.kind parts ≡ map (sub_of (size_of S)) (units_left S (e ∷ H))
   queue-accept queue parts are is =
-      ap (λ old. old ++ subs_of_request S.geometry (accepted H) asked.kind parts) is
-      ∙ ap (λ own. map (sub_of (size_of S)) (pending S H) ++ own) (subs-of-tasks S q (accepted H) parts are)
-      ∙ sym (map-append (sub_of (size_of S)) (pending S H) (todos_of S (accepted H) q))
+      ap (λ old. old ++ subs_of_request S.geometry (token_count H) asked.kind parts) is
+      ∙ ap (λ own. map (sub_of (size_of S)) (units_left S H) ++ own) (subs-of-tasks S q (token_count H) parts are)
+      ∙ sym (map-append (sub_of (size_of S)) (units_left S H) (todos_of S (token_count H) q))
       ∙ sym (ap (map (sub_of (size_of S))) (pending-accept S H tag view asked bytes setup (legal-accept S H tag view asked bytes setup legal may)))
 
-  pub ready-accept : (ready : ℕ → Type 0) → AreReady S H ready → (changes_bytes asked.kind ≡ true → mark_of S (e ∷ H) (accepted H) ≡ None → (b : ℕ) → group_low S q ≤ b → b < group_high S q → ready b) → AreReady S (e ∷ H) ready
-  ready-accept ready are now t b was open_now named changes low high = elim (cases_eq t (accepted H)) [
+  pub ready-accept : (ready : ℕ → Type 0) → AreReady S H ready → (changes_bytes asked.kind ≡ true → mark_of S (e ∷ H) (token_count H) ≡ None → (b : ℕ) → group_low S q ≤ b → b < group_high S q → ready b) → AreReady S (e ∷ H) ready
+  ready-accept ready are now t b was open_now named changes low high = elim (cases_eq t (token_count H)) [
     | inl same ↦
         let here : q ≡ was = same_Some q was (sym (subst (λ u. request (e ∷ H) u ≡ Some q) (sym same) (request-accept H tag view asked bytes)) ∙ named) in
         now (ap (λ x. changes_bytes x.asked.kind) here ∙ changes) (subst (λ u. mark_of S (e ∷ H) u ≡ None) same open_now.unmarked) b
@@ -196,12 +196,12 @@ module _ {M : Type 0} (device : M → Device) (prepared : M → ℕ → Type 0) 
   pub accept-sound : (r : Record) (buffer : List ℕ) (owed : ℕ) (parts : Parts) → IsNew S c.history.entries tag view asked bytes sound.geometry legal may r buffer
       → AreParts S.geometry (from_of S asks) (until_of S asks) parts → length buffer ≡ buffer_length asked.kind asked.length → (asked.kind ≡ Write → buffer ≡ bytes)
       → owed_entries S (entry ∷ c.history.entries) ≤ owed_entries S c.history.entries + owed → c.owed + owed + 1 ≤ c.history.spare
-      → (changes_bytes asked.kind ≡ true → mark_of S (entry ∷ c.history.entries) (accepted c.history.entries) ≡ None → (m : M) → medium_in drive ≡ Some m → (b : ℕ) → group_low S asks ≤ b → b < group_high S asks → prepared m b)
+      → (changes_bytes asked.kind ≡ true → mark_of S (entry ∷ c.history.entries) (token_count c.history.entries) ≡ None → (m : M) → medium_in drive ≡ Some m → (b : ℕ) → group_low S asks ≤ b → b < group_high S asks → prepared m b)
       → IsDisk device prepared drive (after_accept c entry owed (c.tokens ++ Some r ∷ []) (c.queue ++ subs_of_request c.blocks c.accepted asked.kind parts))
   unfolding state_of after_accept
   accept-sound r buffer owed parts is are long written more_owed places now =
       let H = c.history.entries in
-      let many : accepted H ≡ length c.tokens = sym sound.facts.tokens.counted ∙ length-kept c.tokens in
+      let many : token_count H ≡ length c.tokens = sym sound.facts.tokens.counted ∙ length-kept c.tokens in
       record {
         setup = refl;
         geometry = sound.geometry;

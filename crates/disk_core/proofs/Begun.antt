@@ -9,7 +9,7 @@ use Rattle.history.specs.Commands.{is_at, is_fetch, is_store}
 use Rattle.history.specs.Contents.{contents}
 use Rattle.history.specs.Marks.{mark_of}
 use Rattle.history.specs.Rules.{IsLegal}
-use Rattle.history.specs.Tasks.{pending}
+use Rattle.history.specs.Tasks.{units_left}
 use Rattle.history_laws.specs.Ranges.{AreToldWhole}
 use Rattle.history_laws.proofs.CountLemmas.{accepted-same}
 use Rattle.history_laws.proofs.TokenLemmas.{request-same, collected-same, done_commands-same, has_done-same}
@@ -78,7 +78,7 @@ module _ (S : Setup) (H : List Entry) (e : Entry) (is : IsEnding S H e) where
 
   -- the parts with such an entry more
   pub begun : (c₀ c : Core) (late : ℕ) → AreClosed S H c₀ → c.history.entries ≡ e ∷ H → c.tokens ≡ c₀.tokens → c.queue ≡ c₀.queue → GatesSoFar S (e ∷ H) (mark_of S H) c.gates c.holders.items (vec_capacity c.holders)
-      → RoomSoFar S (e ∷ H) (mark_of S H) late c → IsClosing S (e ∷ H) (mark_of S H) (pending S H) late c
+      → RoomSoFar S (e ∷ H) (mark_of S H) late c → IsClosing S (e ∷ H) (mark_of S H) (units_left S H) late c
   unfolding IsLegal
   begun c₀ c late closed entries tokens queue gates room = record {
     entries = entries;
@@ -90,7 +90,7 @@ module _ (S : Setup) (H : List Entry) (e : Entry) (is : IsEnding S H e) where
       each = λ t r there. (let old = closed.records.each t r there in (old.0, tracks-over S H e t r old.0 (mark_of S H) (mark_of S H) refl (left-done S H e t old.0 is.unmoving) old.1));
       shown = closed.records.shown;
     });
-    queue = queue ∙ (closed.queue ∙ ap (map (sub_of (size_of S))) (sym (filter-everything (λ todo. is_none (mark_of S H todo.token)) (pending S H)
+    queue = queue ∙ (closed.queue ∙ ap (map (sub_of (size_of S))) (sym (filter-everything (λ todo. is_none (mark_of S H todo.token)) (units_left S H)
         (λ k todo there. (let of = pending-is S H k todo there in ap is_none of.1.outstanding.unmarked)))));
     costs = λ t q named. (
         let few = units-few S H t q closed.geometry closed.legal (sym (request-same H e t is.adds_none) ∙ named) in

@@ -17,7 +17,7 @@ use Rattle.history.specs.declared.entry.Entry.{Entry}
 use Rattle.history.specs.declared.entry.Entry.TheVariants.{Done}
 use Rattle.history.specs.Setup.{Setup}
 use Rattle.history.specs.Eras.{media_id_of}
-use Rattle.history.specs.Tokens.{Request, accepted, request, was_collected, from_of, until_of}
+use Rattle.history.specs.Tokens.{Request, token_count, request, was_collected, from_of, until_of}
 use Rattle.history.specs.Contents.{contents, byte_at}
 use Rattle.history_laws.proofs.CountLemmas.{accepted-same}
 use Rattle.history_laws.proofs.TokenLemmas.{request-stays, collected-same, bytes_read-other, bytes_read-get, bytes_read-kept, done-concerns}
@@ -158,7 +158,7 @@ module _ (S : Setup) (H : List Entry) (t : ℕ) (q : Request) (u : Span) (unit :
             ))
       ]
 
-      gone : (v : ℕ) → v < accepted Now → kept_at (slice_set kept t (Some new)) v ≡ None → was_collected Now v ≡ true
+      gone : (v : ℕ) → v < token_count Now → kept_at (slice_set kept t (Some new)) v ≡ None → was_collected Now v ≡ true
       gone v lt none = elim (cases_eq t v) [
         | inl same ↦ absurd (none-some new (sym (ap (kept_at (slice_set kept t (Some new))) same ∙ none) ∙ at-set kept t was new here))
         | inr other ↦ collected-same H (Done t (Get u.block u.count)) v refl ∙ follow.gone v (subst (λ n. v < n) (accepted-same H (Done t (Get u.block u.count)) refl) lt) (sym (at-other kept t v new other) ∙ none)

@@ -7,9 +7,9 @@ use Rattle.std.proofs.lemmas.Option.{slice_get-map}
 use Rattle.efi_status.specs.declared.Status.{Status}
 use Rattle.history.specs.declared.entry.Entry.{Entry}
 use Rattle.history.specs.Setup.{Setup, size_of}
-use Rattle.history.specs.Tokens.{Request, accepted, request}
+use Rattle.history.specs.Tokens.{Request, token_count, request}
 use Rattle.history.specs.Marks.{mark_of, HoldsBy}
-use Rattle.history.specs.Tasks.{Todo, pending}
+use Rattle.history.specs.Tasks.{Todo, units_left}
 use Rattle.history.specs.Room.{commands_owed, owed_entries}
 use Rattle.history_laws.specs.OwedSoFar.{token_owed_so_far}
 use Rattle.history_laws.specs.Pending.{Ordered}
@@ -74,7 +74,7 @@ module _ (S : Setup) (H : List Entry) (marks : ℕ → Option Status) (units : L
       let few = queue-count (size_of S) t (λ todo. is_none (marks todo.token)) units in
       let same : count_by (is_of t) c.queue ≡ count_by (is_of t) (map (sub_of (size_of S)) (filter (λ todo. is_none (marks todo.token)) units)) = ap (count_by (is_of t)) closing.queue in
       let cost = closing.costs t named.0 named.1 in
-      let one = owed-within S H marks t (accepted H) (marked-accepted S H t status closing.legal ended) in
+      let one = owed-within S H marks t (token_count H) (marked-accepted S H t status closing.legal ended) in
       let open_ = owes-open in
       let owes = closing.room.owes in
       omega arith
@@ -135,7 +135,7 @@ module _ (S : Setup) (H : List Entry) (marks : ℕ → Option Status) (units : L
         let few = queue-count (size_of S) t (λ todo. is_none (marks todo.token)) units in
         let same : count_by (is_of t) c.queue ≡ count_by (is_of t) (map (sub_of (size_of S)) (filter (λ todo. is_none (marks todo.token)) units)) = ap (count_by (is_of t)) closing.queue in
         let cost = closing.costs t named.0 named.1 in
-        let falls = owed-falls S H marks marks' t (accepted H) (commands_owed S H t named.0 + 1) (marked-accepted S H t status closing.legal ended) (owed-some S H t named.0 marks marks' status named.1 unmarked here) away in
+        let falls = owed-falls S H marks marks' t (token_count H) (commands_owed S H t named.0 + 1) (marked-accepted S H t status closing.legal ended) (owed-some S H t named.0 marks marks' status named.1 unmarked here) away in
         let owes = closing.room.owes in
         let places = closing.room.places in
         let length_few = closing.room.few in
@@ -227,13 +227,13 @@ module _ (S : Setup) (H : List Entry) (units : List Todo) (late : ℕ) (c : Core
   unfolding owed_entries
   closed-room places =
       let owes = closing.room.owes in
-      let all = owed-all S H (accepted H) in
+      let all = owed-all S H (token_count H) in
       let few = closing.room.few in
       subst (λ h. HasRoom S (record c { history = record { entries = h; spare = c.history.spare } })) (sym closing.entries)
       (record { owed = omega arith; places = places; few = omega arith })
 
   -- the parts follow the history again
-  pub closed-all : filter (λ todo. is_none (mark_of S H todo.token)) units ≡ pending S H → c.owed ≤ c.history.spare → AreClosed S H c
+  pub closed-all : filter (λ todo. is_none (mark_of S H todo.token)) units ≡ units_left S H → c.owed ≤ c.history.spare → AreClosed S H c
   closed-all units_are places = record {
     entries = closing.entries;
     geometry = closing.setup;

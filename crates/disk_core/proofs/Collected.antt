@@ -10,7 +10,7 @@ use Rattle.drive.specs.Drives.{DriveState, devices_of}
 use Rattle.history.specs.declared.entry.Entry.{Entry}
 use Rattle.history.specs.declared.entry.Entry.TheVariants.{Collect}
 use Rattle.history.specs.Setup.{Setup, size_of}
-use Rattle.history.specs.Tokens.{Request, accepted, was_collected}
+use Rattle.history.specs.Tokens.{Request, token_count, was_collected}
 use Rattle.history.specs.Rules.{MayFollow, IsLegal}
 use Rattle.history_laws.proofs.TokenLemmas.{collected-collect, request-accepted}
 use Rattle.history_laws.proofs.PendingLemmas.{pending-collect}
@@ -51,7 +51,7 @@ collect-kept S H tag t kept still follow = record {
         let old = follow.there u k (sym (kept-others kept t u other) ∙ is) in
         (other-collect H tag t u other ∙ old.0, (old.1.0, buffer-still S H (Collect tag t) still u old.1.0 k.buffer old.1.1))
 
-    gone : (u : ℕ) → u < accepted (Collect tag t ∷ H) → kept_at (slice_set kept t None) u ≡ None → was_collected (Collect tag t ∷ H) u ≡ true
+    gone : (u : ℕ) → u < token_count (Collect tag t ∷ H) → kept_at (slice_set kept t None) u ≡ None → was_collected (Collect tag t ∷ H) u ≡ true
     gone u lt none = elim (cases_eq t u) [
       | inl same ↦ subst (λ v. was_collected (Collect tag t ∷ H) v ≡ true) same (collected-collect H tag t)
       | inr other ↦ other-collect H tag t u other ∙ follow.gone u (subst (λ n. u < n) (accepted-still S H (Collect tag t) still) lt) (sym (kept-others kept t u other) ∙ none)
@@ -136,7 +136,7 @@ module _ {M : Type 0} (device : M → Device) (prepared : M → ℕ → Type 0) 
 
   pub unknown-from : record_at c.tokens n ≡ None → IsUnknown (state_of device drive c) n
   unfolding state_of
-  unknown-from is = elim (cases_lt n (accepted c.history.entries)) [
+  unknown-from is = elim (cases_lt n (token_count c.history.entries)) [
     | inl lt ↦ inr (sound.facts.tokens.gone n lt (kept-record c.tokens n ∙ ap (option_map kept_from) is))
     | inr le ↦ inl le
   ]

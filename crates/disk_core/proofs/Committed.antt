@@ -10,10 +10,10 @@ use Rattle.history.specs.declared.entry.Command.TheVariants.{Store}
 use Rattle.history.specs.declared.entry.Entry.{Entry}
 use Rattle.history.specs.declared.entry.Entry.TheVariants.{Done, Fault}
 use Rattle.history.specs.Setup.{Setup, per_of}
-use Rattle.history.specs.Tokens.{Request, accepted}
+use Rattle.history.specs.Tokens.{Request, token_count}
 use Rattle.history.specs.Marks.{mark_of, fetches}
 use Rattle.history.specs.Rules.{MayFollow}
-use Rattle.history.specs.Tasks.{Moves, pending}
+use Rattle.history.specs.Tasks.{Moves, units_left}
 use Rattle.history.specs.Next.{Made, Failed}
 use Rattle.history.specs.Room.{owed_entries}
 use Rattle.disk_core.specs.Inside.{HoldersFollow}
@@ -122,7 +122,7 @@ module _ {M : Type 0} (device : M → Device) (prepared : M → ℕ → Type 0) 
       let f = is.sound.fitted in
       let fitted : AreFitted S c' = record {
         blocks = closed.rest.blocks ∙ f.blocks;
-        accepts = closed.rest.accepted ∙ f.accepts ∙ sym (ap accepted closed.closed.entries ∙ accepted-same H e refl);
+        accepts = closed.rest.accepted ∙ f.accepts ∙ sym (ap token_count closed.closed.entries ∙ accepted-same H e refl);
         fetches_are = closed.rest.fetched ∙ f.fetches_are ∙ sym (ap fetches closed.closed.entries ∙ fetches-same H e refl);
         group = ap (λ v. length v.items) closed.rest.group ∙ f.group;
         zeros = ap (λ v. v.items) closed.rest.zeros ∙ f.zeros;
@@ -195,9 +195,9 @@ module _ {M : Type 0} (device : M → Device) (prepared : M → ℕ → Type 0) 
     after-closed =
         let ending = ending-fault S H part.token (Store g.block) fault.done follows in
         let closing = begun S H e ending base begins 1 before-closed refl refl refl gates-now room-now in
-        let next = closing-step S (e ∷ H) (mark_of S H) (pending S H) 1 begins part.token DeviceError closing unmarked marked c' (mark_of S (e ∷ H)) ends marked
+        let next = closing-step S (e ∷ H) (mark_of S H) (units_left S H) 1 begins part.token DeviceError closing unmarked marked c' (mark_of S (e ∷ H)) ends marked
         (λ u other. mark-other S H e u (fault-concerns H part.token u (Store g.block) fault.done (λ same. other (sym same)))) in
-        closed-all S (e ∷ H) (pending S H) 0 c' next (units-left S H e ending) (let spare = next.room.places in omega arith)
+        closed-all S (e ∷ H) (units_left S H) 0 c' next (units-left S H e ending) (let spare = next.room.places in omega arith)
 
     after-beside : StandsBeside device prepared S (e ∷ H) drive' c'
     unfolding with_entry

@@ -10,7 +10,7 @@ use Rattle.history.specs.declared.entry.Entry.{Entry}
 use Rattle.history.specs.declared.entry.Entry.TheVariants.{Eject}
 use Rattle.history.specs.Setup.{Setup}
 use Rattle.history.specs.Eras.{ejects, inserts, is_present}
-use Rattle.history.specs.Tokens.{Request, accepted, request}
+use Rattle.history.specs.Tokens.{Request, token_count, request}
 use Rattle.history.specs.Marks.{ending, status_if, mark_of, IsOutstanding}
 use Rattle.history.specs.Rules.{MayFollow}
 use Rattle.history.specs.Room.{media_owed, owed_entries}
@@ -109,7 +109,7 @@ module _ {M : Type 0} (device : M → Device) (prepared : M → ℕ → Type 0) 
 
   eject-means : (t : ℕ) (q : Request) → IsOutstanding Begin Before t → request Before t ≡ Some q → ending Begin Before (Eject tag) t ≡ status_if true NoMedia
   unfolding ending
-  eject-means t q open_now named = ap (λ b. status_if b NoMedia) (lt-ltb t (accepted Before) open_now.token)
+  eject-means t q open_now named = ap (λ b. status_if b NoMedia) (lt-ltb t (token_count Before) open_now.token)
 
   none-in : (m : M) → medium_in Out ≡ Some m → medium_in drive ≡ Some m
   none-in m there = absurd (clash there)

@@ -7,10 +7,10 @@ use Rattle.drive.specs.Drives.{DriveState, medium_in}
 use Rattle.history.specs.declared.entry.Entry.{Entry}
 use Rattle.history.specs.Setup.{Setup}
 use Rattle.history.specs.Eras.{is_command}
-use Rattle.history.specs.Tokens.{Request, is_accept, accepted, request}
+use Rattle.history.specs.Tokens.{Request, is_accept, token_count, request}
 use Rattle.history.specs.Marks.{mark_of, ending, status_if, IsOutstanding, fetches}
 use Rattle.history.specs.Rules.{IsLegal}
-use Rattle.history.specs.Tasks.{pending}
+use Rattle.history.specs.Tasks.{units_left}
 use Rattle.history_laws.specs.Ranges.{AreToldWhole}
 use Rattle.history_laws.proofs.CountLemmas.{accepted-same, fetches-same}
 use Rattle.history_laws.proofs.TokenLemmas.{request-same}
@@ -87,7 +87,7 @@ module _ {M : Type 0} (device : M → Device) (prepared : M → ℕ → Type 0) 
       ready = λ m there. ready-after Begin Before e (prepared m) is_ending.adds_none (sound.ready m (ready m there));
       fitted = record {
         blocks = more.blocks ∙ sound.fitted.blocks;
-        accepts = more.accepted_same ∙ (sound.fitted.accepts ∙ (sym (accepted-same Before e is_ending.adds_none) ∙ ap accepted (sym more.entries)));
+        accepts = more.accepted_same ∙ (sound.fitted.accepts ∙ (sym (accepted-same Before e is_ending.adds_none) ∙ ap token_count (sym more.entries)));
         fetches_are = more.fetched ∙ (sound.fitted.fetches_are ∙ (sym (fetches-same Before e (no-fetch e quiet)) ∙ ap fetches (sym more.entries)));
         group = ap (λ v. length v.items) more.group ∙ sound.fitted.group;
         zeros = ap (λ v. v.items) more.zeros ∙ sound.fitted.zeros;
@@ -95,7 +95,7 @@ module _ {M : Type 0} (device : M → Device) (prepared : M → ℕ → Type 0) 
     }
 
     -- none of the tokens that it ends has ended in the parts
-    pub more-closing : (late : ℕ) → AreToldWhole Begin → RoomSoFar Begin (e ∷ Before) (mark_of Begin Before) late c → IsClosing Begin (e ∷ Before) (mark_of Begin Before) (pending Begin Before) late c
+    pub more-closing : (late : ℕ) → AreToldWhole Begin → RoomSoFar Begin (e ∷ Before) (mark_of Begin Before) late c → IsClosing Begin (e ∷ Before) (mark_of Begin Before) (units_left Begin Before) late c
     unfolding state_of
     more-closing late whole room =
         begun Begin Before e is_ending c₀ c late (disk-closed device prepared drive c₀ sound) more.entries more.tokens more.queue
@@ -123,7 +123,7 @@ module _ {M : Type 0} (device : M → Device) (prepared : M → ℕ → Type 0) 
     pub all-ended : (late : ℕ) (c' : Core) (count : ℕ) → late ≤ count → HaveEnded Begin Before e late c c' count → HasEnded c' count
     unfolding state_of IsLegal
     all-ended late c' count enough ended =
-        let closed = closed-all Begin (e ∷ Before) (pending Begin Before) (late - count) c' ended.closing (units-left Begin Before e is_ending) (let places = ended.closing.room.places in omega arith) in
+        let closed = closed-all Begin (e ∷ Before) (units_left Begin Before) (late - count) c' ended.closing (units-left Begin Before e is_ending) (let places = ended.closing.room.places in omega arith) in
         let beside = beside-rest device prepared Begin (e ∷ Before) drive' c c' ended.rest beside-more in
         record {
           again = links-disk device prepared drive' c' Begin (e ∷ Before) closed beside;

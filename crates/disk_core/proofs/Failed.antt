@@ -10,10 +10,10 @@ use Rattle.history.specs.declared.entry.Command.TheVariants.{Fetch, Store, Put, 
 use Rattle.history.specs.declared.entry.Entry.{Entry}
 use Rattle.history.specs.declared.entry.Entry.TheVariants.{Fault}
 use Rattle.history.specs.Setup.{Setup, size_of}
-use Rattle.history.specs.Tokens.{accepted}
+use Rattle.history.specs.Tokens.{token_count}
 use Rattle.history.specs.Marks.{mark_of, fetches, IsOutstanding}
 use Rattle.history.specs.Rules.{MayFollow, IsLegal}
-use Rattle.history.specs.Tasks.{pending}
+use Rattle.history.specs.Tasks.{units_left}
 use Rattle.history.specs.Next.{Failed}
 use Rattle.history.specs.Room.{owed_entries}
 use Rattle.history_laws.specs.Ranges.{AreToldWhole}
@@ -48,8 +48,8 @@ pub units-owed : (S : Setup) (H : List Entry) (c : Core) (t : ℕ) → AreClosed
 units-owed S H c t closed open_now =
     let named = request-some H t open_now.token in
     let few = units-few S H t named.0 closed.geometry closed.legal named.1 in
-    let units = queue-units (size_of S) t (pending S H) in
-    let same : count_by (is_of t) c.queue ≡ count_by (is_of t) (map (sub_of (size_of S)) (pending S H)) = ap (count_by (is_of t)) closed.queue in
+    let units = queue-units (size_of S) t (units_left S H) in
+    let same : count_by (is_of t) c.queue ≡ count_by (is_of t) (map (sub_of (size_of S)) (units_left S H)) = ap (count_by (is_of t)) closed.queue in
     let token = open-owed S H t named.0 named.1 open_now.unmarked in
     let one = owed-within S H t open_now.token in
     let room : owed_entries S H ≤ c.owed = subst (λ h. owed_entries S h ≤ c.owed) closed.entries closed.room.owed in
@@ -71,7 +71,7 @@ beside-rest device prepared S H drive c c' rest beside =
       ready = beside.ready;
       fitted = record {
         blocks = rest.blocks ∙ f.blocks;
-        accepts = rest.accepted ∙ (f.accepts ∙ ap (λ h. accepted h.entries) (sym rest.history));
+        accepts = rest.accepted ∙ (f.accepts ∙ ap (λ h. token_count h.entries) (sym rest.history));
         fetches_are = rest.fetched ∙ (f.fetches_are ∙ ap (λ h. fetches h.entries) (sym rest.history));
         group = ap (λ v. length v.items) rest.group ∙ f.group;
         zeros = ap (λ v. v.items) rest.zeros ∙ f.zeros;
@@ -112,9 +112,9 @@ module _ (S : Setup) (H : List Entry) (t : ℕ) (command : Command) (done : ℕ)
     failed-closed c' gates ends =
         let marked = mark-fault S H t command done (fault-open S H t command done may).unmarked in
         let closing = begun S H (Fault t command done) is_ending c₀ Entered 1 closed (ap (λ h. Fault t command done ∷ h) closed.entries) refl refl gates fault-room in
-        let next = closing-step S Now (mark_of S H) (pending S H) 1 Entered t DeviceError closing (fault-open S H t command done may).unmarked marked c' (mark_of S Now) ends marked
+        let next = closing-step S Now (mark_of S H) (units_left S H) 1 Entered t DeviceError closing (fault-open S H t command done may).unmarked marked c' (mark_of S Now) ends marked
         (λ u other. mark-other S H (Fault t command done) u (fault-concerns H t u command done (λ e. other (sym e)))) in
-        closed-all S Now (pending S H) 0 c' next (units-left S H (Fault t command done) is_ending) (let places = next.room.places in omega arith)
+        closed-all S Now (units_left S H) 0 c' next (units-left S H (Fault t command done) is_ending) (let places = next.room.places in omega arith)
 
 pub fills-failed : (S : Setup) (H : List Entry) (t : ℕ) (command : Command) (done : ℕ) (old new : List (Option Kept)) → new ≡ old → Fills S H t command (Failed done) old new
 fills-failed S H t (Fetch b) done old new same = same

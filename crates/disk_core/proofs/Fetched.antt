@@ -16,7 +16,7 @@ use Rattle.history.specs.declared.entry.Entry.{Entry}
 use Rattle.history.specs.declared.entry.Entry.TheVariants.{Done, Fault}
 use Rattle.history.specs.Setup.{Setup, size_of, per_of}
 use Rattle.history.specs.Eras.{media_id_of}
-use Rattle.history.specs.Tokens.{Request, accepted, changes_bytes, from_of, until_of}
+use Rattle.history.specs.Tokens.{Request, token_count, changes_bytes, from_of, until_of}
 use Rattle.history.specs.Contents.{contents, bytes_between}
 use Rattle.history.specs.Marks.{is_held, fetches, was_fetched}
 use Rattle.history.specs.Rules.{MayCommand}
@@ -324,7 +324,7 @@ module _ {M : Type 0} (device : M → Device) (prepared : M → ℕ → Type 0) 
         let f = sound.fitted in
         let fitted : AreFitted S c' = record {
           blocks = so.blocks ∙ f.blocks;
-          accepts = so.accepted ∙ f.accepts ∙ sym (ap accepted closed.entries ∙ accepted-same H e refl);
+          accepts = so.accepted ∙ f.accepts ∙ sym (ap token_count closed.entries ∙ accepted-same H e refl);
           fetches_are = so.fetched ∙ ap (λ k. k + 1) f.fetches_are ∙ sym (ap fetches closed.entries ∙ fetches-more H e refl);
           group = so.kept_long ∙ f.group;
           zeros = ap (λ v. v.items) so.zeros ∙ f.zeros;

@@ -17,7 +17,7 @@ use Rattle.history.specs.Setup.{Setup, IsSetup, per_of}
 use Rattle.history.specs.Tokens.{Request, changes_bytes, from_of, until_of}
 use Rattle.history.specs.Marks.{all_from, is_held}
 use Rattle.history.specs.Rules.{IsLegal}
-use Rattle.history.specs.Tasks.{Task, Moves, Syncs, Todo, tasks_of, pending, is_clear, is_task_clear, is_runnable, first_runnable}
+use Rattle.history.specs.Tasks.{Task, Moves, Syncs, Todo, tasks_of, units_left, is_clear, is_task_clear, is_runnable, first_runnable}
 use Rattle.history_laws.proofs.HolderLemmas.{held-holder}
 use Rattle.history_laws.proofs.OwedLemmas.{group-start-part}
 use Rattle.history_laws.proofs.PendingLemmas.{IsPending, pending-is}
@@ -118,6 +118,6 @@ found-first device prepared drive c sound =
     let free = nat_lt 0 c.gates.free in
     let legal = legal-in device prepared drive c sound in
     ap (find (may_run (is_block_held c.gates.held) free)) sound.queue
-    ∙ find-sub_of (is_block_held c.gates.held) free drive.size (pending S H)
-    ∙ ap (option_map (sub_of drive.size)) (find-alike (is_runnable (is_block_held c.gates.held) free) (is_runnable (is_held S H) free) (pending S H)
+    ∙ find-sub_of (is_block_held c.gates.held) free drive.size (units_left S H)
+    ∙ ap (option_map (sub_of drive.size)) (find-alike (is_runnable (is_block_held c.gates.held) free) (is_runnable (is_held S H) free) (units_left S H)
     (λ i todo at. let left = pending-is S H i todo at in todo-agrees S H c.gates c.holders.items (vec_capacity c.holders) sound.geometry legal sound.facts.gates sound.holders free sound.drive_follows.shape.per todo left.0 left.1))

@@ -10,7 +10,7 @@ use Rattle.index_links.specs.Lists.{is_among}
 use Rattle.history.specs.declared.entry.Entry.{Entry}
 use Rattle.history.specs.Setup.{Setup, size_of, first_of, opening_of, opening_bytes}
 use Rattle.history.specs.Eras.{ejects, inserts, is_protected, era_count}
-use Rattle.history.specs.Tokens.{accepted}
+use Rattle.history.specs.Tokens.{token_count}
 use Rattle.history.specs.Marks.{fetches}
 use Rattle.history.specs.Rules.{IsLegal}
 use Rattle.history.specs.Room.{owed_entries}
@@ -21,7 +21,7 @@ use Rattle.disk_core.specs.Facts.{MeetsEra, KeptFollow, GatesFollow}
 use Rattle.disk_core.specs.Parts.{state_of, kept_of, holder_of}
 use Rattle.history_laws.specs.Pending.{Ordered}
 use Rattle.disk_core.specs.Inside.{IsEarlier, DriveFollows, RecordsFollow, HoldersFollow, AreReady}
-use Rattle.history.specs.Tasks.{pending}
+use Rattle.history.specs.Tasks.{units_left}
 use Rattle.token_table.specs.declared.record.Record.{Record}
 use Rattle.token_table.specs.Records.{Records, record_at}
 use Rattle.subtask_queue.specs.Subs.{sub_of}
@@ -133,7 +133,7 @@ fresh-sound device prepared drive c sets fit fresh new =
       };
       drive_follows = over (λ H. DriveFollows device S H drive) (fresh-drive device S drive fit fresh new.sized new.grouped new.some new.most (sym new.protected_at_first));
       records = over (λ H. RecordsFollow S H c.tokens) (fresh-records S c.tokens new.tokens);
-      queue = over (λ H. c.queue ≡ map (sub_of (size_of S)) (pending S H)) (new.queue ∙ ap (map (sub_of (size_of S))) (sym (fresh-queue S)));
+      queue = over (λ H. c.queue ≡ map (sub_of (size_of S)) (units_left S H)) (new.queue ∙ ap (map (sub_of (size_of S))) (sym (fresh-queue S)));
       holders = over (λ H. HoldersFollow S H c.gates c.holders.items (vec_capacity c.holders)) (fresh-holders S c.gates c.holders.items sets (drive.size * drive.per) (vec_capacity c.holders) new.gates new.sound new.holders new.places);
       room = record {
         owed = rw new.owed (over (λ H. owed_entries S H ≤ 2 * length drive.media - 1) (fresh-owed S (length drive.media) (length-map drive.media (λ m. opening_from (device m)))));
@@ -143,7 +143,7 @@ fresh-sound device prepared drive c sets fit fresh new =
       ready = λ m is. over (λ H. AreReady S H (prepared m)) (λ t b q open_now named changes low high. absurd (none-open S t open_now));
       fitted = record {
         blocks = new.blocks;
-        accepts = over (λ H. c.accepted ≡ accepted H) (new.accepted ∙ sym accepted-none);
+        accepts = over (λ H. c.accepted ≡ token_count H) (new.accepted ∙ sym accepted-none);
         fetches_are = over (λ H. c.fetched ≡ fetches H) (new.fetched ∙ sym fetches-none);
         group = new.group;
         zeros = new.zeros;

@@ -9,7 +9,7 @@ use Rattle.history.specs.declared.entry.Command.{Command}
 use Rattle.history.specs.declared.entry.Command.TheVariants.{Fetch, Store, Put, Get, Wipe, Sync}
 use Rattle.history.specs.declared.entry.Entry.{Entry}
 use Rattle.history.specs.declared.entry.Entry.TheVariants.{Accept, Done, Collect}
-use Rattle.history.specs.Tokens.{Request, accepted, request, was_collected, from_of, until_of}
+use Rattle.history.specs.Tokens.{Request, token_count, request, was_collected, from_of, until_of}
 use Rattle.history.specs.Commands.{lies_in, moves, is_moved}
 use Rattle.history.specs.Next.{Outcome, Made, Failed, entry_of}
 use Rattle.history_laws.proofs.CountLemmas.{accepted-more}
@@ -43,7 +43,7 @@ stays-same old new t q was there = record { now = was; there = there; word = ref
 pub goes_on_twice : GoesOnTwice
 goes_on_twice a b c first second =
     let later : (t x : ℕ) → Later c.setup b.entries c.entries t x = λ t x. rw second.entries (later-more c.setup second.more b.entries t x) in
-    let tokens : accepted a.entries ≤ accepted b.entries = rw first.entries (later-more c.setup first.more a.entries 0 0).tokens in
+    let tokens : token_count a.entries ≤ token_count b.entries = rw first.entries (later-more c.setup first.more a.entries 0 0).tokens in
     record {
       setup = second.setup ∙ first.setup;
       more = second.more ++ first.more;
@@ -222,7 +222,7 @@ pub rest_comes_back : RestComesBack
 rest_comes_back a b c d tag tag' view media_id asked bytes buffer buffer' token status q was counted accepts goes collects =
     let is = accepts.new_is in
     let entries : b.entries ≡ Accept tag view asked bytes ∷ a.entries = ap (λ (s : State). s.entries) is in
-    let among : token.number < accepted b.entries = rw (entries, accepts.numbered) (omega (arith, accepted-more a.entries (Accept tag view asked bytes) refl)) in
+    let among : token.number < token_count b.entries = rw (entries, accepts.numbered) (omega (arith, accepted-more a.entries (Accept tag view asked bytes) refl)) in
     let placed : kept_at b.kept token.number ≡ Some (record { buffer = buffer; word = token.event.word }) =
     ap (λ (s : State). kept_at s.kept token.number) is ∙ kept-last a.kept token.number (Some (record { buffer = buffer; word = token.event.word })) ∙ rw (eq-eqb token.number (length a.kept) (accepts.numbered ∙ sym counted)) refl in
     let stays = goes.kept token.number q (record { buffer = buffer; word = token.event.word }) among collects.named collects.uncollected placed in

@@ -12,7 +12,7 @@ use Rattle.history.specs.declared.entry.Asked.{Asked}
 use Rattle.history.specs.declared.entry.Entry.{Entry}
 use Rattle.history.specs.declared.entry.Entry.TheVariants.{Accept}
 use Rattle.history.specs.Setup.{Setup}
-use Rattle.history.specs.Tokens.{Request, accepted, in_bytes, changes_bytes, from_of, until_of}
+use Rattle.history.specs.Tokens.{Request, token_count, in_bytes, changes_bytes, from_of, until_of}
 use Rattle.history.specs.Marks.{mark_of, status_if}
 use Rattle.history.specs.Rules.{refusal_of, IsPayload, IsWellAsked, MayAccept, IsLegal}
 use Rattle.history.specs.Room.{owed_entries}
@@ -95,11 +95,11 @@ module _ {M : Type 0} (device : M → Device) (prepared : M → ℕ → Type 0) 
   touched b low high = subst (λ n. IsTouched c.blocks n (n + asked.length) b) (sym begins) (subst (λ G. IsTouched G (from_of S asks) (until_of S asks) b) (sym sound.fitted.blocks) (record { low = low; high = high }))
 
   -- the record, where something is left of the request and where not
-  record-open : mark_of S (entry ∷ c.history.entries) (accepted c.history.entries) ≡ None → IsNew S c.history.entries tag view asked room.bytes sound.geometry lawful may fresh buffer
+  record-open : mark_of S (entry ∷ c.history.entries) (token_count c.history.entries) ≡ None → IsNew S c.history.entries tag view asked room.bytes sound.geometry lawful may fresh buffer
   unfolding accepted_request new_record IsShown word_for
   record-open open_ = record { same = refl; viewed = refl; begins = begins; mark = open_; left = λ unended. refl; kept = refl; shown = fits.told }
 
-  record-ended : mark_of S (entry ∷ c.history.entries) (accepted c.history.entries) ≡ Some Success
+  record-ended : mark_of S (entry ∷ c.history.entries) (token_count c.history.entries) ≡ Some Success
       → IsNew S c.history.entries tag view asked room.bytes sound.geometry lawful may (ended_record Success fresh) buffer
   unfolding accepted_request new_record ended_record IsShown word_for
   record-ended ended = record { same = refl; viewed = refl; begins = begins; mark = ended; left = λ unended. refl; kept = refl; shown = refl }
@@ -133,7 +133,7 @@ module _ {M : Type 0} (device : M → Device) (prepared : M → ℕ → Type 0) 
   -- so the request is accepted, whatever its record is
   granted : (r : Record) (owed : ℕ) (token : Token) → IsNew S c.history.entries tag view asked room.bytes sound.geometry lawful may r buffer → r.signaller.word ≡ room.signaller.word
       → owed_entries S (entry ∷ c.history.entries) ≤ owed_entries S c.history.entries + owed → c.owed + owed + 1 ≤ c.history.spare
-      → (changes_bytes asked.kind ≡ true → mark_of S (entry ∷ c.history.entries) (accepted c.history.entries) ≡ None → 0 < asked.length)
+      → (changes_bytes asked.kind ≡ true → mark_of S (entry ∷ c.history.entries) (token_count c.history.entries) ≡ None → 0 < asked.length)
       → token.number ≡ c.accepted → token.event ≡ room.event
       → Reaches device prepared drive c drive (after_accept c entry owed (c.tokens ++ Some r ∷ []) (c.queue ++ subs_of_request c.blocks c.accepted asked.kind room.parts)) (Says token)
   unfolding state_of after_accept
@@ -161,7 +161,7 @@ module _ {M : Type 0} (device : M → Device) (prepared : M → ℕ → Type 0) 
   unfolding new_record ended_record
   accept-reaches token number event = by (nat_eq (left_at_first asked.kind asked.length) 0) refl
     where
-      marked : (b : Bool) → nat_eq (left_at_first asked.kind asked.length) 0 ≡ b → mark_of S (entry ∷ c.history.entries) (accepted c.history.entries) ≡ status_if b Success
+      marked : (b : Bool) → nat_eq (left_at_first asked.kind asked.length) 0 ≡ b → mark_of S (entry ∷ c.history.entries) (token_count c.history.entries) ≡ status_if b Success
       marked b left = mark-new S c.history.entries tag view asked room.bytes sound.geometry lawful ∙ ap (λ x. status_if x Success) left
 
       asking : Request

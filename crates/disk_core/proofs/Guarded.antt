@@ -9,7 +9,7 @@ use Rattle.history.specs.Setup.{Setup}
 use Rattle.history.specs.Marks.{ending, mark_of}
 use Rattle.history.specs.Rules.{MayFollow}
 use Rattle.history.specs.Room.{owed_entries}
-use Rattle.history.specs.Tasks.{pending}
+use Rattle.history.specs.Tasks.{units_left}
 use Rattle.history_laws.specs.Ranges.{AreToldWhole}
 use Rattle.history_laws.proofs.EraLemmas.{protected-now, mark-unprotect}
 use Rattle.history_laws.proofs.MediaLemmas.{media-id-same, present-same}
@@ -93,7 +93,7 @@ module _ {M : Type 0} (device : M → Device) (prepared : M → ℕ → Type 0) 
   lifted off whole =
       let closing = more-closing device prepared drive Guarded c Entered (Protect tag on) sound protect-more refl is_ending guarded-setup refl protect-follows (λ m there. there) 0 whole protect-room in
       record {
-        closing = subst (λ m. IsClosing Begin (Protect tag on ∷ Before) m (pending Begin Before) 0 Entered) (λ i t. sym (same t) i) closing;
+        closing = subst (λ m. IsClosing Begin (Protect tag on ∷ Before) m (units_left Begin Before) 0 Entered) (λ i t. sym (same t) i) closing;
         counted = sym (ended-no Begin Before (Protect tag on) (λ t open_now. rw off refl));
         rest = beside-still Entered;
         kept = refl;

@@ -6,7 +6,7 @@ use Rattle.std.proofs.lemmas.Option.{same_Some}
 use Rattle.medium.specs.Device.{Device}
 use Rattle.drive.specs.Drives.{DriveState}
 use Rattle.block_gate.specs.Gates.{is_block_held}
-use Rattle.history.specs.Tasks.{Todo, pending}
+use Rattle.history.specs.Tasks.{Todo, units_left}
 use Rattle.history.specs.Next.{first_open}
 use Rattle.history_laws.proofs.FinishLemmas.{pending-none, pending-open}
 use Rattle.subtask_queue.specs.declared.sub.Sub.{Sub}
@@ -47,7 +47,7 @@ module _ {M : Type 0} (device : M → Device) (prepared : M → ℕ → Type 0) 
 
   queue-open : c.queue ≡ [] → first_open (setup_of device drive c.protected_at_first) c.history.entries ≡ None
   unfolding setup_of
-  queue-open none = pending-open (setup_of device drive c.protected_at_first) c.history.entries sound.geometry (legal-in device prepared drive c sound) (empty (pending (setup_of device drive c.protected_at_first) c.history.entries) (sym sound.queue ∙ none))
+  queue-open none = pending-open (setup_of device drive c.protected_at_first) c.history.entries sound.geometry (legal-in device prepared drive c sound) (empty (units_left (setup_of device drive c.protected_at_first) c.history.entries) (sym sound.queue ∙ none))
     where
       empty : (todos : List Todo) → map (sub_of drive.size) todos ≡ [] → todos ≡ []
       empty [] e = refl

@@ -10,8 +10,8 @@ use Rattle.disk_split.specs.declared.span.Span.{Span}
 use Rattle.history.specs.declared.entry.Kind.{Kind}
 use Rattle.history.specs.declared.entry.Entry.{Entry}
 use Rattle.history.specs.Setup.{Setup}
-use Rattle.history.specs.Tokens.{is_flush, changes_bytes, accepted}
-use Rattle.history.specs.Tasks.{Todo, pending}
+use Rattle.history.specs.Tokens.{is_flush, changes_bytes, token_count}
+use Rattle.history.specs.Tasks.{Todo, units_left}
 use Rattle.history_laws.proofs.PendingLemmas.{before-is}
 use Rattle.event_cell.specs.Ends.{SignallerEnd}
 use Rattle.token_table.specs.declared.record.Mark.{Mark}
@@ -41,9 +41,9 @@ are-below n size [] each = tt
 are-below n size (todo ∷ todos) each = ((let same = sub-token size todo in let lt = each zero todo refl in omega arith), are-below n size todos (λ k later there. each (suc k) later there))
 
 -- the queue has units of accepted tokens alone
-pub queue-below : (S : Setup) (H : List Entry) (size n : ℕ) (queue : List Sub) → n ≡ accepted H → queue ≡ map (sub_of size) (pending S H) → AreBelow n queue
+pub queue-below : (S : Setup) (H : List Entry) (size n : ℕ) (queue : List Sub) → n ≡ token_count H → queue ≡ map (sub_of size) (units_left S H) → AreBelow n queue
 queue-below S H size n queue counted is =
-    subst (λ k. AreBelow k queue) (sym counted) (subst (AreBelow (accepted H)) (sym is) (are-below (accepted H) size (pending S H) (λ k todo there. (before-is S H (accepted H) k todo there).0)))
+    subst (λ k. AreBelow k queue) (sym counted) (subst (AreBelow (token_count H)) (sym is) (are-below (token_count H) size (units_left S H) (λ k todo there. (before-is S H (token_count H) k todo there).0)))
 
 below-kept : (token : ℕ) (subs : List Sub) → AreBelow token subs → filter (λ s. not (is_of token s)) subs ≡ subs
 unfolding AreBelow is_of

@@ -6,7 +6,7 @@ use Rattle.drive.specs.Drives.{DriveState, medium_in, devices_of}
 use Rattle.history.specs.declared.entry.Entry.{Entry}
 use Rattle.history.specs.Setup.{Setup, IsSetup, size_of}
 use Rattle.history.specs.Rules.{IsLegal}
-use Rattle.history.specs.Tasks.{pending}
+use Rattle.history.specs.Tasks.{units_left}
 use Rattle.subtask_queue.specs.Subs.{sub_of}
 use Rattle.disk_core.specs.declared.parts.Core.{Core}
 use Rattle.disk_core.specs.State.{setup_of}
@@ -31,7 +31,7 @@ pub record AreClosed (S : Setup) (H : List Entry) (c : Core) : Type 0 where
   pub tokens : KeptFollow S H (kept_of c.tokens)
   pub gates : GatesFollow S H c.gates
   pub records : RecordsFollow S H c.tokens
-  pub queue : c.queue ≡ map (sub_of (size_of S)) (pending S H)
+  pub queue : c.queue ≡ map (sub_of (size_of S)) (units_left S H)
   pub holders : HoldersFollow S H c.gates c.holders.items (vec_capacity c.holders)
   pub room : HasRoom S c
 

@@ -13,7 +13,7 @@ use Rattle.history.specs.Setup.{Setup, IsSetup, size_of}
 use Rattle.history.specs.Tokens.{Request}
 use Rattle.history.specs.Marks.{mark_of, status_if, IsOutstanding}
 use Rattle.history.specs.Rules.{MayCommand, MayFollow, IsLegal}
-use Rattle.history.specs.Tasks.{Task, pending}
+use Rattle.history.specs.Tasks.{Task, units_left}
 use Rattle.history.specs.Room.{owed_entries}
 use Rattle.history_laws.specs.Left.{task_bytes, left_of}
 use Rattle.history_laws.proofs.EndLemmas.{command-open}
@@ -50,7 +50,7 @@ pub record IsLastUnit (S : Setup) (marks : ℕ → Option Status) (t : ℕ) (c :
   pub tokens : KeptFollow S c.history.entries (kept_of c.tokens)
   pub gates : GatesFollow S c.history.entries c.gates
   pub records : RecordsBy S c.history.entries marks c.tokens
-  pub queue : c.queue ≡ map (sub_of (size_of S)) (pending S c.history.entries)
+  pub queue : c.queue ≡ map (sub_of (size_of S)) (units_left S c.history.entries)
   pub holders : HoldersFollow S c.history.entries c.gates c.holders.items (vec_capacity c.holders)
   pub owed : owed_entries S c.history.entries + 1 ≤ c.owed
   pub places : c.owed ≤ c.history.spare
@@ -74,7 +74,7 @@ module _ (S : Setup) (marks : ℕ → Option Status) (t : ℕ) (c c' : Core) (la
   unit-free : (i : ℕ) (s : Sub) → slice_get c.queue i ≡ Some s → is_of t s ≡ false
   unfolding is_of
   unit-free i s at =
-      let mapped = get-mapped (sub_of (size_of S)) (pending S c.history.entries) i s (subst (λ q. slice_get q i ≡ Some s) last.queue at) in
+      let mapped = get-mapped (sub_of (size_of S)) (units_left S c.history.entries) i s (subst (λ q. slice_get q i ≡ Some s) last.queue at) in
       let left = pending-is S c.history.entries i mapped.0 mapped.1 in
       ap (nat_eq t) (ap token_of (sym mapped.2) ∙ sub-token (size_of S) mapped.0) ∙ closed-token mapped.0.token left.1.outstanding
 
@@ -147,7 +147,7 @@ pub record MayFinish (S : Setup) (t : ℕ) (command : Command) (r : Request) (ta
   pub finishes : FinishesTask S c.history.entries t command r task
   pub recorded : (own : Record) × (record_at c.tokens t ≡ Some own)
   pub records : RecordsFollow S c.history.entries c.tokens
-  pub queue : c.queue ≡ map (sub_of (size_of S)) (pending S c.history.entries)
+  pub queue : c.queue ≡ map (sub_of (size_of S)) (units_left S c.history.entries)
   pub room : HasRoom S c
   pub tokens : KeptFollow S (Done t command ∷ c.history.entries) (kept_of c.tokens)
   pub gates : GatesFollow S (Done t command ∷ c.history.entries) c.gates
@@ -190,7 +190,7 @@ module _ (S : Setup) (t : ℕ) (command : Command) (r : Request) (task : Task) (
   now : Core
   now = done_core c t (task_block task) command (task_bytes task)
 
-  queue-now : now.queue ≡ map (sub_of (size_of S)) (pending S H')
+  queue-now : now.queue ≡ map (sub_of (size_of S)) (units_left S H')
   unfolding now with_entry
   queue-now = ap (without_first (is_unit t (task_block task))) is.queue ∙ sym (queue-finished S c.history.entries t command r task is.geometry legal-now open-now is.finishes)
 

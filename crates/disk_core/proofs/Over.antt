@@ -6,7 +6,7 @@ use Rattle.medium.specs.Device.{Device, AreToldAt}
 use Rattle.drive.specs.Drives.{DriveState}
 use Rattle.history.specs.Setup.{Setup, size_of}
 use Rattle.history.specs.Eras.{media_id_of, is_present, is_protected}
-use Rattle.history.specs.Tokens.{Request, accepted, was_collected}
+use Rattle.history.specs.Tokens.{Request, token_count, was_collected}
 use Rattle.history.specs.Contents.{contents, bytes_read}
 use Rattle.history.specs.Marks.{fetches, HoldsBy}
 use Rattle.history_laws.specs.Left.{left_of}
@@ -67,7 +67,7 @@ buffer-same S H e t q buffer same is = record {
 }
 
 -- the buffers, where an entry accepts and collects none and changes nothing that was read
-pub kept-over : (S : Setup) (H : List Entry) (e : Entry) (kept : List (Option Kept)) → accepted (e ∷ H) ≡ accepted H → ((u : ℕ) → was_collected (e ∷ H) u ≡ was_collected H u) → ((u x : ℕ) → bytes_read S (e ∷ H) u x ≡ bytes_read S H u x)
+pub kept-over : (S : Setup) (H : List Entry) (e : Entry) (kept : List (Option Kept)) → token_count (e ∷ H) ≡ token_count H → ((u : ℕ) → was_collected (e ∷ H) u ≡ was_collected H u) → ((u x : ℕ) → bytes_read S (e ∷ H) u x ≡ bytes_read S H u x)
     → KeptFollow S H kept → KeptFollow S (e ∷ H) kept
 kept-over S H e kept count collected same follow = record {
   counted = follow.counted ∙ sym count;

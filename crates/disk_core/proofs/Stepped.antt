@@ -12,7 +12,7 @@ use Rattle.history.specs.declared.entry.Entry.{Entry}
 use Rattle.history.specs.declared.entry.Entry.TheVariants.{Done, Fault}
 use Rattle.history.specs.Setup.{Setup}
 use Rattle.history.specs.Eras.{media_id_of}
-use Rattle.history.specs.Tokens.{Request, accepted}
+use Rattle.history.specs.Tokens.{Request, token_count}
 use Rattle.history.specs.Commands.{is_fetch, is_store}
 use Rattle.history.specs.Marks.{mark_of, fetches, HoldsBy}
 use Rattle.history.specs.Rules.{MayCommand, MayFollow, StopsAt, IsLegal}
@@ -189,7 +189,7 @@ module _ {M : Type 0} (device : M → Device) (prepared : M → ℕ → Type 0) 
       let f = sound.fitted in
       let fitted : AreFitted S c' = record {
         blocks = closed.rest.blocks ∙ f.blocks;
-        accepts = closed.rest.accepted ∙ f.accepts ∙ sym (ap accepted closed.closed.entries ∙ accepted-same H e refl);
+        accepts = closed.rest.accepted ∙ f.accepts ∙ sym (ap token_count closed.closed.entries ∙ accepted-same H e refl);
         fetches_are = closed.rest.fetched ∙ f.fetches_are ∙ sym (ap fetches closed.closed.entries ∙ fetches-same H e unfetched);
         group = ap (λ v. length v.items) closed.rest.group ∙ long ∙ f.group;
         zeros = ap (λ v. v.items) closed.rest.zeros ∙ f.zeros;

@@ -10,7 +10,7 @@ use Rattle.history.specs.Setup.{Setup, IsSetup, size_of}
 use Rattle.history.specs.Tokens.{Request, request, changes_bytes}
 use Rattle.history.specs.Marks.{IsOutstanding}
 use Rattle.history.specs.Rules.{IsLegal}
-use Rattle.history.specs.Tasks.{Task, Moves, Syncs, tasks_of, Todo, pending}
+use Rattle.history.specs.Tasks.{Task, Moves, Syncs, tasks_of, Todo, units_left}
 use Rattle.history_laws.specs.Pending.{task_low, IsBefore, Ordered}
 use Rattle.history_laws.proofs.OrderLemmas.{pending-ordered}
 use Rattle.history_laws.proofs.PendingLemmas.{IsPending, filter-everything, pending-is}
@@ -73,9 +73,9 @@ without-one p q f (x ∷ xs) all same only = elim (cases_Bool (p x)) [
 ]
 
 pub queue-finished : (S : Setup) (H : List Entry) (t : ℕ) (c : Command) (r : Request) (task : Task) → IsSetup S → IsLegal S (Done t c ∷ H) → IsOutstanding S H t → FinishesTask S H t c r task
-    → map (sub_of (size_of S)) (pending S (Done t c ∷ H)) ≡ without_first (is_unit t (task_block task)) (map (sub_of (size_of S)) (pending S H))
+    → map (sub_of (size_of S)) (units_left S (Done t c ∷ H)) ≡ without_first (is_unit t (task_block task)) (map (sub_of (size_of S)) (units_left S H))
 queue-finished S H t c r task is legal open_ finishes =
     ap (map (sub_of (size_of S))) (pending-finished S H t c r task is legal open_ finishes)
-    ∙ without-one (is_here t task) (is_unit t (task_block task)) (sub_of (size_of S)) (pending S H) (pending-ordered S H is)
+    ∙ without-one (is_here t task) (is_unit t (task_block task)) (sub_of (size_of S)) (units_left S H) (pending-ordered S H is)
     (λ i todo at. let left = pending-is S H i todo at in finds S H t r task finishes.place todo left.0 is finishes.named finishes.listed left.1)
     (once t task)

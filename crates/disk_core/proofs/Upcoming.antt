@@ -10,7 +10,7 @@ use Rattle.history.specs.Setup.{Setup}
 use Rattle.history.specs.Tokens.{Request, request}
 use Rattle.history.specs.Marks.{is_held, IsOutstanding}
 use Rattle.history.specs.Rules.{IsLegal}
-use Rattle.history.specs.Tasks.{Task, Todo, pending, is_runnable, first_runnable}
+use Rattle.history.specs.Tasks.{Task, Todo, units_left, is_runnable, first_runnable}
 use Rattle.history_laws.specs.Left.{task_bytes, left_of}
 use Rattle.history_laws.specs.Ranges.{AreToldWhole}
 use Rattle.history_laws.proofs.MayLemmas.{left-may}
@@ -49,7 +49,7 @@ module _ {M : Type 0} (device : M → Device) (prepared : M → ℕ → Type 0) 
   pub next-is : (unit : Sub) (todo : Todo) → IsFirst device drive c unit todo → (r : Request) × IsNext S H (nat_lt 0 c.gates.free) todo r
   unfolding state_of first_runnable
   next-is unit todo first =
-      let found = find-some (is_runnable (is_held S H) (nat_lt 0 c.gates.free)) (pending S H) todo first.first in
+      let found = find-some (is_runnable (is_held S H) (nat_lt 0 c.gates.free)) (units_left S H) todo first.first in
       let left = pending-is S H found.0 todo found.1 in
       (left.0, record { left = left.1; clear = found.2; may = left-may S H (nat_lt 0 c.gates.free) todo left.0 sound.geometry legal-in left.1 found.2 })
 

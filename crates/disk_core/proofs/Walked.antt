@@ -7,10 +7,10 @@ use Rattle.std.proofs.lemmas.Bool.{cases_Bool, eqb-true, or_left, or_right, or_c
 use Rattle.efi_status.specs.declared.Status.{Status}
 use Rattle.history.specs.declared.entry.Entry.{Entry}
 use Rattle.history.specs.Setup.{Setup, IsSetup, size_of}
-use Rattle.history.specs.Tokens.{Request, is_accept, accepted, request, was_collected}
+use Rattle.history.specs.Tokens.{Request, is_accept, token_count, request, was_collected}
 use Rattle.history.specs.Marks.{mark_of, ending, status_if, IsOutstanding}
 use Rattle.history.specs.Rules.{IsLegal}
-use Rattle.history.specs.Tasks.{Todo, pending}
+use Rattle.history.specs.Tasks.{Todo, units_left}
 use Rattle.history_laws.specs.Pending.{IsBefore}
 use Rattle.history_laws.proofs.CountLemmas.{accepted-same}
 use Rattle.history_laws.proofs.TokenLemmas.{request-same}
@@ -70,14 +70,14 @@ all-below size n (todo ∷ todos) each = (subst (λ m. m < n) (sym (sub-token si
 pub record Tells (S : Setup) (H G : List Entry) (marks : ℕ → Option Status) (c : Core) : Type 0 where
   pub setup : IsSetup S
   pub legal : IsLegal S H
-  pub queue : c.queue ≡ map (sub_of (size_of S)) (filter (λ todo. is_none (marks todo.token)) (pending S H))
+  pub queue : c.queue ≡ map (sub_of (size_of S)) (filter (λ todo. is_none (marks todo.token)) (units_left S H))
   pub tokens : KeptFollow S G (kept_of c.tokens)
   pub uncollected : (t : ℕ) → marks t ≡ None → was_collected G t ≡ false
   pub records : (t : ℕ) (r : Record) → record_at c.tokens t ≡ Some r → (q : Request) × (request G t ≡ Some q) × (r.request.view ≡ q.view) × (r.request.asked ≡ q.asked)
   pub same : (t : ℕ) → request G t ≡ request H t
-  pub count : accepted G ≡ accepted H
+  pub count : token_count G ≡ token_count H
 
-pub closing-tells : (S : Setup) (H : List Entry) (e : Entry) (marks : ℕ → Option Status) (late : ℕ) (c : Core) → is_accept e ≡ false → IsClosing S (e ∷ H) marks (pending S H) late c → Tells S H (e ∷ H) marks c
+pub closing-tells : (S : Setup) (H : List Entry) (e : Entry) (marks : ℕ → Option Status) (late : ℕ) (c : Core) → is_accept e ≡ false → IsClosing S (e ∷ H) marks (units_left S H) late c → Tells S H (e ∷ H) marks c
 unfolding IsLegal
 closing-tells S H e marks late c adds_none closing = record {
   setup = closing.setup;
@@ -94,7 +94,7 @@ pub closed-tells : (S : Setup) (H : List Entry) (c : Core) → AreClosed S H c �
 closed-tells S H c closed = record {
   setup = closed.geometry;
   legal = closed.legal;
-  queue = closed.queue ∙ ap (map (sub_of (size_of S))) (sym (filter-everything (λ todo. is_none (mark_of S H todo.token)) (pending S H) (λ k todo there. (let of = pending-is S H k todo there in ap is_none of.1.outstanding.unmarked))));
+  queue = closed.queue ∙ ap (map (sub_of (size_of S))) (sym (filter-everything (λ todo. is_none (mark_of S H todo.token)) (units_left S H) (λ k todo there. (let of = pending-is S H k todo there in ap is_none of.1.outstanding.unmarked))));
   tokens = closed.tokens;
   uncollected = λ t unmarked. open-kept S H t closed.legal unmarked;
   records = λ t r is. (let of = closed.records.each t r is in (of.0, of.1.named, of.1.viewed, of.1.asked));
@@ -105,22 +105,22 @@ closed-tells S H c closed = record {
 module _ (S : Setup) (H G : List Entry) (marks : ℕ → Option Status) (c : Core) (tells : Tells S H G marks c) where
   pub queue-sorted : AreSorted c.queue
   queue-sorted =
-      subst AreSorted (sym tells.queue) (ordered-map IsBefore (λ one other. token_of one ≤ token_of other) (sub_of (size_of S)) (filter (λ todo. is_none (marks todo.token)) (pending S H)) in-order
-      (ordered-filter IsBefore (λ todo. is_none (marks todo.token)) (pending S H) (pending-ordered S H tells.setup)))
+      subst AreSorted (sym tells.queue) (ordered-map IsBefore (λ one other. token_of one ≤ token_of other) (sub_of (size_of S)) (filter (λ todo. is_none (marks todo.token)) (units_left S H)) in-order
+      (ordered-filter IsBefore (λ todo. is_none (marks todo.token)) (units_left S H) (pending-ordered S H tells.setup)))
     where
       in-order : (x y : Todo) → IsBefore x y → token_of (sub_of (size_of S) x) ≤ token_of (sub_of (size_of S) y)
       in-order x y (inl less) = (let one = sub-token (size_of S) x in let two = sub-token (size_of S) y in omega arith)
       in-order x y (inr (same, low)) = (let one = sub-token (size_of S) x in let two = sub-token (size_of S) y in omega arith)
 
-  pub queue-below : AreBelow (accepted H) c.queue
+  pub queue-below : AreBelow (token_count H) c.queue
   queue-below =
-      subst (AreBelow (accepted H)) (sym tells.queue) (all-below (size_of S) (accepted H) (filter (λ todo. is_none (marks todo.token)) (pending S H)) (λ k todo there.
-      let at = get-filtered (λ (d : Todo). is_none (marks d.token)) (pending S H) k todo there in
+      subst (AreBelow (token_count H)) (sym tells.queue) (all-below (size_of S) (token_count H) (filter (λ todo. is_none (marks todo.token)) (units_left S H)) (λ k todo there.
+      let at = get-filtered (λ (d : Todo). is_none (marks d.token)) (units_left S H) k todo there in
       (pending-is S H at.0 todo at.1).1.outstanding.token))
 
   pub queued-open : (t : ℕ) → is_queued c t ≡ true → IsOutstanding S H t × (marks t ≡ None)
   queued-open t queued =
-      let from = queue-from (size_of S) t (λ todo. is_none (marks todo.token)) (pending S H) (ap (list_any (is_of t)) (sym tells.queue) ∙ queued) in
+      let from = queue-from (size_of S) t (λ todo. is_none (marks todo.token)) (units_left S H) (ap (list_any (is_of t)) (sym tells.queue) ∙ queued) in
       let of = pending-is S H from.0 from.1 from.2 in
       (subst (IsOutstanding S H) from.3 of.1.outstanding, is-none (marks t) (ap (λ u. is_none (marks u)) (sym from.3) ∙ from.4))
     where
@@ -130,7 +130,7 @@ module _ (S : Setup) (H G : List Entry) (marks : ℕ → Option Status) (c : Cor
 
   pub open-queued : (t : ℕ) → IsOutstanding S H t → marks t ≡ None → is_queued c t ≡ true
   open-queued t open_now unmarked =
-      ap (list_any (is_of t)) tells.queue ∙ queue-has (size_of S) t (λ todo. is_none (marks todo.token)) (pending S H) (λ todo same. ap (λ u. is_none (marks u)) same ∙ ap is_none unmarked)
+      ap (list_any (is_of t)) tells.queue ∙ queue-has (size_of S) t (λ todo. is_none (marks todo.token)) (units_left S H) (λ todo same. ap (λ u. is_none (marks u)) same ∙ ap is_none unmarked)
       (open-pending S H t tells.setup tells.legal open_now)
 
   -- the record of an open token tells its request
@@ -140,7 +140,7 @@ module _ (S : Setup) (H G : List Entry) (marks : ℕ → Option Status) (c : Cor
     pub viewed : r.request.view ≡ q.view
     pub asked : r.request.asked ≡ q.asked
 
-  pub open-record : (t : ℕ) → t < accepted H → marks t ≡ None → (r : Record) × (q : Request) × RecordOf t r q
+  pub open-record : (t : ℕ) → t < token_count H → marks t ≡ None → (r : Record) × (q : Request) × RecordOf t r q
   open-record t token unmarked = by (record_at c.tokens t) refl
     where
       by : (m : Option Record) → record_at c.tokens t ≡ m → (r : Record) × (q : Request) × RecordOf t r q

@@ -5,9 +5,9 @@ use Rattle.std.proofs.lemmas.Bool.{cases_lt, lt-ltb, le-ltb, and_left, and_right
 use Rattle.efi_status.specs.declared.Status.{Status}
 use Rattle.history.specs.declared.entry.Entry.{Entry}
 use Rattle.history.specs.Setup.{Setup}
-use Rattle.history.specs.Tokens.{accepted}
+use Rattle.history.specs.Tokens.{token_count}
 use Rattle.history.specs.Marks.{mark_of, ending, status_if, is_outstanding, IsOutstanding}
-use Rattle.history.specs.Tasks.{pending}
+use Rattle.history.specs.Tasks.{units_left}
 use Rattle.history_laws.specs.Left.{ended_before, ended_by}
 use Rattle.history_laws.proofs.CountLemmas.{accepted-same}
 use Rattle.history_laws.proofs.EndLemmas.{mark-next, mark-stays, unaccepted, untold-mark}
@@ -66,9 +66,9 @@ revokes-both r s t one two = record {
 
 -- the meant tokens before `from` have ended, so many
 pub record SoFar (S : Setup) (H : List Entry) (e : Entry) (late : ℕ) (initial c : Core) (from count : ℕ) : Type 0 where
-  pub closing : IsClosing S (e ∷ H) (marks_below S H e from) (pending S H) (late - count) c
+  pub closing : IsClosing S (e ∷ H) (marks_below S H e from) (units_left S H) (late - count) c
   pub counted : count ≡ ended_before S H e from
-  pub within : from ≤ accepted H
+  pub within : from ≤ token_count H
   pub rest : StaysBeside initial c
   pub kept : kept_of c.tokens ≡ kept_of initial.tokens
   pub revokes : Revokes initial.gates c.gates
@@ -80,7 +80,7 @@ WalkedTo meant status initial c from count = (S : Setup) (H : List Entry) (e : E
 begins-at-none : (meant : Meant) (status : Status) (c : Core) → WalkedTo meant status c c 0 0
 unfolding ended_before
 begins-at-none meant status c S H e late to_end = record {
-  closing = subst (λ n. IsClosing S (e ∷ H) (marks_below S H e 0) (pending S H) n c) (let same : late ≡ late - 0 = omega arith in same) (subst (λ m. IsClosing S (e ∷ H) m (pending S H) late c) (λ i u. (sym (below-else S H e 0 u (omega arith))) i) to_end.closing);
+  closing = subst (λ n. IsClosing S (e ∷ H) (marks_below S H e 0) (units_left S H) n c) (let same : late ≡ late - 0 = omega arith in same) (subst (λ m. IsClosing S (e ∷ H) m (units_left S H) late c) (λ i u. (sym (below-else S H e 0 u (omega arith))) i) to_end.closing);
   counted = refl;
   within = omega arith;
   rest = beside-still c;
@@ -89,7 +89,7 @@ begins-at-none meant status c S H e late to_end = record {
 }
 
 module _ (meant : Meant) (status : Status) (S : Setup) (H : List Entry) (e : Entry) (late : ℕ) (initial c : Core) (from count : ℕ) (to_end : IsToEnd meant status S H e late initial) (so_far : SoFar S H e late initial c from count) where
-  tokens-same : accepted (e ∷ H) ≡ accepted H
+  tokens-same : token_count (e ∷ H) ≡ token_count H
   tokens-same = accepted-same H e to_end.adds_none
 
   tells : Tells S H (e ∷ H) (marks_below S H e from) c
@@ -111,9 +111,9 @@ module _ (meant : Meant) (status : Status) (S : Setup) (H : List Entry) (e : Ent
 
   -- a token that is not meant stays as it is
   unmeant-mark : (u : ℕ) → from ≤ u → is_queued_meant c meant u ≡ false → mark_of S (e ∷ H) u ≡ mark_of S H u
-  unmeant-mark u above none = by (mark_of S H u) refl (cases_lt u (accepted H))
+  unmeant-mark u above none = by (mark_of S H u) refl (cases_lt u (token_count H))
     where
-      by : (m : Option Status) → mark_of S H u ≡ m → (u < accepted H) ⊎ (accepted H ≤ u) → mark_of S (e ∷ H) u ≡ mark_of S H u
+      by : (m : Option Status) → mark_of S H u ≡ m → (u < token_count H) ⊎ (token_count H ≤ u) → mark_of S (e ∷ H) u ≡ mark_of S H u
       by (Some s) is place = mark-stays S H e u s is ∙ sym is
       by None is (inl token) = mark-next S H e u is ∙ (unmeant-ending u above none (record { token = token; unmarked = is }) ∙ sym is)
       by None is (inr past) = untold-mark S (e ∷ H) u (unaccepted S (e ∷ H) u so_far.closing.legal (subst (λ n. n ≤ u) (sym tokens-same) past)) ∙ sym is
@@ -149,12 +149,12 @@ module _ (meant : Meant) (status : Status) (S : Setup) (H : List Entry) (e : Ent
     next-unmarked = below-else S H e from t next.0 ∙ next-open.unmarked
 
     pub next-outstanding : mark_at c.tokens t ≡ Mark.Outstanding
-    next-outstanding = open-outstanding S (e ∷ H) (marks_below S H e from) (pending S H) (late - count) c t status so_far.closing next-unmarked next-ended
+    next-outstanding = open-outstanding S (e ∷ H) (marks_below S H e from) (units_left S H) (late - count) c t status so_far.closing next-unmarked next-ended
 
     pub next-owed : count_by (is_of t) c.queue + 1 ≤ c.owed
-    next-owed = open-owed S (e ∷ H) (marks_below S H e from) (pending S H) (late - count) c t status so_far.closing next-unmarked next-ended
+    next-owed = open-owed S (e ∷ H) (marks_below S H e from) (units_left S H) (late - count) c t status so_far.closing next-unmarked next-ended
 
-    pub next-token : t < accepted H
+    pub next-token : t < token_count H
     next-token = next-open.token
 
     away : (u : ℕ) → u ≢ t → marks_below S H e (t + 1) u ≡ marks_below S H e from u
@@ -176,8 +176,8 @@ module _ (meant : Meant) (status : Status) (S : Setup) (H : List Entry) (e : Ent
 
     pub walk-step : (c' : Core) → Ends c c' t status → SoFar S H e late initial c' (t + 1) (count + 1)
     walk-step c' ends = record {
-      closing = subst (λ n. IsClosing S (e ∷ H) (marks_below S H e (t + 1)) (pending S H) n c') (let same : late - count - 1 ≡ late - (count + 1) = omega arith in same)
-          (closing-step S (e ∷ H) (marks_below S H e from) (pending S H) (late - count) c t status so_far.closing next-unmarked next-ended c' (marks_below S H e (t + 1)) ends
+      closing = subst (λ n. IsClosing S (e ∷ H) (marks_below S H e (t + 1)) (units_left S H) n c') (let same : late - count - 1 ≡ late - (count + 1) = omega arith in same)
+          (closing-step S (e ∷ H) (marks_below S H e from) (units_left S H) (late - count) c t status so_far.closing next-unmarked next-ended c' (marks_below S H e (t + 1)) ends
           (below-then S H e (t + 1) t (omega arith) ∙ next-ended) away);
       counted = next-counted;
       within = (let token = next-open.token in omega arith);
@@ -191,8 +191,8 @@ module _ (meant : Meant) (status : Status) (S : Setup) (H : List Entry) (e : Ent
   pub walk-over : IsNextMeant c meant from None → HaveEnded S H e late initial c count
   unfolding ended_by
   walk-over none = record {
-    closing = subst (λ m. IsClosing S (e ∷ H) m (pending S H) (late - count) c) (λ i u. all u i) so_far.closing;
-    counted = so_far.counted ∙ sym (ended-none S H e from (accepted H) so_far.within (λ u above below. unmeant-uncounted u above (none u above)));
+    closing = subst (λ m. IsClosing S (e ∷ H) m (units_left S H) (late - count) c) (λ i u. all u i) so_far.closing;
+    counted = so_far.counted ∙ sym (ended-none S H e from (token_count H) so_far.within (λ u above below. unmeant-uncounted u above (none u above)));
     rest = so_far.rest;
     kept = so_far.kept;
     revokes = so_far.revokes;
@@ -204,7 +204,7 @@ module _ (meant : Meant) (status : Status) (S : Setup) (H : List Entry) (e : Ent
         | inr above ↦ below-else S H e from u above ∙ sym (unmeant-mark u above (none u above))
       ]
 
-  pub walk-past : accepted H ≤ from → HaveEnded S H e late initial c count
+  pub walk-past : token_count H ≤ from → HaveEnded S H e late initial c count
   walk-past past = walk-over (λ u above. and_left (is_queued c u) (is_some_meant meant (request_at c.tokens u)) (false_from_ne_true (is_queued c u) (λ here.
       let token = (queued-open S H (e ∷ H) (marks_below S H e from) c tells u here).0.token in absurd (omega arith))))
 
@@ -213,7 +213,7 @@ pub walk-begins : (meant : Meant) (status : Status) (c : Core) (first : ℕ) →
 walk-begins meant status c first none within S H e late to_end =
     let begun = begins-at-none meant status c S H e late to_end in
     record {
-      closing = subst (λ m. IsClosing S (e ∷ H) m (pending S H) (late - 0) c) (λ i u. same u (cases_lt u first) i) begun.closing;
+      closing = subst (λ m. IsClosing S (e ∷ H) m (units_left S H) (late - 0) c) (λ i u. same u (cases_lt u first) i) begun.closing;
       counted = begun.counted ∙ sym (ended-none S H e 0 first (omega arith) (λ u above below. unmeant-uncounted meant status S H e late c c 0 0 to_end begun u above (none u below)));
       within = subst (λ n. first ≤ n) to_end.accepts within;
       rest = begun.rest;

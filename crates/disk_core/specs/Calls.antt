@@ -15,7 +15,7 @@ use Rattle.history.specs.declared.entry.Entry.{Entry}
 use Rattle.history.specs.declared.entry.Entry.TheVariants.{Accept, Refuse, Collect, Insert, Protect, Eject}
 use Rattle.history.specs.Setup.{Setup, size_of, per_of}
 use Rattle.history.specs.Eras.{inserts, media_id_of, is_present}
-use Rattle.history.specs.Tokens.{Request, accepted, request, was_collected, from_of}
+use Rattle.history.specs.Tokens.{Request, token_count, request, was_collected, from_of}
 use Rattle.history.specs.Contents.{contents, bytes_between}
 use Rattle.history.specs.Marks.{mark_of, is_held, fetches, HoldsBy}
 use Rattle.history.specs.Rules.{refusal_of, IsLegal}
@@ -78,7 +78,7 @@ bytes_of (ask.EraseBlocks lba n) = []
 -- a request is accepted where no rule refuses it, with the next number and an event that has seen nothing
 pub record Accepts (old : State) (tag : ℕ) (view : View) (media_id : ℕ) (asked : Asked) (bytes buffer : List ℕ) (token : Token) (new : State) : Type 0 where
   pub unrefused : refusal_of old.setup old.entries view asked media_id ≡ None
-  pub numbered : token.number ≡ accepted old.entries
+  pub numbered : token.number ≡ token_count old.entries
   pub unseen : token.event.seen ≡ 0
   pub new_is : new ≡ record old {
     entries = Accept tag view asked bytes ∷ old.entries;
@@ -281,11 +281,11 @@ pub record Collects (old : State) (tag number : ℕ) (status : Status) (buffer :
 
 -- no token has the number, or it was handed back
 abbrev pub IsUnknown : State → ℕ → Type 0
-IsUnknown s number = (accepted s.entries ≤ number) ⊎ (was_collected s.entries number ≡ true)
+IsUnknown s number = (token_count s.entries ≤ number) ⊎ (was_collected s.entries number ≡ true)
 
 unfoldable pub CollectSays : State → ℕ → ℕ → Result Done NotThere → State → Type 0
 CollectSays old tag number (Ok done) new = (q : Request) × (was : Kept) × Collects old tag number done.status done.buffer new q was
-CollectSays old tag number (Err not_there.Outstanding) new = (number < accepted old.entries) × (mark_of old.setup old.entries number ≡ None) × (new ≡ old)
+CollectSays old tag number (Err not_there.Outstanding) new = (number < token_count old.entries) × (mark_of old.setup old.entries number ≡ None) × (new ≡ old)
 CollectSays old tag number (Err not_there.Unknown) new = IsUnknown old number × (new ≡ old)
 
 -- an entry ends so many tokens
@@ -326,6 +326,6 @@ ProtectSays old tag on (Err e) new = new ≡ old
 
 -- how the token with this number stands
 unfoldable pub MarkSays : State → ℕ → Mark → Type 0
-MarkSays s number Mark.Outstanding = (number < accepted s.entries) × (mark_of s.setup s.entries number ≡ None)
+MarkSays s number Mark.Outstanding = (number < token_count s.entries) × (mark_of s.setup s.entries number ≡ None)
 MarkSays s number (Mark.Ended status) = (mark_of s.setup s.entries number ≡ Some status) × (was_collected s.entries number ≡ false)
 MarkSays s number Mark.Unknown = IsUnknown s number

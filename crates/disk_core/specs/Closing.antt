@@ -11,11 +11,11 @@ use Rattle.history.specs.declared.entry.Entry.{Entry}
 use Rattle.history.specs.declared.entry.Entry.TheVariants.{Cancel, Reset}
 use Rattle.history.specs.Setup.{Setup, IsSetup, size_of}
 use Rattle.history.specs.Eras.{media_id_of}
-use Rattle.history.specs.Tokens.{Request, is_accept, accepted, request, was_collected, changes_bytes}
+use Rattle.history.specs.Tokens.{Request, is_accept, token_count, request, was_collected, changes_bytes}
 use Rattle.history.specs.Contents.{contents}
 use Rattle.history.specs.Marks.{is_same_view, status_if, ending, mark_of, was_fetched, was_stored, fetches, ticket_of, IsOutstanding, HoldsBy}
 use Rattle.history.specs.Rules.{IsLegal}
-use Rattle.history.specs.Tasks.{Todo, pending}
+use Rattle.history.specs.Tasks.{Todo, units_left}
 use Rattle.history.specs.Room.{commands_owed}
 use Rattle.history_laws.specs.OwedSoFar.{owed_so_far}
 use Rattle.history_laws.specs.Left.{ended_by}
@@ -39,7 +39,7 @@ use Rattle.disk_core.specs.Moves.{StaysBeside}
 
 -- the token holds the group by this ticket, so far
 pub record HoldsSoFar (H : List Entry) (marks : ℕ → Option Status) (t b k : ℕ) : Type 0 where
-  pub token : t < accepted H
+  pub token : t < token_count H
   pub unmarked : marks t ≡ None
   pub fetched : was_fetched H t b ≡ true
   pub unstored : was_stored H t b ≡ false
@@ -115,10 +115,10 @@ AreSorted queue = Ordered (λ one other. token_of one ≤ token_of other) queue
 
 -- the entry `e` was added to `H`; it ends the meant tokens with this status, and none of them has ended in the parts
 pub record IsToEnd (meant : Meant) (status : Status) (S : Setup) (H : List Entry) (e : Entry) (late : ℕ) (c : Core) : Type 0 where
-  pub closing : IsClosing S (e ∷ H) (mark_of S H) (pending S H) late c
+  pub closing : IsClosing S (e ∷ H) (mark_of S H) (units_left S H) late c
   pub means : (t : ℕ) (q : Request) → IsOutstanding S H t → request H t ≡ Some q → ending S H e t ≡ status_if (meant_in meant q.view q.asked.kind) status
   pub adds_none : is_accept e ≡ false
-  pub accepts : c.accepted ≡ accepted H
+  pub accepts : c.accepted ≡ token_count H
   pub lent : (k : ℕ) (g : Gate) → gate_of c.gates.held k ≡ Some g → g.out ≡ true
 
 -- for some history
@@ -127,7 +127,7 @@ HasToEnd meant status c = (S : Setup) × (H : List Entry) × (e : Entry) × (lat
 
 -- all of them have ended, so many
 pub record HaveEnded (S : Setup) (H : List Entry) (e : Entry) (late : ℕ) (c c' : Core) (count : ℕ) : Type 0 where
-  pub closing : IsClosing S (e ∷ H) (mark_of S (e ∷ H)) (pending S H) (late - count) c'
+  pub closing : IsClosing S (e ∷ H) (mark_of S (e ∷ H)) (units_left S H) (late - count) c'
   pub counted : count ≡ ended_by S H e
   pub rest : StaysBeside c c'
   pub kept : kept_of c'.tokens ≡ kept_of c.tokens

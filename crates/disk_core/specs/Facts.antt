@@ -6,7 +6,7 @@ use Rattle.history.specs.declared.entry.Kind.TheVariants.{Read, Write, Flush, Er
 use Rattle.history.specs.declared.entry.Entry.{Entry}
 use Rattle.history.specs.Setup.{Setup, size_of, opening_of}
 use Rattle.history.specs.Eras.{media_id_of, era_commands, era_faults}
-use Rattle.history.specs.Tokens.{Request, accepted, request, was_collected, from_of, until_of}
+use Rattle.history.specs.Tokens.{Request, token_count, request, was_collected, from_of, until_of}
 use Rattle.history.specs.Contents.{contents, kept_contents, bytes_read}
 use Rattle.history.specs.Marks.{fetches, HoldsBy}
 use Rattle.history.specs.Rules.{IsLegal}
@@ -47,9 +47,9 @@ pub record IsBuffer (S : Setup) (H : List Entry) (t : ℕ) (q : Request) (buffer
 
 -- records tell tokens: each token that was not handed back has its buffer, and one that was has none
 pub record KeptFollow (S : Setup) (H : List Entry) (kept : List (Option Kept)) : Type 0 where
-  pub counted : length kept ≡ accepted H
+  pub counted : length kept ≡ token_count H
   pub there : (t : ℕ) (k : Kept) → kept_at kept t ≡ Some k → (was_collected H t ≡ false) × ((q : Request) × IsBuffer S H t q k.buffer)
-  pub gone : (t : ℕ) → t < accepted H → kept_at kept t ≡ None → was_collected H t ≡ true
+  pub gone : (t : ℕ) → t < token_count H → kept_at kept t ≡ None → was_collected H t ≡ true
 
 -- the gate of a ticket is that of the token which holds the group by it; its work is out, and its copy is the group
 pub record IsGate (S : Setup) (H : List Entry) (ticket : ℕ) (g : Gate) (holder : ℕ) : Type 0 where

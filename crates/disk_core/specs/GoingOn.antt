@@ -5,7 +5,7 @@ use Rattle.efi_status.specs.declared.Status.{Status}
 use Rattle.history.specs.declared.entry.View.{View}
 use Rattle.history.specs.declared.entry.Asked.{Asked}
 use Rattle.history.specs.declared.entry.Entry.{Entry}
-use Rattle.history.specs.Tokens.{Request, accepted, request, was_collected, from_of, until_of}
+use Rattle.history.specs.Tokens.{Request, token_count, request, was_collected, from_of, until_of}
 use Rattle.history.specs.Commands.{is_moved}
 use Rattle.block_gate.specs.Works.{Lent}
 use Rattle.token_table.specs.declared.record.Done.{Done}
@@ -39,7 +39,7 @@ pub record GoesOn (old new : State) : Type 0 where
   pub setup : new.setup ≡ old.setup
   pub more : List Entry
   pub entries : new.entries ≡ more ++ old.entries
-  pub kept : (t : ℕ) (q : Request) (was : Kept) → t < accepted old.entries → request new.entries t ≡ Some q → was_collected new.entries t ≡ false → kept_at old.kept t ≡ Some was → StaysKept old new t q was
+  pub kept : (t : ℕ) (q : Request) (was : Kept) → t < token_count old.entries → request new.entries t ≡ Some q → was_collected new.entries t ≡ false → kept_at old.kept t ≡ Some was → StaysKept old new t q was
 
 -- each call lets the disk go on
 abbrev pub SubmitGoesOn : Type 0
@@ -81,4 +81,4 @@ GoesOnTwice = (a b c : State) → GoesOn a b → GoesOn b c → GoesOn a c
 abbrev pub RestComesBack : Type 0
 RestComesBack =
     (a b c d : State) (tag tag' : ℕ) (view : View) (media_id : ℕ) (asked : Asked) (bytes buffer buffer' : List ℕ) (token : Token) (status : Status) (q : Request) (was : Kept)
-    → length a.kept ≡ accepted a.entries → Accepts a tag view media_id asked bytes buffer token b → GoesOn b c → Collects c tag' token.number status buffer' d q was → IsBufferRest c token.number q buffer buffer'
+    → length a.kept ≡ token_count a.entries → Accepts a tag view media_id asked bytes buffer token b → GoesOn b c → Collects c tag' token.number status buffer' d q was → IsBufferRest c token.number q buffer buffer'

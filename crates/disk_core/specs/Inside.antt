@@ -7,9 +7,9 @@ use Rattle.drive.specs.Drives.{DriveState, IsDrive, FitTheDrive, medium_in}
 use Rattle.history.specs.declared.entry.Entry.{Entry}
 use Rattle.history.specs.Setup.{Setup, IsSetup, size_of, per_of}
 use Rattle.history.specs.Eras.{media_id_of, is_present, is_protected}
-use Rattle.history.specs.Tokens.{Request, accepted, request, changes_bytes, from_of, until_of}
+use Rattle.history.specs.Tokens.{Request, token_count, request, changes_bytes, from_of, until_of}
 use Rattle.history.specs.Marks.{mark_of, fetches, IsOutstanding, HoldsBy}
-use Rattle.history.specs.Tasks.{pending}
+use Rattle.history.specs.Tasks.{units_left}
 use Rattle.history.specs.Room.{owed_entries}
 use Rattle.history_laws.specs.Left.{left_of}
 use Rattle.history_laws.specs.Pending.{Ordered}
@@ -86,7 +86,7 @@ AreReady S H ready =
 -- what the parts know by heart, and the buffers that they keep
 pub record AreFitted (S : Setup) (c : Core) : Type 0 where
   pub blocks : c.blocks ≡ S.geometry
-  pub accepts : c.accepted ≡ accepted c.history.entries
+  pub accepts : c.accepted ≡ token_count c.history.entries
   pub fetches_are : c.fetched ≡ fetches c.history.entries
   pub group : length c.group.items ≡ group_size S.geometry
   pub zeros : c.zeros.items ≡ replicate (64 * size_of S) 0
@@ -98,7 +98,7 @@ pub record IsSound {M : Type 0} (device : M → Device) (prepared : M → ℕ �
   pub facts : AreFacts (state_of device drive c)
   pub drive_follows : DriveFollows device S c.history.entries drive
   pub records : RecordsFollow S c.history.entries c.tokens
-  pub queue : c.queue ≡ map (sub_of (size_of S)) (pending S c.history.entries)
+  pub queue : c.queue ≡ map (sub_of (size_of S)) (units_left S c.history.entries)
   pub holders : HoldersFollow S c.history.entries c.gates c.holders.items (vec_capacity c.holders)
   pub room : HasRoom S c
   pub ready : (m : M) → medium_in drive ≡ Some m → AreReady S c.history.entries (prepared m)

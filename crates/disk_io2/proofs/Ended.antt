@@ -9,7 +9,7 @@ use Rattle.history.specs.declared.entry.Entry.{Entry}
 use Rattle.history.specs.declared.entry.Entry.TheVariants.{Accept}
 use Rattle.history.specs.Setup.{IsSetup}
 use Rattle.history.specs.Eras.{inserts}
-use Rattle.history.specs.Tokens.{Request, accepted, request, was_collected}
+use Rattle.history.specs.Tokens.{Request, token_count, request, was_collected}
 use Rattle.history.specs.Marks.{mark_of, is_complete, status_if}
 use Rattle.history.specs.Next.{first_open}
 use Rattle.history_laws.proofs.CountLemmas.{accepted-more, inserts-same}
@@ -37,7 +37,7 @@ use Rattle.disk_io2.specs.Blocking.{FaultsRose, Serves, Finishes, CarriesOut, Fa
 use Rattle.disk_io2.proofs.Faults.{faults-from, faults-to}
 
 -- whether a token that was not handed back is outstanding
-module _ (s : State) (t : ℕ) (uncollected : was_collected s.entries t ≡ false) (there : t < accepted s.entries) where
+module _ (s : State) (t : ℕ) (uncollected : was_collected s.entries t ≡ false) (there : t < token_count s.entries) where
   pub known : MarkSays s t mark.Unknown → ⊥
   unfolding MarkSays
   known (inl past) = absurd (omega (arith, past, there))
@@ -99,10 +99,10 @@ module _ (old begun : State) (tag : ℕ) (view : View) (media_id : ℕ) (ask : A
   setup-is : begun.setup ≡ old.setup
   setup-is = ap (λ s. s.setup) accepts.new_is
 
-  last : accepted begun.entries ≡ token.number + 1
-  last = ap accepted begun-is ∙ (accepted-more old.entries entry refl ∙ ap (λ n. n + 1) (sym accepts.numbered))
+  last : token_count begun.entries ≡ token.number + 1
+  last = ap token_count begun-is ∙ (accepted-more old.entries entry refl ∙ ap (λ n. n + 1) (sym accepts.numbered))
 
-  pub accepted-there : token.number < accepted begun.entries
+  pub accepted-there : token.number < token_count begun.entries
   accepted-there = omega (arith, last)
 
   pub accepted-uncollected : was_collected begun.entries token.number ≡ false
@@ -111,9 +111,9 @@ module _ (old begun : State) (tag : ℕ) (view : View) (media_id : ℕ) (ask : A
       ∙ untold-collected old.setup old.entries token.number (unaccepted old.setup old.entries token.number facts.legal (omega (arith, accepts.numbered))))
 
   pub accepted-well : IsWell begun.setup begun.entries token.number
-  accepted-well = rw (setup-is, begun-is, accepts.numbered) (by (is_complete old.setup (entry ∷ old.entries) (accepted old.entries)) refl)
+  accepted-well = rw (setup-is, begun-is, accepts.numbered) (by (is_complete old.setup (entry ∷ old.entries) (token_count old.entries)) refl)
     where
-      by : (b : Bool) → is_complete old.setup (entry ∷ old.entries) (accepted old.entries) ≡ b → IsWell old.setup (entry ∷ old.entries) (accepted old.entries)
+      by : (b : Bool) → is_complete old.setup (entry ∷ old.entries) (token_count old.entries) ≡ b → IsWell old.setup (entry ∷ old.entries) (token_count old.entries)
       by true complete = inr (mark-accept old.setup old.entries tag view (asked_of ask) (bytes_of ask) facts.legal ∙ ap (λ b. status_if b Success) complete)
       by false complete = inl (mark-accept old.setup old.entries tag view (asked_of ask) (bytes_of ask) facts.legal ∙ ap (λ b. status_if b Success) complete)
 
@@ -165,7 +165,7 @@ module _ (old begun : State) (tag : ℕ) (view : View) (media_id : ℕ) (ask : A
         (faults-from old begun fin.served _ (ap inserts begun-is ∙ inserts-same old.entries entry refl) (ap (λ s. s.devices) accepts.new_is) (fin.serves.cause (fin.last ∙ is_failed)))
 
 -- an ended token that is there and was not handed back is handed back
-pub collectable : (s new : State) (tag t : ℕ) (not : NotThere) → t < accepted s.entries → was_collected s.entries t ≡ false → is_some (mark_of s.setup s.entries t) ≡ true → CollectSays s tag t (Err not) new → ⊥
+pub collectable : (s new : State) (tag t : ℕ) (not : NotThere) → t < token_count s.entries → was_collected s.entries t ≡ false → is_some (mark_of s.setup s.entries t) ≡ true → CollectSays s tag t (Err not) new → ⊥
 unfolding CollectSays
 collectable s new tag t not_there.Outstanding there uncollected ended (below, none, same) = clash (sym (ap is_some none) ∙ ended)
   where
@@ -176,7 +176,7 @@ collectable s new tag t not_there.Unknown there uncollected ended (unknown, same
     clash : false ≡ true → ⊥
     clash e = cc
 
-    by : (accepted s.entries ≤ t) ⊎ (was_collected s.entries t ≡ true) → ⊥
+    by : (token_count s.entries ≤ t) ⊎ (was_collected s.entries t ≡ true) → ⊥
     by (inl past) = absurd (omega (arith, past, there))
     by (inr was) = clash (sym uncollected ∙ was)
 

@@ -6,7 +6,7 @@ use Rattle.history.specs.declared.entry.Entry.{Entry}
 use Rattle.history.specs.Setup.{IsSetup}
 use Rattle.history.specs.Commands.{is_fetch}
 use Rattle.history.specs.Eras.{inserts}
-use Rattle.history.specs.Tokens.{accepted, was_collected}
+use Rattle.history.specs.Tokens.{token_count, was_collected}
 use Rattle.history.specs.Marks.{IsOutstanding}
 use Rattle.history.specs.Next.{Turn, Outcome, Made, entry_of}
 use Rattle.history.specs.Room.{owed_entries}
@@ -146,8 +146,8 @@ module _ (old : State) (t : ℕ) (is : IsSetup old.setup) (facts : AreFacts old)
   never-drained new (same, none) = first-open-fails old.setup old.entries t none open_
 
 -- the token that is served is there, and was not handed back
-pub still-there : (old new : State) (t : ℕ) → Serves old t new → t < accepted old.entries → t < accepted new.entries
-still-there old new t serves there = omega (arith, there, ap accepted serves.entries, while-accepted old.setup t old.entries serves.commands serves.while_open)
+pub still-there : (old new : State) (t : ℕ) → Serves old t new → t < token_count old.entries → t < token_count new.entries
+still-there old new t serves there = omega (arith, there, ap token_count serves.entries, while-accepted old.setup t old.entries serves.commands serves.while_open)
 
 pub still-uncollected : (old new : State) (t : ℕ) → Serves old t new → was_collected old.entries t ≡ false → was_collected new.entries t ≡ false
 still-uncollected old new t serves uncollected = ap (λ H. was_collected H t) serves.entries ∙ (while-collected old.setup t old.entries serves.commands t serves.while_open ∙ uncollected)

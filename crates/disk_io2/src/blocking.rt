@@ -1,6 +1,6 @@
 ghost use Rattle.std.specs.Prelude.{◌≡◌, ◌≢◌, ◌+◌, ◌^◌, ◌<◌, ◌≤◌, ◌⊎◌, true, false, None, Some, is_some, IfOk, IfErr};
 ghost use Rattle.efi_status.specs.declared.Status.{Status};
-ghost use Rattle.history.specs.Tokens.{accepted, was_collected};
+ghost use Rattle.history.specs.Tokens.{token_count, was_collected};
 ghost use Rattle.history.specs.Marks.{mark_of, IsOutstanding};
 ghost use Rattle.history.specs.Room.{owed_entries};
 ghost use Rattle.disk_core.specs.declared.answers.Why.{Why};
@@ -49,7 +49,7 @@ fn step_once<M: Medium>(disk: &mut Disk<M>, number: u64)
 
 // Whether a token that was not handed back is outstanding.
 fn is_open<M: Medium>(disk: &Disk<M>, number: u64) -> bool
-    requires there { number < accepted disk.now.entries }
+    requires there { number < token_count disk.now.entries }
     requires uncollected { was_collected disk.now.entries number ≡ false }
     ensures yes { result ≡ true → IsOutstanding disk.now.setup disk.now.entries number }
     ensures no { result ≡ false
@@ -65,7 +65,7 @@ fn is_open<M: Medium>(disk: &Disk<M>, number: u64) -> bool
 // Serves a token, and those before it, until it has ended.
 fn serve<M: Medium>(disk: &mut Disk<M>, number: u64)
     requires idle { IsIdle disk.old.gates }
-    requires there { number < accepted disk.old.entries }
+    requires there { number < token_count disk.old.entries }
     requires uncollected { was_collected disk.old.entries number ≡ false }
     ensures gates { KeepsGates disk.old disk.new }
     ensures serves { Serves disk.old number disk.new }
@@ -97,7 +97,7 @@ fn answer_of(done: Done) -> Result<Vec<u8>, Refused>
 // Serves a token that is outstanding or has succeeded, until it has ended, and collects it.
 fn finish<M: Medium>(disk: &mut Disk<M>, tag: u32, number: u64) -> Result<Vec<u8>, Refused>
     requires idle { IsIdle disk.old.gates }
-    requires there { number < accepted disk.old.entries }
+    requires there { number < token_count disk.old.entries }
     requires uncollected { was_collected disk.old.entries number ≡ false }
     requires so_far { (mark_of disk.old.setup disk.old.entries number ≡ None)
         ⊎ (mark_of disk.old.setup disk.old.entries number ≡ Some Status.Success) }

@@ -7,7 +7,7 @@ use Rattle.history.specs.declared.entry.View.{View}
 use Rattle.history.specs.declared.entry.Entry.{Entry}
 use Rattle.history.specs.declared.entry.Entry.TheVariants.{Accept, Done, Fault, Cancel, Reset, Eject, Protect}
 use Rattle.history.specs.Setup.{Setup}
-use Rattle.history.specs.Tokens.{Request, accepted, request, is_flush, changes_bytes, from_of}
+use Rattle.history.specs.Tokens.{Request, token_count, request, is_flush, changes_bytes, from_of}
 use Rattle.history.specs.Commands.{is_fetch, is_store, is_sync, is_at, has_done, is_moved}
 
 -- the test holds of the n numbers from a on
@@ -50,12 +50,12 @@ status_if false status = None
 -- the status with which this entry would end the token
 unfoldable pub ending : Setup → List Entry → Entry → ℕ → Option Status
 ending S before (Accept tag view asked bytes) t =
-    status_if (nat_eq t (accepted before) && is_complete S (Accept tag view asked bytes ∷ before) t) Success
+    status_if (nat_eq t (token_count before) && is_complete S (Accept tag view asked bytes ∷ before) t) Success
 ending S before (Done u c) t = status_if (nat_eq u t && is_complete S (Done u c ∷ before) t) Success
 ending S before (Fault u c done) t = status_if (nat_eq u t) DeviceError
 ending S before (Cancel tag view) t = status_if (has_view view (request before t)) Aborted
-ending S before (Reset tag) t = status_if (nat_lt t (accepted before)) Aborted
-ending S before (Eject tag) t = status_if (nat_lt t (accepted before)) NoMedia
+ending S before (Reset tag) t = status_if (nat_lt t (token_count before)) Aborted
+ending S before (Eject tag) t = status_if (nat_lt t (token_count before)) NoMedia
 ending S before (Protect tag on) t = status_if (on && is_some_change (request before t)) WriteProtected
 ending S before e t = None
 
@@ -70,11 +70,11 @@ mark_of S (e ∷ before) t = or_else (mark_of S before t) (ending S before e t)
 
 -- the token is accepted and has not ended
 pub record IsOutstanding (S : Setup) (H : List Entry) (t : ℕ) : Type 0 where
-  pub token : t < accepted H
+  pub token : t < token_count H
   pub unmarked : mark_of S H t ≡ None
 
 abbrev pub is_outstanding : Setup → List Entry → ℕ → Bool
-is_outstanding S H t = nat_lt t (accepted H) && is_none (mark_of S H t)
+is_outstanding S H t = nat_lt t (token_count H) && is_none (mark_of S H t)
 
 -- the token has fetched the group that begins at this block
 abbrev pub was_fetched : List Entry → ℕ → ℕ → Bool
@@ -96,7 +96,7 @@ is_holder S H b t = is_outstanding S H t && (was_fetched H t b && not (was_store
 
 -- a block is held where a token holds its group
 unfoldable pub is_held : Setup → List Entry → ℕ → Bool
-is_held S H b = is_some (first_from (is_holder S H (group_start S.geometry b)) 0 (accepted H))
+is_held S H b = is_some (first_from (is_holder S H (group_start S.geometry b)) 0 (token_count H))
 
 abbrev pub is_fetch_entry : Entry → Bool
 is_fetch_entry (Done t c) = is_fetch c

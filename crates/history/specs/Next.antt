@@ -4,13 +4,13 @@ use Rattle.history.specs.declared.entry.Command.{Command}
 use Rattle.history.specs.declared.entry.Entry.{Entry}
 use Rattle.history.specs.declared.entry.Entry.TheVariants.{Done, Fault}
 use Rattle.history.specs.Setup.{Setup}
-use Rattle.history.specs.Tokens.{Request, accepted, request}
+use Rattle.history.specs.Tokens.{Request, token_count, request}
 use Rattle.history.specs.Marks.{first_from, is_outstanding}
 use Rattle.history.specs.Tasks.{Task, tasks_of, is_finished, task_command}
 
 -- the least outstanding token
 unfoldable pub first_open : Setup → List Entry → Option ℕ
-first_open S H = first_from (is_outstanding S H) 0 (accepted H)
+first_open S H = first_from (is_outstanding S H) 0 (token_count H)
 
 -- the first unit of the request that is not finished
 unfoldable pub next_task : Setup → List Entry → ℕ → Request → Option Task

@@ -8,7 +8,7 @@ use Rattle.history.specs.declared.entry.Entry.{Entry}
 use Rattle.history.specs.declared.entry.Entry.TheVariants.{Done, Fault}
 use Rattle.history.specs.Setup.{Setup}
 use Rattle.history.specs.Eras.{ejects, inserts, is_command, is_fault}
-use Rattle.history.specs.Tokens.{Request, accepted, request, was_collected, from_of, until_of}
+use Rattle.history.specs.Tokens.{Request, token_count, request, was_collected, from_of, until_of}
 use Rattle.history.specs.Commands.{is_put, is_get, is_wipe, is_sync, is_at, has_done}
 use Rattle.history.specs.Marks.{mark_of, was_fetched, was_stored}
 use Rattle.history.specs.Tasks.{Task, Moves, Syncs, tasks_of}
@@ -87,4 +87,4 @@ media_owed S H = (length S.media - ejects H) + (length S.media - (inserts H + 1)
 
 -- the entries that the history must still have room for
 unfoldable pub owed_entries : Setup → List Entry → ℕ
-owed_entries S H = tokens_owed S H (accepted H) + media_owed S H
+owed_entries S H = tokens_owed S H (token_count H) + media_owed S H

@@ -8,7 +8,7 @@ use Rattle.history.specs.declared.entry.Command.{Command}
 use Rattle.history.specs.declared.entry.Command.TheVariants.{Fetch, Store, Put, Get, Wipe, Sync}
 use Rattle.history.specs.declared.entry.Entry.{Entry}
 use Rattle.history.specs.Setup.{Setup}
-use Rattle.history.specs.Tokens.{Request, accepted, request, is_flush, changes_bytes, from_of, until_of}
+use Rattle.history.specs.Tokens.{Request, token_count, request, is_flush, changes_bytes, from_of, until_of}
 use Rattle.history.specs.Commands.{is_sync, has_done, is_moved}
 use Rattle.history.specs.Marks.{all_from, is_outstanding, was_fetched}
 
@@ -47,8 +47,8 @@ todo_before S H zero = []
 todo_before S H (suc n) = todo_before S H n ++ todo_of S H n
 
 -- the unfinished units of all outstanding tokens
-abbrev pub pending : Setup → List Entry → List Todo
-pending S H = todo_before S H (accepted H)
+abbrev pub units_left : Setup → List Entry → List Todo
+units_left S H = todo_before S H (token_count H)
 
 -- a part of a write or an erase needs its group unheld and a free buffer set, a run that none of its blocks is held
 abbrev pub is_clear : (ℕ → Bool) → Bool → Span → Bool
@@ -67,7 +67,7 @@ is_runnable held free todo = is_task_clear held free todo.kind todo.task
 
 -- the first of them, by token and byte
 unfoldable pub first_runnable : (ℕ → Bool) → Bool → Setup → List Entry → Option Todo
-first_runnable held free S H = find (is_runnable held free) (pending S H)
+first_runnable held free S H = find (is_runnable held free) (units_left S H)
 
 -- the command of a unit: a part of a write or an erase is fetched and then stored
 abbrev pub span_command : List Entry → ℕ → Kind → Bool → ℕ → ℕ → Command

@@ -23,14 +23,14 @@ is_accept (Accept tag view asked bytes) = true
 is_accept e = false
 
 -- how many requests were accepted
-unfoldable pub accepted : List Entry → ℕ
-accepted H = count_by is_accept H
+unfoldable pub token_count : List Entry → ℕ
+token_count H = count_by is_accept H
 
 -- the request of a token: token t is the t-th accepted one, from 0
 unfoldable pub request : List Entry → ℕ → Option Request
 request [] t = None
 request (Accept tag view asked bytes ∷ before) t =
-    if nat_eq t (accepted before)
+    if nat_eq t (token_count before)
     then Some (record { tag = tag; view = view; asked = asked; bytes = bytes })
     else request before t
 request (e ∷ before) t = request before t

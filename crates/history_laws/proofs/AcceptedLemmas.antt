@@ -4,7 +4,7 @@ use Rattle.history.specs.Eras.{media_id_of}
 use Rattle.history.specs.Marks.{HoldsBy, mark_of}
 use Rattle.history.specs.Rules.{IsLegal, MayAccept, MayFollow}
 use Rattle.history.specs.Setup.{IsSetup, Setup}
-use Rattle.history.specs.Tokens.{accepted}
+use Rattle.history.specs.Tokens.{token_count}
 use Rattle.history.specs.declared.entry.Asked.{Asked}
 use Rattle.history.specs.declared.entry.Command.TheVariants.{Fetch}
 use Rattle.history.specs.declared.entry.Entry.{Entry}
@@ -29,13 +29,13 @@ module _ (S : Setup) (H : List Entry) (tag : ℕ) (view : View) (asked : Asked) 
   unfolding MayFollow
   may-follow = may
 
-  pub more : accepted (e ∷ H) ≡ accepted H + 1
+  pub more : token_count (e ∷ H) ≡ token_count H + 1
   more = accepted-more H e refl
 
-  pub older : (u : ℕ) → u < accepted H → u ≢ accepted H
+  pub older : (u : ℕ) → u < token_count H → u ≢ token_count H
   older u lt same = absurd (omega arith)
 
-  pub mark-old : (u : ℕ) → u ≢ accepted H → mark_of S (e ∷ H) u ≡ mark_of S H u
+  pub mark-old : (u : ℕ) → u ≢ token_count H → mark_of S (e ∷ H) u ≡ mark_of S H u
   mark-old u other = mark-other S H e u (accept-concerns H tag view asked bytes u other)
 
   pub holds-accept : (t b k : ℕ) → HoldsBy S H t b k → HoldsBy S (e ∷ H) t b k

@@ -5,7 +5,7 @@ use Rattle.disk_split.specs.Units.{IsUnit}
 use Rattle.efi_status.specs.declared.Status.{Status}
 use Rattle.history.specs.declared.entry.Entry.{Entry}
 use Rattle.history.specs.Setup.{Setup, IsSetup}
-use Rattle.history.specs.Tokens.{Request, accepted, request, from_of, until_of}
+use Rattle.history.specs.Tokens.{Request, token_count, request, from_of, until_of}
 use Rattle.history.specs.Commands.{first_block}
 use Rattle.history.specs.Marks.{mark_of}
 use Rattle.history.specs.Tasks.{Task, Moves, Syncs, tasks_of, is_finished, task_command}
@@ -22,7 +22,7 @@ use Rattle.history_laws.specs.Serving.{Continues, AreWhileOpen, first_byte, IsBe
 use Rattle.history_laws.proofs.ServingLemmas.{while-accepted, while-request}
 use Rattle.history_laws.proofs.TaskOrderLemmas.{command-block, finished-stays, ordered-get, same-task}
 
-module _ (S : Setup) (H : List Entry) (t : ℕ) (q : Request) (is : IsSetup S) (named : request H t ≡ Some q) (last : accepted H ≡ t + 1) (ended : (u : ℕ) → u < t → mark_of S H u ≡ None → ⊥) where
+module _ (S : Setup) (H : List Entry) (t : ℕ) (q : Request) (is : IsSetup S) (named : request H t ≡ Some q) (last : token_count H ≡ t + 1) (ended : (u : ℕ) → u < t → mark_of S H u ≡ None → ⊥) where
   while-ended : (cs : List Entry) (u : ℕ) → u < t → mark_of S (cs ++ H) u ≡ None → ⊥
   while-ended [] u below none = ended u below none
   while-ended (e ∷ cs) u below none = while-ended cs u below (mark-before S (cs ++ H) e u none)
@@ -132,7 +132,7 @@ module _ (S : Setup) (H : List Entry) (t : ℕ) (q : Request) (is : IsSetup S) (
   pub none-open : (cs : List Entry) (status : Status) → AreWhileOpen S H t cs → mark_of S (cs ++ H) t ≡ Some status → first_open S (cs ++ H) ≡ None
   none-open cs status all marked = first-open-none S (cs ++ H) (λ u there none. by u there none (cases_order u t))
     where
-      by : (u : ℕ) → u < accepted (cs ++ H) → mark_of S (cs ++ H) u ≡ None → (u ≡ t) ⊎ ((u < t) ⊎ (t < u)) → ⊥
+      by : (u : ℕ) → u < token_count (cs ++ H) → mark_of S (cs ++ H) u ≡ None → (u ≡ t) ⊎ ((u < t) ⊎ (t < u)) → ⊥
       by u there none (inl same) = clash (sym marked ∙ (ap (mark_of S (cs ++ H)) (sym same) ∙ none))
         where
           clash : Some status ≡ None → ⊥

@@ -4,7 +4,7 @@ use Rattle.std.specs.List.{count_by}
 use Rattle.std.proofs.lemmas.List.Sums.{sum_by-cons, sum_by-le-sum_by, count_by-le-length}
 use Rattle.history.specs.declared.entry.Entry.{Entry}
 use Rattle.history.specs.declared.entry.Entry.TheVariants.{Done, Fault}
-use Rattle.history.specs.Tokens.{is_accept, accepted}
+use Rattle.history.specs.Tokens.{is_accept, token_count}
 use Rattle.history.specs.Eras.{is_eject, is_insert, is_command, is_fault, ejects, inserts}
 use Rattle.history.specs.Marks.{is_fetch_entry, fetches}
 use Rattle.history.specs.Room.{is_command_of, commands, faults, commands_of}
@@ -27,16 +27,16 @@ count-less {X} test easier xs implies = sum_by-le-sum_by _ _ xs (λ x. by (test 
     by false true is = omega arith
     by false false is = omega arith
 
-pub accepted-none : accepted [] ≡ 0
-unfolding accepted
+pub accepted-none : token_count [] ≡ 0
+unfolding token_count
 accepted-none = refl
 
-pub accepted-more : (H : List Entry) (e : Entry) → is_accept e ≡ true → accepted (e ∷ H) ≡ accepted H + 1
-unfolding accepted
+pub accepted-more : (H : List Entry) (e : Entry) → is_accept e ≡ true → token_count (e ∷ H) ≡ token_count H + 1
+unfolding token_count
 accepted-more H e is = count-more is_accept e H is
 
-pub accepted-same : (H : List Entry) (e : Entry) → is_accept e ≡ false → accepted (e ∷ H) ≡ accepted H
-unfolding accepted
+pub accepted-same : (H : List Entry) (e : Entry) → is_accept e ≡ false → token_count (e ∷ H) ≡ token_count H
+unfolding token_count
 accepted-same H e is = count-same is_accept e H is
 
 pub ejects-none : ejects [] ≡ 0

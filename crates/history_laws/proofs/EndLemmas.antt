@@ -10,7 +10,7 @@ use Rattle.history.specs.declared.entry.Command.TheVariants.{Fetch, Store, Put, 
 use Rattle.history.specs.declared.entry.Entry.{Entry}
 use Rattle.history.specs.declared.entry.Entry.TheVariants.{Accept, Refuse, Done, Fault, Collect, Cancel, Reset, Eject, Insert, Protect}
 use Rattle.history.specs.Setup.{Setup}
-use Rattle.history.specs.Tokens.{Request, accepted, request, was_collected}
+use Rattle.history.specs.Tokens.{Request, token_count, request, was_collected}
 use Rattle.history.specs.Commands.{done_commands, has_done}
 use Rattle.history.specs.Contents.{bytes_read}
 use Rattle.history.specs.Marks.{mark_of, ending, status_if, or_else, is_complete, is_some_change, has_view, ticket_of, IsOutstanding}
@@ -70,21 +70,21 @@ some-none m some none = clash (rw none at some)
     clash e = cc
 
 -- no entry concerns a token that it does not make
-unconcerned : (S : Setup) (H : List Entry) (e : Entry) (t : ℕ) → MayFollow S H e → request H t ≡ None → mark_of S H t ≡ None → accepted (e ∷ H) ≤ t → concerns H e t ≡ false
+unconcerned : (S : Setup) (H : List Entry) (e : Entry) (t : ℕ) → MayFollow S H e → request H t ≡ None → mark_of S H t ≡ None → token_count (e ∷ H) ≤ t → concerns H e t ≡ false
 unfolding MayFollow
-unconcerned S H (Accept tag view asked bytes) t may unnamed unmarked past = ne_eqb t (accepted H) (λ same. absurd (omega (arith, accepted-more H (Accept tag view asked bytes) refl, past)))
+unconcerned S H (Accept tag view asked bytes) t may unnamed unmarked past = ne_eqb t (token_count H) (λ same. absurd (omega (arith, accepted-more H (Accept tag view asked bytes) refl, past)))
 unconcerned S H (Refuse tag view asked media_id status) t may unnamed unmarked past = refl
 unconcerned S H (Done u c) t may unnamed unmarked past = ne_eqb u t (λ same. absurd (omega (arith, (command-open S H u c may).token, accepted-same H (Done u c) refl, past)))
 unconcerned S H (Fault u c done) t may unnamed unmarked past = ne_eqb u t (λ same. absurd (omega (arith, (command-open S H u c may.0).token, accepted-same H (Fault u c done) refl, past)))
 unconcerned S H (Collect tag u) t may unnamed unmarked past = ne_eqb u t (λ same. some-none (mark_of S H t) (rw same at may.0) unmarked)
 unconcerned S H (Cancel tag view) t may unnamed unmarked past = ap (has_view view) unnamed
-unconcerned S H (Reset tag) t may unnamed unmarked past = le-ltb t (accepted H) (omega (arith, accepted-same H (Reset tag) refl, past))
-unconcerned S H (Eject tag) t may unnamed unmarked past = le-ltb t (accepted H) (omega (arith, accepted-same H (Eject tag) refl, past))
+unconcerned S H (Reset tag) t may unnamed unmarked past = le-ltb t (token_count H) (omega (arith, accepted-same H (Reset tag) refl, past))
+unconcerned S H (Eject tag) t may unnamed unmarked past = le-ltb t (token_count H) (omega (arith, accepted-same H (Eject tag) refl, past))
 unconcerned S H (Insert tag media_id) t may unnamed unmarked past = refl
 unconcerned S H (Protect tag on) t may unnamed unmarked past = and_right on (is_some_change (request H t)) (ap is_some_change unnamed)
 
 -- tokens stay accepted
-pub accepted-rises : (H : List Entry) (e : Entry) → accepted H ≤ accepted (e ∷ H)
+pub accepted-rises : (H : List Entry) (e : Entry) → token_count H ≤ token_count (e ∷ H)
 accepted-rises H (Accept a b c d) = omega (arith, accepted-more H (Accept a b c d) refl)
 accepted-rises H e = omega (arith, accepted-same H e refl)
 
@@ -125,7 +125,7 @@ unfolding told request mark_of was_collected done_commands commands_of bytes_rea
 untold-none S t = record { told = refl; unread = λ x. refl; unticketed = λ b. refl }
 
 -- nothing is told of a token that is not yet accepted
-pub unaccepted : (S : Setup) (H : List Entry) (t : ℕ) → IsLegal S H → accepted H ≤ t → IsUntold S H t
+pub unaccepted : (S : Setup) (H : List Entry) (t : ℕ) → IsLegal S H → token_count H ≤ t → IsUntold S H t
 unfolding IsLegal
 unaccepted S [] t legal past = untold-none S t
 unaccepted S (e ∷ H) t (legal, may) past =
@@ -134,10 +134,10 @@ unaccepted S (e ∷ H) t (legal, may) past =
 
 -- a new token ends at once where it is complete
 pub mark-accept : (S : Setup) (H : List Entry) (tag : ℕ) (view : View) (asked : Asked) (bytes : List ℕ) → IsLegal S H
-    → mark_of S (Accept tag view asked bytes ∷ H) (accepted H) ≡ status_if (is_complete S (Accept tag view asked bytes ∷ H) (accepted H)) Success
+    → mark_of S (Accept tag view asked bytes ∷ H) (token_count H) ≡ status_if (is_complete S (Accept tag view asked bytes ∷ H) (token_count H)) Success
 unfolding mark_of ending
 mark-accept S H tag view asked bytes legal =
-    rw (untold-mark S H (accepted H) (unaccepted S H (accepted H) legal (omega arith)), eq-eqb (accepted H) (accepted H) refl)
+    rw (untold-mark S H (token_count H) (unaccepted S H (token_count H) legal (omega arith)), eq-eqb (token_count H) (token_count H) refl)
 
 -- a legal command is of no ended token
 pub command-other : (S : Setup) (H : List Entry) (u t : ℕ) (c : Command) (status : Status) → MayCommand S H u c → mark_of S H t ≡ Some status → u ≡ t → ⊥

@@ -7,7 +7,7 @@ use Rattle.history.specs.Eras.{ejects, inserts, is_present}
 use Rattle.history.specs.Marks.{IsOutstanding, ending, is_outstanding, mark_of, HoldsBy}
 use Rattle.history.specs.Rules.{IsLegal}
 use Rattle.history.specs.Setup.{Setup, IsSetup}
-use Rattle.history.specs.Tokens.{accepted}
+use Rattle.history.specs.Tokens.{token_count}
 use Rattle.history.specs.declared.entry.Entry.{Entry}
 use Rattle.history.specs.declared.entry.Entry.TheVariants.{Insert}
 use Rattle.history_laws.proofs.CountLemmas.{accepted-same, ejects-same, inserts-more}
@@ -39,7 +39,7 @@ ended-least S H e t (suc n) below counts = elim (cases_eq t n) [
 -- an open token that the entry ends is counted
 pub ended-some : (S : Setup) (H : List Entry) (e : Entry) (t : ℕ) (status : Status) → IsOutstanding S H t → ending S H e t ≡ Some status → 1 ≤ ended_by S H e
 unfolding ended_by
-ended-some S H e t status open_now ends = ended-least S H e t (accepted H) open_now.token (and_from (is_outstanding S H t) (is_some (ending S H e t)) (outstanding-test S H t open_now) (ap is_some ends))
+ended-some S H e t status open_now ends = ended-least S H e t (token_count H) open_now.token (and_from (is_outstanding S H t) (is_some (ending S H e t)) (outstanding-test S H t open_now) (ap is_some ends))
 
 ended-nothing : (S : Setup) (H : List Entry) (e : Entry) (n : ℕ) → ((t : ℕ) → IsOutstanding S H t → ending S H e t ≡ None) → ended_before S H e n ≡ 0
 unfolding ended_before
@@ -53,7 +53,7 @@ ended-nothing S H e (suc n) none = rw (uncounted (is_outstanding S H n) refl) (e
 -- an entry that ends no open token is counted so
 pub ended-no : (S : Setup) (H : List Entry) (e : Entry) → ((t : ℕ) → IsOutstanding S H t → ending S H e t ≡ None) → ended_by S H e ≡ 0
 unfolding ended_by
-ended-no S H e none = ended-nothing S H e (accepted H) none
+ended-no S H e none = ended-nothing S H e (token_count H) none
 
 -- tokens that it does not end are not counted
 pub ended-none : (S : Setup) (H : List Entry) (e : Entry) (from n : ℕ) → from ≤ n → ((u : ℕ) → from ≤ u → u < n → (is_outstanding S H u && is_some (ending S H e u)) ≡ false) → ended_before S H e n ≡ ended_before S H e from

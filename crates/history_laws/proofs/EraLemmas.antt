@@ -11,7 +11,7 @@ use Rattle.history.specs.declared.entry.Entry.{Entry}
 use Rattle.history.specs.declared.entry.Entry.TheVariants.{Done, Fault, Cancel, Reset, Eject, Protect}
 use Rattle.history.specs.Setup.{Setup, first_of}
 use Rattle.history.specs.Eras.{is_command, is_fault, is_insert, media_id_of, is_present, is_protected, era_count, era_commands, era_faults}
-use Rattle.history.specs.Tokens.{is_accept, accepted, request}
+use Rattle.history.specs.Tokens.{is_accept, token_count, request}
 use Rattle.history.specs.Contents.{pieces_of, patch_all, contents, flushed_contents, kept_contents}
 use Rattle.history.specs.Marks.{mark_of, ending, status_if, or_else, has_view, is_some_change, is_outstanding}
 use Rattle.history.specs.Rules.{MayCommand, MayFollow, IsLegal}
@@ -33,7 +33,7 @@ and-assoc false q r = refl
 pub outstanding-next : (S : Setup) (H : List Entry) (e : Entry) (t : ℕ) → is_accept e ≡ false → is_outstanding S (e ∷ H) t ≡ (is_outstanding S H t && is_none (ending S H e t))
 unfolding mark_of
 outstanding-next S H e t old =
-    rw (accepted-same H e old) (ap (λ ended. nat_lt t (accepted H) && ended) (none-or (mark_of S H t) (ending S H e t)) ∙ and-assoc (nat_lt t (accepted H)) (is_none (mark_of S H t)) (is_none (ending S H e t)))
+    rw (accepted-same H e old) (ap (λ ended. nat_lt t (token_count H) && ended) (none-or (mark_of S H t) (ending S H e t)) ∙ and-assoc (nat_lt t (token_count H)) (is_none (mark_of S H t)) (is_none (ending S H e t)))
 
 -- whether an end comes
 pub none-if : (b : Bool) (status : Status) → is_none (status_if b status) ≡ not b
@@ -63,13 +63,13 @@ and-not false q = refl
 pub outstanding-reset : (S : Setup) (H : List Entry) (tag t : ℕ) → is_outstanding S (Reset tag ∷ H) t ≡ false
 unfolding ending
 outstanding-reset S H tag t =
-    outstanding-next S H (Reset tag) t refl ∙ (ap (λ b. is_outstanding S H t && b) (none-if (nat_lt t (accepted H)) Aborted) ∙ and-not (nat_lt t (accepted H)) (is_none (mark_of S H t)))
+    outstanding-next S H (Reset tag) t refl ∙ (ap (λ b. is_outstanding S H t && b) (none-if (nat_lt t (token_count H)) Aborted) ∙ and-not (nat_lt t (token_count H)) (is_none (mark_of S H t)))
 
 -- so does an ejection
 pub outstanding-eject : (S : Setup) (H : List Entry) (tag t : ℕ) → is_outstanding S (Eject tag ∷ H) t ≡ false
 unfolding ending
 outstanding-eject S H tag t =
-    outstanding-next S H (Eject tag) t refl ∙ (ap (λ b. is_outstanding S H t && b) (none-if (nat_lt t (accepted H)) NoMedia) ∙ and-not (nat_lt t (accepted H)) (is_none (mark_of S H t)))
+    outstanding-next S H (Eject tag) t refl ∙ (ap (λ b. is_outstanding S H t && b) (none-if (nat_lt t (token_count H)) NoMedia) ∙ and-not (nat_lt t (token_count H)) (is_none (mark_of S H t)))
 
 and-true : (p : Bool) → (p && true) ≡ p
 and-true true = refl

@@ -8,7 +8,7 @@ use Rattle.history.specs.Marks.{fetches, is_fetch_entry, is_held, ticket_of, was
 use Rattle.history.specs.Next.{next_turn}
 use Rattle.history.specs.Rules.{IsLegal, MayCommand}
 use Rattle.history.specs.Setup.{IsSetup, Setup}
-use Rattle.history.specs.Tasks.{Moves, Syncs, Task, Todo, first_runnable, is_runnable, pending, span_command, task_command}
+use Rattle.history.specs.Tasks.{Moves, Syncs, Task, Todo, first_runnable, is_runnable, units_left, span_command, task_command}
 use Rattle.history.specs.Tokens.{changes_bytes, is_flush}
 use Rattle.history.specs.declared.entry.Command.{Command}
 use Rattle.history.specs.declared.entry.Command.TheVariants.{Fetch, Get, Store}
@@ -79,8 +79,8 @@ pub store-turn : (S : Setup) (H : List Entry) (todo : Todo) (b : ℕ) → IsSetu
 unfolding first_runnable
 store-turn S H todo b is legal legal' none first fetch =
     let may : MayCommand S H todo.token (Fetch b) = subst (λ c. MayCommand S H todo.token c) fetch (runnable-may S H true todo is legal first) in
-    let alike : find (is_runnable (λ c. false) true) (pending S H) ≡ Some todo =
-    find-alike (is_runnable (λ c. false) true) (is_runnable (is_held S H) true) (pending S H) (λ i d there. free-runnable (λ c. false) d (λ c. refl) ∙ sym (free-runnable (is_held S H) d none)) ∙ first in
+    let alike : find (is_runnable (λ c. false) true) (units_left S H) ≡ Some todo =
+    find-alike (is_runnable (λ c. false) true) (is_runnable (is_held S H) true) (units_left S H) (λ i d there. free-runnable (λ c. false) d (λ c. refl) ∙ sym (free-runnable (is_held S H) d none)) ∙ first in
     let here : first_runnable (λ c. false) true S (Done todo.token (Fetch b) ∷ H) ≡ Some todo = ap (find (is_runnable (λ c. false) true)) (pending-fetch S H todo.token b is legal may) ∙ alike in
     next-runnable S (Done todo.token (Fetch b) ∷ H) (λ c. false) is legal' (λ c. refl) ∙ (ap (option_map (turn_of_todo (Done todo.token (Fetch b) ∷ H))) here
     ∙ ap (λ (c : Command). Some (record { token = todo.token; command = c })) (fetched-command H todo.token todo.kind todo.task b fetch))

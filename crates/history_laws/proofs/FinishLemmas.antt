@@ -14,11 +14,11 @@ use Rattle.history.specs.declared.entry.Command.{Command}
 use Rattle.history.specs.declared.entry.Entry.{Entry}
 use Rattle.history.specs.declared.entry.Entry.TheVariants.{Accept, Done}
 use Rattle.history.specs.Setup.{Setup, IsSetup}
-use Rattle.history.specs.Tokens.{Request, accepted, request, is_flush, from_of, until_of}
+use Rattle.history.specs.Tokens.{Request, token_count, request, is_flush, from_of, until_of}
 use Rattle.history.specs.Commands.{is_transfer, done_commands, has_done}
 use Rattle.history.specs.Marks.{first_from, status_if, is_complete, is_outstanding, IsOutstanding}
 use Rattle.history.specs.Rules.{MayFollow, IsLegal}
-use Rattle.history.specs.Tasks.{Task, Moves, Syncs, tasks_of, is_finished, Todo, todo_of, todo_before, pending}
+use Rattle.history.specs.Tasks.{Task, Moves, Syncs, tasks_of, is_finished, Todo, todo_of, todo_before, units_left}
 use Rattle.history.specs.Next.{first_open}
 use Rattle.history_laws.specs.Told.{concerns}
 use Rattle.history_laws.specs.Units.{IsUnitCommand}
@@ -50,7 +50,7 @@ none-left S H t (task ∷ tasks) none all =
 
 -- a new token has all units of its request left
 pub todo-new : (S : Setup) (H : List Entry) (tag : ℕ) (view : View) (asked : Asked) (bytes : List ℕ) → IsSetup S → IsLegal S (Accept tag view asked bytes ∷ H)
-    → todo_of S (Accept tag view asked bytes ∷ H) (accepted H) ≡ todos_of S (accepted H) (record { tag = tag; view = view; asked = asked; bytes = bytes })
+    → todo_of S (Accept tag view asked bytes ∷ H) (token_count H) ≡ todos_of S (token_count H) (record { tag = tag; view = view; asked = asked; bytes = bytes })
 unfolding IsLegal
 todo-new S H tag view asked bytes is (legal, may) = by (cases_Bool (is_outstanding S H' t))
   where
@@ -58,7 +58,7 @@ todo-new S H tag view asked bytes is (legal, may) = by (cases_Bool (is_outstandi
     H' = Accept tag view asked bytes ∷ H
 
     t : ℕ
-    t = accepted H
+    t = token_count H
 
     r : Request
     r = record { tag = tag; view = view; asked = asked; bytes = bytes }
@@ -85,11 +85,11 @@ todo-new S H tag view asked bytes is (legal, may) = by (cases_Bool (is_outstandi
         todo-closed S H' t closed ∙ sym (ap (map (todo_at t r)) empty)
 
 -- and the older ones have what they had
-before-accept : (S : Setup) (H : List Entry) (tag : ℕ) (view : View) (asked : Asked) (bytes : List ℕ) → todo_before S (Accept tag view asked bytes ∷ H) (accepted H) ≡ todo_before S H (accepted H)
+before-accept : (S : Setup) (H : List Entry) (tag : ℕ) (view : View) (asked : Asked) (bytes : List ℕ) → todo_before S (Accept tag view asked bytes ∷ H) (token_count H) ≡ todo_before S H (token_count H)
 before-accept S H tag view asked bytes =
-    before-keeps S H e (accepted H) (omega arith)
-    ∙ filter-everything (is_todo S (e ∷ H)) (todo_before S H (accepted H)) (λ k todo there.
-    let (below, (r, is)) = before-is S H (accepted H) k todo there in
+    before-keeps S H e (token_count H) (omega arith)
+    ∙ filter-everything (is_todo S (e ∷ H)) (todo_before S H (token_count H)) (λ k todo there.
+    let (below, (r, is)) = before-is S H (token_count H) k todo there in
     let quiet : concerns H e todo.token ≡ false = accept-concerns H tag view asked bytes todo.token (λ same. absurd (omega (arith, same, below))) in
     todo-stays S H e todo r is (mark-other S H e todo.token quiet ∙ is.outstanding.unmarked) (done_commands-other S H e todo.token quiet))
   where
@@ -102,11 +102,11 @@ before-last S H n = refl
 
 -- an accept adds the units of its request at the end
 pub pending-accept : (S : Setup) (H : List Entry) (tag : ℕ) (view : View) (asked : Asked) (bytes : List ℕ) → IsSetup S → IsLegal S (Accept tag view asked bytes ∷ H)
-    → pending S (Accept tag view asked bytes ∷ H) ≡ pending S H ++ todos_of S (accepted H) (record { tag = tag; view = view; asked = asked; bytes = bytes })
+    → units_left S (Accept tag view asked bytes ∷ H) ≡ units_left S H ++ todos_of S (token_count H) (record { tag = tag; view = view; asked = asked; bytes = bytes })
 pending-accept S H tag view asked bytes is legal =
     let e : Entry = Accept tag view asked bytes in
-    let more : accepted (e ∷ H) ≡ suc (accepted H) = (let plus : accepted (e ∷ H) ≡ accepted H + 1 = accepted-more H e refl in omega (arith, plus)) in
-    rw more (before-last S (e ∷ H) (accepted H) ∙ rw (before-accept S H tag view asked bytes, todo-new S H tag view asked bytes is legal))
+    let more : token_count (e ∷ H) ≡ suc (token_count H) = (let plus : token_count (e ∷ H) ≡ token_count H + 1 = accepted-more H e refl in omega (arith, plus)) in
+    rw more (before-last S (e ∷ H) (token_count H) ∙ rw (before-accept S H tag view asked bytes, todo-new S H tag view asked bytes is legal))
 
 -- a unit of the range that begins at the first byte of another is that one
 pub same-low : (S : Setup) (r : Request) (u v : Span) → IsSetup S → IsUnit S.geometry (from_of S r) (until_of S r) u → IsUnit S.geometry (from_of S r) (until_of S r) v → is_within u v.low ≡ nat_eq v.low u.low
@@ -179,28 +179,28 @@ finish-test S H t c q u todo r is (legal, may) named of transfer left = by (case
 
 -- a done command that finishes a unit takes that unit away, and no other
 pub pending-finish : (S : Setup) (H : List Entry) (t : ℕ) (c : Command) (r : Request) (u : Span) → IsSetup S → IsLegal S (Done t c ∷ H) → request H t ≡ Some r → IsUnitCommand S r c u → is_transfer c ≡ true
-    → pending S (Done t c ∷ H) ≡ filter (λ todo. not (is_todo_of t u todo)) (pending S H)
+    → units_left S (Done t c ∷ H) ≡ filter (λ todo. not (is_todo_of t u todo)) (units_left S H)
 pending-finish S H t c r u is legal named of transfer =
     pending-keeps S H (Done t c) refl
-    ∙ filter-alike (is_todo S (Done t c ∷ H)) (λ todo. not (is_todo_of t u todo)) (pending S H) (λ k todo there. let (q, left) = pending-is S H k todo there in finish-test S H t c r u todo q is legal named of transfer left)
+    ∙ filter-alike (is_todo S (Done t c ∷ H)) (λ todo. not (is_todo_of t u todo)) (units_left S H) (λ k todo there. let (q, left) = pending-is S H k todo there in finish-test S H t c r u todo q is legal named of transfer left)
 
 -- no unit is left exactly where no token is open
-pub pending-none : (S : Setup) (H : List Entry) → IsSetup S → IsLegal S H → first_open S H ≡ None → pending S H ≡ []
+pub pending-none : (S : Setup) (H : List Entry) → IsSetup S → IsLegal S H → first_open S H ≡ None → units_left S H ≡ []
 unfolding first_open
-pending-none S H is legal none = by (agrees-before S H (λ todo. true) (accepted H) is legal (λ todo. refl))
+pending-none S H is legal none = by (agrees-before S H (λ todo. true) (token_count H) is legal (λ todo. refl))
   where
     empty : (todos : List Todo) → find (λ todo. true) todos ≡ None → todos ≡ []
     empty [] e = refl
     empty (todo ∷ todos) e = cc
 
-    by : Agrees S H (λ todo. true) (first_from (is_outstanding S H) 0 (accepted H)) (find (λ todo. true) (pending S H)) → pending S H ≡ []
-    by (inl (first, nothing)) = empty (pending S H) nothing
+    by : Agrees S H (λ todo. true) (first_from (is_outstanding S H) 0 (token_count H)) (find (λ todo. true) (units_left S H)) → units_left S H ≡ []
+    by (inl (first, nothing)) = empty (units_left S H) nothing
     by (inr (t, todo, first, found, same)) = let no_way : None ≡ Some t = sym none ∙ first in cc
 
-pub pending-open : (S : Setup) (H : List Entry) → IsSetup S → IsLegal S H → pending S H ≡ [] → first_open S H ≡ None
+pub pending-open : (S : Setup) (H : List Entry) → IsSetup S → IsLegal S H → units_left S H ≡ [] → first_open S H ≡ None
 unfolding first_open
-pending-open S H is legal none = by (agrees-before S H (λ todo. true) (accepted H) is legal (λ todo. refl))
+pending-open S H is legal none = by (agrees-before S H (λ todo. true) (token_count H) is legal (λ todo. refl))
   where
-    by : Agrees S H (λ todo. true) (first_from (is_outstanding S H) 0 (accepted H)) (find (λ todo. true) (pending S H)) → first_from (is_outstanding S H) 0 (accepted H) ≡ None
+    by : Agrees S H (λ todo. true) (first_from (is_outstanding S H) 0 (token_count H)) (find (λ todo. true) (units_left S H)) → first_from (is_outstanding S H) 0 (token_count H) ≡ None
     by (inl (first, nothing)) = first
     by (inr (t, todo, first, found, same)) = let no_way : find (λ todo. true) [] ≡ Some todo = rw none at found in cc

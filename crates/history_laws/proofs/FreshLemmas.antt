@@ -7,8 +7,8 @@ use Rattle.history.specs.Marks.{Holds, IsOutstanding, fetches}
 use Rattle.history.specs.Room.{owed_entries, tokens_owed}
 use Rattle.history.specs.Rules.{IsLegal}
 use Rattle.history.specs.Setup.{Setup, first_of}
-use Rattle.history.specs.Tasks.{pending, todo_before}
-use Rattle.history.specs.Tokens.{accepted}
+use Rattle.history.specs.Tasks.{units_left, todo_before}
+use Rattle.history.specs.Tokens.{token_count}
 use Rattle.history_laws.proofs.CountLemmas.{accepted-none}
 
 unpatched : (told : Option (List ℕ)) → option_map (patch_all []) told ≡ told
@@ -53,11 +53,11 @@ unfolding fetches
 fetches-none = refl
 
 -- no unit is left
-pub fresh-queue : (S : Setup) → pending S [] ≡ []
-unfolding todo_before accepted
+pub fresh-queue : (S : Setup) → units_left S [] ≡ []
+unfolding todo_before token_count
 fresh-queue S = refl
 
 -- and the media that may come are owed
 pub fresh-owed : (S : Setup) (n : ℕ) → length S.media ≡ n → owed_entries S [] ≤ 2 * n - 1
-unfolding owed_entries tokens_owed accepted ejects inserts
+unfolding owed_entries tokens_owed token_count ejects inserts
 fresh-owed S n is = rw is (omega arith)

@@ -10,7 +10,7 @@ use Rattle.history.specs.declared.entry.Command.TheVariants.{Fetch, Store}
 use Rattle.history.specs.declared.entry.Entry.{Entry}
 use Rattle.history.specs.declared.entry.Entry.TheVariants.{Accept, Done}
 use Rattle.history.specs.Setup.{Setup, IsSetup}
-use Rattle.history.specs.Tokens.{Request, accepted, request, changes_bytes, is_flush, from_of, until_of}
+use Rattle.history.specs.Tokens.{Request, token_count, request, changes_bytes, is_flush, from_of, until_of}
 use Rattle.history.specs.Commands.{is_fetch, is_store, is_transfer, is_at, done_commands, has_done, is_moved}
 use Rattle.history.specs.Marks.{first_from, mark_of, is_outstanding, IsOutstanding, was_fetched, was_stored, Holds, is_holder, is_held, status_if, is_complete, all_from}
 use Rattle.history.specs.Rules.{HasPart, IsUnheld, MayCommand, MayFollow, IsLegal}
@@ -56,7 +56,7 @@ fetch-is b c at = cc
 -- a holder held before, or has just fetched the group
 pub holds-before : (S : Setup) (H : List Entry) (e : Entry) (t b : ℕ) → IsLegal S H → Holds S (e ∷ H) t b → Holds S H t b ⊎ (e ≡ Done t (Fetch b))
 holds-before S H (Done u c) t b legal holds =
-    let token : t < accepted H = omega (arith, holds.outstanding.token, accepted-same H (Done u c) refl) in
+    let token : t < token_count H = omega (arith, holds.outstanding.token, accepted-same H (Done u c) refl) in
     let open_ : IsOutstanding S H t = record { token = token; unmarked = mark-before S H (Done u c) t holds.outstanding.unmarked } in
     elim (cases_eq u t) [
       | inr other ↦
@@ -75,7 +75,7 @@ holds-before S H (Done u c) t b legal holds =
           ]
     ]
 holds-before S H (Accept tag view asked bytes) t b legal holds =
-    elim (cases_eq t (accepted H)) [
+    elim (cases_eq t (token_count H)) [
       | inr old ↦
           inl (record {
             outstanding = record { token = omega (arith, old, holds.outstanding.token, accepted-more H (Accept tag view asked bytes) refl); unmarked = mark-before S H (Accept tag view asked bytes) t holds.outstanding.unmarked };
@@ -105,7 +105,7 @@ fetched-unheld S H e t u b is now may holds = fetch-unheld S H t u b is (rw now 
 -- at most one token holds a group
 pub one-holder : (S : Setup) (H : List Entry) (t u b : ℕ) → IsSetup S → IsLegal S H → Holds S H t b → Holds S H u b → t ≡ u
 unfolding IsLegal
-one-holder S [] t u b is legal first second = let no_token : t < accepted [] = first.outstanding.token in absurd (omega (arith, no_token, accepted-none))
+one-holder S [] t u b is legal first second = let no_token : t < token_count [] = first.outstanding.token in absurd (omega (arith, no_token, accepted-none))
 one-holder S (e ∷ H) t u b is (legal, may) first second =
     by (holds-before S H e t b legal first) (holds-before S H e u b legal second) (one-holder S H t u b is legal)
   where
@@ -130,24 +130,24 @@ holder-from S H t b is =
 -- a block is held where a token holds its group
 pub held-holder : (S : Setup) (H : List Entry) (b : ℕ) → is_held S H b ≡ true → (t : ℕ) × Holds S H t (group_start S.geometry b)
 unfolding is_held
-held-holder S H b held = by (first_from (is_holder S H (group_start S.geometry b)) 0 (accepted H)) refl held
+held-holder S H b held = by (first_from (is_holder S H (group_start S.geometry b)) 0 (token_count H)) refl held
   where
-    by : (o : Option ℕ) → first_from (is_holder S H (group_start S.geometry b)) 0 (accepted H) ≡ o → is_some o ≡ true → (t : ℕ) × Holds S H t (group_start S.geometry b)
+    by : (o : Option ℕ) → first_from (is_holder S H (group_start S.geometry b)) 0 (token_count H) ≡ o → is_some o ≡ true → (t : ℕ) × Holds S H t (group_start S.geometry b)
     by None is some = cc
     by (Some t) is some =
-        let (lo, hi, here, before) = first_from-some (is_holder S H (group_start S.geometry b)) 0 (accepted H) t is in
+        let (lo, hi, here, before) = first_from-some (is_holder S H (group_start S.geometry b)) 0 (token_count H) t is in
         (t, holder-from S H t (group_start S.geometry b) here)
 
 -- and only there
 pub holder-held : (S : Setup) (H : List Entry) (t b : ℕ) → Holds S H t (group_start S.geometry b) → is_held S H b ≡ true
 unfolding is_held
-holder-held S H t b holds = by (first_from (is_holder S H (group_start S.geometry b)) 0 (accepted H)) refl
+holder-held S H t b holds = by (first_from (is_holder S H (group_start S.geometry b)) 0 (token_count H)) refl
   where
-    by : (o : Option ℕ) → first_from (is_holder S H (group_start S.geometry b)) 0 (accepted H) ≡ o → is_some o ≡ true
+    by : (o : Option ℕ) → first_from (is_holder S H (group_start S.geometry b)) 0 (token_count H) ≡ o → is_some o ≡ true
     by (Some u) is = refl
     by None is =
         absurd (both_ways (is_holder S H (group_start S.geometry b) t)
-        (first_from-fails (is_holder S H (group_start S.geometry b)) 0 (accepted H) t is (omega arith) (omega (arith, holds.outstanding.token))) (holder-test S H t (group_start S.geometry b) holds))
+        (first_from-fails (is_holder S H (group_start S.geometry b)) 0 (token_count H) t is (omega arith) (omega (arith, holds.outstanding.token))) (holder-test S H t (group_start S.geometry b) holds))
 
 -- a block that is not held is free for every command
 pub unheld-from : (S : Setup) (H : List Entry) (b : ℕ) → is_held S H b ≡ false → IsUnheld S H b

@@ -3,15 +3,15 @@ use Rattle.std.proofs.Common.{◌≡◌, ℕ, ◌<◌, ◌≤◌, false, List, [
 use Rattle.std.proofs.lemmas.Bool.{or_parts, false_from_ne_true, both_ways}
 use Rattle.history.specs.declared.entry.Entry.{Entry}
 use Rattle.history.specs.Setup.{Setup}
-use Rattle.history.specs.Tokens.{accepted, request, is_collect_of, was_collected}
+use Rattle.history.specs.Tokens.{token_count, request, is_collect_of, was_collected}
 use Rattle.history.specs.Commands.{moves, is_moved}
 use Rattle.history_laws.proofs.EndLemmas.{accepted-rises}
 use Rattle.history_laws.proofs.TokenLemmas.{request-kept, has_done-stays}
 
 -- what a history with more entries still says of a token
 pub record Later (S : Setup) (H H' : List Entry) (t x : ℕ) : Type 0 where
-  pub tokens : accepted H ≤ accepted H'
-  pub named : t < accepted H → request H' t ≡ request H t
+  pub tokens : token_count H ≤ token_count H'
+  pub named : t < token_count H → request H' t ≡ request H t
   pub unmoved : is_moved S H' t x ≡ false → is_moved S H t x ≡ false
   pub uncollected : was_collected H' t ≡ false → was_collected H t ≡ false
 

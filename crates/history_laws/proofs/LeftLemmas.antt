@@ -12,7 +12,7 @@ use Rattle.history.specs.Commands.{is_moved, is_sync, is_transfer}
 use Rattle.history.specs.Marks.{IsOutstanding, is_complete, is_outstanding, mark_of, status_if}
 use Rattle.history.specs.Rules.{IsLegal}
 use Rattle.history.specs.Setup.{IsSetup, Setup, size_of}
-use Rattle.history.specs.Tasks.{Moves, Syncs, Task, Todo, is_finished, pending, tasks_of}
+use Rattle.history.specs.Tasks.{Moves, Syncs, Task, Todo, is_finished, units_left, tasks_of}
 use Rattle.history.specs.Tokens.{Request, from_of, is_flush, request, until_of}
 use Rattle.history.specs.declared.entry.Command.{Command}
 use Rattle.history.specs.declared.entry.Command.TheVariants.{Sync}
@@ -200,10 +200,10 @@ left-test S H t c r task todo q is legal open_ finishes left = by (cases_eq todo
 
 -- the unit is taken away, and no other
 pub pending-finished : (S : Setup) (H : List Entry) (t : ℕ) (c : Command) (r : Request) (task : Task) → IsSetup S → IsLegal S (Done t c ∷ H) → IsOutstanding S H t → FinishesTask S H t c r task
-    → pending S (Done t c ∷ H) ≡ filter (λ todo. not (is_here t task todo)) (pending S H)
+    → units_left S (Done t c ∷ H) ≡ filter (λ todo. not (is_here t task todo)) (units_left S H)
 pending-finished S H t c r task is legal open_ finishes =
     pending-keeps S H (Done t c) refl
-    ∙ filter-alike (is_todo S (Done t c ∷ H)) (λ todo. not (is_here t task todo)) (pending S H) (λ k todo there.
+    ∙ filter-alike (is_todo S (Done t c ∷ H)) (λ todo. not (is_here t task todo)) (units_left S H) (λ k todo there.
     let left = pending-is S H k todo there in left-test S H t c r task todo left.0 is legal open_ finishes left.1)
 
 -- an entry that does not concern the token leaves what is left of it

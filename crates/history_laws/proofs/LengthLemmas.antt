@@ -5,7 +5,7 @@ use Rattle.history.specs.declared.entry.Entry.{Entry}
 use Rattle.history.specs.declared.entry.Entry.TheVariants.{Accept, Done, Fault, Eject, Insert}
 use Rattle.history.specs.Setup.{Setup}
 use Rattle.history.specs.Eras.{ejects, inserts, is_command}
-use Rattle.history.specs.Tokens.{accepted}
+use Rattle.history.specs.Tokens.{token_count}
 use Rattle.history.specs.Marks.{is_fetch_entry, fetches}
 use Rattle.history.specs.Room.{commands}
 use Rattle.history.specs.Rules.{MayFollow, IsLegal}
@@ -13,7 +13,7 @@ use Rattle.history_laws.proofs.CountLemmas.{count-less, commands-none, accepted-
 use Rattle.history_laws.proofs.EndLemmas.{command-open}
 
 -- accepts, commands, ejections and insertions are no more than the entries together
-pub counts-together : (H : List Entry) → accepted H + (commands H + (ejects H + inserts H)) ≤ length H
+pub counts-together : (H : List Entry) → token_count H + (commands H + (ejects H + inserts H)) ≤ length H
 counts-together [] = omega (arith, accepted-none, commands-none, ejects-none, inserts-none)
 counts-together (Accept a b c d ∷ H) =
     let e : Entry = Accept a b c d in
@@ -43,7 +43,7 @@ fetches-few H = count-less is_fetch_entry is_command H by
     by e is = cc
 
 -- a legal history with a command has accepted a request
-pub commands-after-accept : (S : Setup) (H : List Entry) → IsLegal S H → 0 < commands H → 0 < accepted H
+pub commands-after-accept : (S : Setup) (H : List Entry) → IsLegal S H → 0 < commands H → 0 < token_count H
 unfolding IsLegal MayFollow
 commands-after-accept S [] legal some = absurd (omega (arith, some, commands-none))
 commands-after-accept S (Done t c ∷ H) (legal, may) some = omega (arith, (command-open S H t c may).token, accepted-same H (Done t c) refl)

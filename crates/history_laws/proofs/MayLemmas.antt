@@ -13,7 +13,7 @@ use Rattle.history.specs.Tokens.{Request, request, is_read, is_write, is_flush, 
 use Rattle.history.specs.Commands.{is_store, is_put, is_get, is_wipe, is_transfer, is_at, has_done, is_moved}
 use Rattle.history.specs.Marks.{all_from, was_fetched, Holds, is_held, IsOutstanding}
 use Rattle.history.specs.Rules.{IsOpen, IsUnheld, MayCommand, IsLegal}
-use Rattle.history.specs.Tasks.{Task, Moves, Syncs, tasks_of, is_finished, Todo, is_task_clear, is_runnable, pending, first_runnable, span_command, task_command}
+use Rattle.history.specs.Tasks.{Task, Moves, Syncs, tasks_of, is_finished, Todo, is_task_clear, is_runnable, units_left, first_runnable, span_command, task_command}
 use Rattle.history_laws.proofs.ScanLemmas.{all_from-each}
 use Rattle.history_laws.proofs.UnitLemmas.{unmoved-undone, store-transfers, put-transfers, get-transfers, wipe-transfers}
 use Rattle.history_laws.proofs.TaskLemmas.{task-unit, task-sync, task-moving}
@@ -86,6 +86,6 @@ left-may S H free todo r is legal pending_ clear = rw pending_.kind (by todo.tas
 pub runnable-may : (S : Setup) (H : List Entry) (free : Bool) (todo : Todo) → IsSetup S → IsLegal S H → first_runnable (is_held S H) free S H ≡ Some todo → MayCommand S H todo.token (task_command H todo.token todo.kind todo.task)
 unfolding first_runnable
 runnable-may S H free todo is legal first =
-    let (k, there, clear, before) = find-some (is_runnable (is_held S H) free) (pending S H) todo first in
+    let (k, there, clear, before) = find-some (is_runnable (is_held S H) free) (units_left S H) todo first in
     let (r, left) = pending-is S H k todo there in
     left-may S H free todo r is legal left clear

@@ -13,7 +13,7 @@ use Rattle.history.specs.declared.entry.Entry.{Entry}
 use Rattle.history.specs.declared.entry.Entry.TheVariants.{Accept, Eject, Insert}
 use Rattle.history.specs.Setup.{Setup, size_of, blocks_of}
 use Rattle.history.specs.Eras.{is_eject, is_insert, media_id_of, is_present, is_protected}
-use Rattle.history.specs.Tokens.{Request, accepted, request, request_bytes, bytes_to_put, is_flush, changes_bytes, offset}
+use Rattle.history.specs.Tokens.{Request, token_count, request, request_bytes, bytes_to_put, is_flush, changes_bytes, offset}
 use Rattle.history.specs.Marks.{mark_of, ending, IsOutstanding}
 use Rattle.history.specs.Rules.{is_ragged, is_outside, range_refusal, refusal_of, IsPayload, MayAccept, MayFollow, IsLegal}
 use Rattle.history_laws.specs.Ranges.{IsInView}
@@ -62,11 +62,11 @@ range-inside S H view asked unrefused =
 pub accepted-at : (S : Setup) (H : List Entry) (t : ℕ) (r : Request) → IsLegal S H → request H t ≡ Some r → (before : List Entry) × IsLegal S before × MayAccept S before r.view r.asked r.bytes
 unfolding IsLegal MayFollow request
 accepted-at S [] t r legal named = cc
-accepted-at S (Accept tag view asked bytes ∷ H) t r (legal, may) named = elim (cases_eq t (accepted H)) [
+accepted-at S (Accept tag view asked bytes ∷ H) t r (legal, may) named = elim (cases_eq t (token_count H)) [
   | inl new ↦
-      let same : record { tag = tag; view = view; asked = asked; bytes = bytes } ≡ r = same_Some _ r (rw (new, eq-eqb (accepted H) (accepted H) refl) at named) in
+      let same : record { tag = tag; view = view; asked = asked; bytes = bytes } ≡ r = same_Some _ r (rw (new, eq-eqb (token_count H) (token_count H) refl) at named) in
       (H, legal, subst (λ (s : Request). MayAccept S H s.view s.asked s.bytes) same may)
-  | inr old ↦ accepted-at S H t r legal (rw (ne_eqb t (accepted H) old) at named)
+  | inr old ↦ accepted-at S H t r legal (rw (ne_eqb t (token_count H) old) at named)
 ]
 accepted-at S (e ∷ H) t r (legal, may) named = accepted-at S H t r legal named
 
@@ -98,9 +98,9 @@ pub media-id-same : (H : List Entry) (e : Entry) → is_insert e ≡ false → m
 media-id-same H e same = rw (inserts-same H e same)
 
 -- an ejection ends each open token
-pub eject-ends : (S : Setup) (H : List Entry) (tag t : ℕ) → t < accepted H → mark_of S H t ≡ None → mark_of S (Eject tag ∷ H) t ≡ None → ⊥
+pub eject-ends : (S : Setup) (H : List Entry) (tag t : ℕ) → t < token_count H → mark_of S H t ≡ None → mark_of S (Eject tag ∷ H) t ≡ None → ⊥
 unfolding ending
-eject-ends S H tag t token unmarked still = clash (sym (mark-next S H (Eject tag) t unmarked ∙ rw (lt-ltb t (accepted H) token)) ∙ still)
+eject-ends S H tag t token unmarked still = clash (sym (mark-next S H (Eject tag) t unmarked ∙ rw (lt-ltb t (token_count H) token)) ∙ still)
   where
     clash : Some NoMedia ≡ None → ⊥
     clash e = cc
@@ -111,17 +111,17 @@ unfolding IsLegal MayFollow request
 open-media S [] t r legal open_ named = cc
 open-media S (Accept tag view asked bytes ∷ H) t r (legal, may) open_ named =
     rw (present-same H (Accept tag view asked bytes) refl refl, media-id-same H (Accept tag view asked bytes) refl)
-    (elim (cases_eq t (accepted H)) [
+    (elim (cases_eq t (token_count H)) [
       | inl new ↦
-          let same : record { tag = tag; view = view; asked = asked; bytes = bytes } ≡ r = same_Some _ r (rw (new, eq-eqb (accepted H) (accepted H) refl) at named) in
+          let same : record { tag = tag; view = view; asked = asked; bytes = bytes } ≡ r = same_Some _ r (rw (new, eq-eqb (token_count H) (token_count H) refl) at named) in
           let is : IsAdmitted S H view asked view.media_id = admitted S H view asked view.media_id may.unrefused in
           (is.present, ap (λ (s : Request). s.view.media_id) (sym same) ∙ is.viewed)
       | inr old ↦
           open-media S H t r legal (record { token = omega (arith, old, open_.token, accepted-more H (Accept tag view asked bytes) refl); unmarked = mark-before S H (Accept tag view asked bytes) t open_.unmarked })
-          (rw (ne_eqb t (accepted H) old) at named)
+          (rw (ne_eqb t (token_count H) old) at named)
     ])
 open-media S (Eject tag ∷ H) t r (legal, may) open_ named =
-    let token : t < accepted H = omega (arith, open_.token, accepted-same H (Eject tag) refl) in
+    let token : t < token_count H = omega (arith, open_.token, accepted-same H (Eject tag) refl) in
     absurd (eject-ends S H tag t token (mark-before S H (Eject tag) t open_.unmarked) open_.unmarked)
 open-media S (Insert tag k ∷ H) t r (legal, may) open_ named =
     let before : IsOutstanding S H t = record { token = omega (arith, open_.token, accepted-same H (Insert tag k) refl); unmarked = mark-before S H (Insert tag k) t open_.unmarked } in

@@ -4,7 +4,7 @@ use Rattle.std.proofs.lemmas.Bool.{cases_Bool, lt-ltb, ltb-true, and_parts, and_
 use Rattle.efi_status.specs.declared.Status.{Status}
 use Rattle.history.specs.declared.entry.Entry.{Entry}
 use Rattle.history.specs.Setup.{Setup}
-use Rattle.history.specs.Tokens.{Request, accepted, request}
+use Rattle.history.specs.Tokens.{Request, token_count, request}
 use Rattle.history.specs.Marks.{mark_of, is_outstanding, IsOutstanding}
 use Rattle.history.specs.Tasks.{Task, tasks_of, is_finished, task_command}
 use Rattle.history.specs.Next.{first_open, next_task, next_turn}
@@ -12,7 +12,7 @@ use Rattle.history_laws.proofs.ScanLemmas.{first_from-none, first_from-some, fir
 
 -- the test for an open token
 pub outstanding-test : (S : Setup) (H : List Entry) (t : ℕ) → IsOutstanding S H t → is_outstanding S H t ≡ true
-outstanding-test S H t open_ = and_from (nat_lt t (accepted H)) (is_none (mark_of S H t)) (lt-ltb t (accepted H) open_.token) (ap is_none open_.unmarked)
+outstanding-test S H t open_ = and_from (nat_lt t (token_count H)) (is_none (mark_of S H t)) (lt-ltb t (token_count H) open_.token) (ap is_none open_.unmarked)
 
 none-is : (m : Option Status) → is_none m ≡ true → m ≡ None
 none-is None is = refl
@@ -20,33 +20,33 @@ none-is (Some status) is = cc
 
 pub outstanding-from : (S : Setup) (H : List Entry) (t : ℕ) → is_outstanding S H t ≡ true → IsOutstanding S H t
 outstanding-from S H t is =
-    let parts : (nat_lt t (accepted H) ≡ true) × (is_none (mark_of S H t) ≡ true) = and_parts (nat_lt t (accepted H)) (is_none (mark_of S H t)) is in
-    record { token = ltb-true t (accepted H) parts.0; unmarked = none-is (mark_of S H t) parts.1 }
+    let parts : (nat_lt t (token_count H) ≡ true) × (is_none (mark_of S H t) ≡ true) = and_parts (nat_lt t (token_count H)) (is_none (mark_of S H t)) is in
+    record { token = ltb-true t (token_count H) parts.0; unmarked = none-is (mark_of S H t) parts.1 }
 
 pub ended-test : (S : Setup) (H : List Entry) (t : ℕ) → mark_of S H t ≢ None → is_outstanding S H t ≡ false
-ended-test S H t ended = and_right (nat_lt t (accepted H)) (is_none (mark_of S H t)) (by (mark_of S H t) ended)
+ended-test S H t ended = and_right (nat_lt t (token_count H)) (is_none (mark_of S H t)) (by (mark_of S H t) ended)
   where
     by : (m : Option Status) → m ≢ None → is_none m ≡ false
     by None ne = absurd (ne refl)
     by (Some status) ne = refl
 
 -- none where all have ended
-pub first-open-none : (S : Setup) (H : List Entry) → ((u : ℕ) → u < accepted H → mark_of S H u ≢ None) → first_open S H ≡ None
+pub first-open-none : (S : Setup) (H : List Entry) → ((u : ℕ) → u < token_count H → mark_of S H u ≢ None) → first_open S H ≡ None
 unfolding first_open
-first-open-none S H ended = first_from-none (is_outstanding S H) 0 (accepted H) (λ u lo hi. ended-test S H u (ended u (omega arith)))
+first-open-none S H ended = first_from-none (is_outstanding S H) 0 (token_count H) (λ u lo hi. ended-test S H u (ended u (omega arith)))
 
 -- the first open token is open, and each before it has ended
 pub first-open-some : (S : Setup) (H : List Entry) (t : ℕ) → first_open S H ≡ Some t → IsOutstanding S H t × ((u : ℕ) → u < t → is_outstanding S H u ≡ false)
 unfolding first_open
 first-open-some S H t is =
-    let (lo, hi, open_, before) = first_from-some (is_outstanding S H) 0 (accepted H) t is in
+    let (lo, hi, open_, before) = first_from-some (is_outstanding S H) 0 (token_count H) t is in
     (outstanding-from S H t open_, λ u below. before u (omega arith) below)
 
 -- where there is none, no token is open
 pub first-open-fails : (S : Setup) (H : List Entry) (t : ℕ) → first_open S H ≡ None → IsOutstanding S H t → ⊥
 unfolding first_open
 first-open-fails S H t none open_ =
-    let no_way : true ≡ false = sym (outstanding-test S H t open_) ∙ first_from-fails (is_outstanding S H) 0 (accepted H) t none (omega arith) (omega (arith, open_.token)) in
+    let no_way : true ≡ false = sym (outstanding-test S H t open_) ∙ first_from-fails (is_outstanding S H) 0 (token_count H) t none (omega arith) (omega (arith, open_.token)) in
     absurd (clash no_way)
   where
     clash : true ≡ false → ⊥

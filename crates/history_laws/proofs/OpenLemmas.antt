@@ -8,8 +8,8 @@ use Rattle.history.specs.Marks.{IsOutstanding, is_held}
 use Rattle.history.specs.Next.{next_task}
 use Rattle.history.specs.Rules.{IsLegal, MayCommand}
 use Rattle.history.specs.Setup.{IsSetup, Setup}
-use Rattle.history.specs.Tasks.{Todo, is_finished, is_runnable, pending, task_command, tasks_of, todo_before, todo_of}
-use Rattle.history.specs.Tokens.{Request, accepted}
+use Rattle.history.specs.Tasks.{Todo, is_finished, is_runnable, units_left, task_command, tasks_of, todo_before, todo_of}
+use Rattle.history.specs.Tokens.{Request, token_count}
 use Rattle.history.specs.declared.entry.Entry.{Entry}
 use Rattle.history_laws.proofs.NextLemmas.{outstanding-test}
 use Rattle.history_laws.proofs.PendingLemmas.{IsPending, todo-open}
@@ -50,8 +50,8 @@ open-before S H t (suc n) is legal open_now below =
     ]
 
 -- an open token has a unit
-pub open-pending : (S : Setup) (H : List Entry) (t : ℕ) → IsSetup S → IsLegal S H → IsOutstanding S H t → list_any (λ todo. nat_eq t todo.token) (pending S H) ≡ true
-open-pending S H t is legal open_now = open-before S H t (accepted H) is legal open_now open_now.token
+pub open-pending : (S : Setup) (H : List Entry) (t : ℕ) → IsSetup S → IsLegal S H → IsOutstanding S H t → list_any (λ todo. nat_eq t todo.token) (units_left S H) ≡ true
+open-pending S H t is legal open_now = open-before S H t (token_count H) is legal open_now open_now.token
 
 -- a unit that is left, and its command may be made
 pub record IsNext (S : Setup) (H : List Entry) (free : Bool) (todo : Todo) (r : Request) : Type 0 where

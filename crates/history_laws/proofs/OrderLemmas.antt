@@ -7,9 +7,9 @@ use Rattle.disk_split.proofs.Tiling.{tile-units}
 use Rattle.disk_split.proofs.Tiled.{tile-within}
 use Rattle.history.specs.declared.entry.Entry.{Entry}
 use Rattle.history.specs.Setup.{Setup, IsSetup}
-use Rattle.history.specs.Tokens.{Request, accepted, is_flush, from_of, until_of}
+use Rattle.history.specs.Tokens.{Request, token_count, is_flush, from_of, until_of}
 use Rattle.history.specs.Marks.{is_outstanding, IsOutstanding}
-use Rattle.history.specs.Tasks.{Task, Moves, Syncs, tasks_of, is_finished, todo_of, todo_before, pending}
+use Rattle.history.specs.Tasks.{Task, Moves, Syncs, tasks_of, is_finished, todo_of, todo_before, units_left}
 use Rattle.history_laws.specs.Pending.{todo_at, task_low, IsBefore, Ordered}
 use Rattle.history_laws.proofs.TokenLemmas.{request-some}
 use Rattle.history_laws.proofs.NextLemmas.{outstanding-from}
@@ -86,5 +86,5 @@ before-ordered S H (suc n) is =
     inl (omega (arith, below, same)))
 
 -- the units that are left stand in the order of their tokens, and those of one token in the order of their bytes
-pub pending-ordered : (S : Setup) (H : List Entry) → IsSetup S → Ordered IsBefore (pending S H)
-pending-ordered S H is = before-ordered S H (accepted H) is
+pub pending-ordered : (S : Setup) (H : List Entry) → IsSetup S → Ordered IsBefore (units_left S H)
+pending-ordered S H is = before-ordered S H (token_count H) is

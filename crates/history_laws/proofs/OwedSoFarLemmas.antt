@@ -4,7 +4,7 @@ use Rattle.std.proofs.lemmas.Bool.{cases_eq}
 use Rattle.efi_status.specs.declared.Status.{Status}
 use Rattle.history.specs.declared.entry.Entry.{Entry}
 use Rattle.history.specs.Setup.{Setup}
-use Rattle.history.specs.Tokens.{Request, accepted, request, was_collected}
+use Rattle.history.specs.Tokens.{Request, token_count, request, was_collected}
 use Rattle.history.specs.Marks.{mark_of}
 use Rattle.history.specs.Room.{commands_owed, owed_by, token_owed, tokens_owed, media_owed}
 use Rattle.history_laws.specs.OwedSoFar.{token_owed_so_far, tokens_owed_so_far, owed_so_far}
@@ -69,5 +69,5 @@ module _ (S : Setup) (H : List Entry) (e : Entry) (is : IsEnding S H e) where
       omega arith)
 
   -- as long as no end has come to the parts the tokens owe what they did
-  pub owed-before : owed_so_far S (e ∷ H) (mark_of S H) ≡ tokens_owed S H (accepted H) + media_owed S (e ∷ H)
-  owed-before = rw (accepted-same H e is.adds_none, tokens-before (accepted H)) refl
+  pub owed-before : owed_so_far S (e ∷ H) (mark_of S H) ≡ tokens_owed S H (token_count H) + media_owed S (e ∷ H)
+  owed-before = rw (accepted-same H e is.adds_none, tokens-before (token_count H)) refl

@@ -10,8 +10,8 @@ use Rattle.history.specs.Marks.{is_outstanding, mark_of}
 use Rattle.history.specs.Room.{commands_owed, owed_by, part_owed, span_owed, task_owed}
 use Rattle.history.specs.Rules.{IsLegal, MayFollow}
 use Rattle.history.specs.Setup.{IsSetup, Setup}
-use Rattle.history.specs.Tasks.{Moves, Syncs, Task, Todo, is_finished, pending, tasks_of, todo_before, todo_of}
-use Rattle.history.specs.Tokens.{Request, accepted, is_flush, request, was_collected}
+use Rattle.history.specs.Tasks.{Moves, Syncs, Task, Todo, is_finished, units_left, tasks_of, todo_before, todo_of}
+use Rattle.history.specs.Tokens.{Request, token_count, is_flush, request, was_collected}
 use Rattle.history.specs.declared.entry.Command.{Command}
 use Rattle.history.specs.declared.entry.Entry.{Entry}
 use Rattle.history.specs.declared.entry.Entry.TheVariants.{Collect}
@@ -91,8 +91,8 @@ before-few S H t (suc n) =
     ])
 
 -- the units of a token that are left are no more than the commands that it owes
-pub units-few : (S : Setup) (H : List Entry) (t : ℕ) (r : Request) → IsSetup S → IsLegal S H → request H t ≡ Some r → count_by (λ todo. nat_eq t todo.token) (pending S H) ≤ commands_owed S H t r
-units-few S H t r is legal named = let few = before-few S H t (accepted H) in let owe = todos-few S H t r is legal named in omega arith
+pub units-few : (S : Setup) (H : List Entry) (t : ℕ) (r : Request) → IsSetup S → IsLegal S H → request H t ≡ Some r → count_by (λ todo. nat_eq t todo.token) (units_left S H) ≤ commands_owed S H t r
+units-few S H t r is legal named = let few = before-few S H t (token_count H) in let owe = todos-few S H t r is legal named in omega arith
 
 -- only an ended token is handed back
 pub open-kept : (S : Setup) (H : List Entry) (t : ℕ) → IsLegal S H → mark_of S H t ≡ None → was_collected H t ≡ false

@@ -11,11 +11,11 @@ use Rattle.history.specs.declared.entry.Command.TheVariants.{Fetch}
 use Rattle.history.specs.declared.entry.Entry.{Entry}
 use Rattle.history.specs.declared.entry.Entry.TheVariants.{Refuse, Done, Collect, Insert}
 use Rattle.history.specs.Setup.{Setup, IsSetup}
-use Rattle.history.specs.Tokens.{Request, is_accept, accepted, request}
+use Rattle.history.specs.Tokens.{Request, is_accept, token_count, request}
 use Rattle.history.specs.Commands.{is_transfer, is_sync, moves, done_commands, has_done}
 use Rattle.history.specs.Marks.{mark_of, ending, is_outstanding, IsOutstanding}
 use Rattle.history.specs.Rules.{MayCommand, IsLegal}
-use Rattle.history.specs.Tasks.{Task, Moves, Syncs, tasks_of, is_finished, Todo, todo_of, todo_before, pending}
+use Rattle.history.specs.Tasks.{Task, Moves, Syncs, tasks_of, is_finished, Todo, todo_of, todo_before, units_left}
 use Rattle.history_laws.specs.Told.{concerns}
 use Rattle.history_laws.specs.Pending.{is_todo, todo_at}
 use Rattle.history_laws.proofs.CountLemmas.{accepted-more, accepted-same}
@@ -51,10 +51,10 @@ filter-alike test other [] same = refl
 filter-alike test other (x ∷ xs) same = rw (same 0 x refl, filter-alike test other xs (λ k y there. same (suc k) y there))
 
 -- a token that is open after an entry was open before it
-pub open-before : (S : Setup) (H : List Entry) (e : Entry) (t : ℕ) → t ≢ accepted H → IsOutstanding S (e ∷ H) t → IsOutstanding S H t
+pub open-before : (S : Setup) (H : List Entry) (e : Entry) (t : ℕ) → t ≢ token_count H → IsOutstanding S (e ∷ H) t → IsOutstanding S H t
 open-before S H e t old open_ = record { token = by (cases_Bool (is_accept e)); unmarked = mark-before S H e t open_.unmarked }
   where
-    by : (is_accept e ≡ true) ⊎ (is_accept e ≡ false) → t < accepted H
+    by : (is_accept e ≡ true) ⊎ (is_accept e ≡ false) → t < token_count H
     by (inl is) = omega (arith, old, open_.token, accepted-more H e is)
     by (inr isnt) = omega (arith, open_.token, accepted-same H e isnt)
 
@@ -67,13 +67,13 @@ unfolding todo_of
 todo-open S H t r open_ named = rw (open_, named)
 
 -- an entry leaves those units of an older token that are still to do
-pub todo-keeps : (S : Setup) (H : List Entry) (e : Entry) (t : ℕ) → t < accepted H → todo_of S (e ∷ H) t ≡ filter (is_todo S (e ∷ H)) (todo_of S H t)
+pub todo-keeps : (S : Setup) (H : List Entry) (e : Entry) (t : ℕ) → t < token_count H → todo_of S (e ∷ H) t ≡ filter (is_todo S (e ∷ H)) (todo_of S H t)
 todo-keeps S H e t token =
-    let old : t ≢ accepted H = (λ same. absurd (omega (arith, same))) in
+    let old : t ≢ token_count H = (λ same. absurd (omega (arith, same))) in
     let (r, named) = request-some H t token in
     by r named (request-kept H e t old ∙ named) old (cases_Bool (is_outstanding S H t)) (cases_Bool (is_outstanding S (e ∷ H) t))
   where
-    by : (r : Request) → request H t ≡ Some r → request (e ∷ H) t ≡ Some r → t ≢ accepted H → (is_outstanding S H t ≡ true) ⊎ (is_outstanding S H t ≡ false)
+    by : (r : Request) → request H t ≡ Some r → request (e ∷ H) t ≡ Some r → t ≢ token_count H → (is_outstanding S H t ≡ true) ⊎ (is_outstanding S H t ≡ false)
         → (is_outstanding S (e ∷ H) t ≡ true) ⊎ (is_outstanding S (e ∷ H) t ≡ false) → todo_of S (e ∷ H) t ≡ filter (is_todo S (e ∷ H)) (todo_of S H t)
     by r named named' old (inr closed) (inr closed') = rw (todo-closed S H t closed, todo-closed S (e ∷ H) t closed')
     by r named named' old (inr closed) (inl open_) = absurd (both_ways (is_outstanding S H t) closed (outstanding-test S H t (open-before S H e t old (outstanding-from S (e ∷ H) t open_))))
@@ -88,15 +88,15 @@ todo-keeps S H e t token =
         (λ task. ap (λ b. b && not (is_finished S (e ∷ H) t task)) open_')
         ))
 
-pub before-keeps : (S : Setup) (H : List Entry) (e : Entry) (n : ℕ) → n ≤ accepted H → todo_before S (e ∷ H) n ≡ filter (is_todo S (e ∷ H)) (todo_before S H n)
+pub before-keeps : (S : Setup) (H : List Entry) (e : Entry) (n : ℕ) → n ≤ token_count H → todo_before S (e ∷ H) n ≡ filter (is_todo S (e ∷ H)) (todo_before S H n)
 unfolding todo_before
 before-keeps S H e zero within = refl
 before-keeps S H e (suc n) within =
     rw (before-keeps S H e n (omega arith), todo-keeps S H e n (omega arith)) (sym (filter-append (is_todo S (e ∷ H)) (todo_before S H n) (todo_of S H n)))
 
 -- an entry that is no accept leaves the units that are still to do
-pub pending-keeps : (S : Setup) (H : List Entry) (e : Entry) → is_accept e ≡ false → pending S (e ∷ H) ≡ filter (is_todo S (e ∷ H)) (pending S H)
-pending-keeps S H e old = rw (accepted-same H e old) (before-keeps S H e (accepted H) (omega arith))
+pub pending-keeps : (S : Setup) (H : List Entry) (e : Entry) → is_accept e ≡ false → units_left S (e ∷ H) ≡ filter (is_todo S (e ∷ H)) (units_left S H)
+pending-keeps S H e old = rw (accepted-same H e old) (before-keeps S H e (token_count H) (omega arith))
 
 -- what is told of a unit in the list
 pub record IsPending (S : Setup) (H : List Entry) (todo : Todo) (r : Request) : Type 0 where
@@ -152,8 +152,8 @@ before-is S H (suc n) k todo there = elim (get-appended (todo_before S H n) (tod
 ]
 
 -- each unit in the list is of an open token, one of its request's, and not finished
-pub pending-is : (S : Setup) (H : List Entry) (k : ℕ) (todo : Todo) → slice_get (pending S H) k ≡ Some todo → (r : Request) × IsPending S H todo r
-pending-is S H k todo there = (before-is S H (accepted H) k todo there).1
+pub pending-is : (S : Setup) (H : List Entry) (k : ℕ) (todo : Todo) → slice_get (units_left S H) k ≡ Some todo → (r : Request) × IsPending S H todo r
+pending-is S H k todo there = (before-is S H (token_count H) k todo there).1
 
 -- histories that tell the same done commands of a token tell the same of its units
 pub finished-same : (S : Setup) (H H' : List Entry) (t : ℕ) (task : Task) → done_commands H' t ≡ done_commands H t → is_finished S H' t task ≡ is_finished S H t task
@@ -166,9 +166,9 @@ unfolding mark_of ending
 mark-collect S H tag u t = or_else-none (mark_of S H t)
 
 -- an entry that ends no open token and finishes no unit of one leaves the list
-pub pending-same : (S : Setup) (H : List Entry) (e : Entry) → is_accept e ≡ false → ((todo : Todo) (r : Request) → IsPending S H todo r → is_todo S (e ∷ H) todo ≡ true) → pending S (e ∷ H) ≡ pending S H
+pub pending-same : (S : Setup) (H : List Entry) (e : Entry) → is_accept e ≡ false → ((todo : Todo) (r : Request) → IsPending S H todo r → is_todo S (e ∷ H) todo ≡ true) → units_left S (e ∷ H) ≡ units_left S H
 pending-same S H e old stays =
-    pending-keeps S H e old ∙ filter-everything (is_todo S (e ∷ H)) (pending S H) (λ k todo there. let (r, is) = pending-is S H k todo there in stays todo r is)
+    pending-keeps S H e old ∙ filter-everything (is_todo S (e ∷ H)) (units_left S H) (λ k todo there. let (r, is) = pending-is S H k todo there in stays todo r is)
 
 -- a unit stays to do where its token stays open and no command of it was done
 pub todo-stays : (S : Setup) (H : List Entry) (e : Entry) (todo : Todo) (r : Request) → IsPending S H todo r → mark_of S (e ∷ H) todo.token ≡ None → done_commands (e ∷ H) todo.token ≡ done_commands H todo.token → is_todo S (e ∷ H) todo ≡ true
@@ -177,21 +177,21 @@ todo-stays S H e todo r is unmarked same =
     and_from (is_outstanding S (e ∷ H) todo.token) (not (is_finished S (e ∷ H) todo.token todo.task)) (outstanding-test S (e ∷ H) todo.token open_)
     (not_from_false (is_finished S (e ∷ H) todo.token todo.task) (finished-same S H (e ∷ H) todo.token todo.task same ∙ is.unfinished))
 
-pub pending-refuse : (S : Setup) (H : List Entry) (tag : ℕ) (view : View) (asked : Asked) (media_id : ℕ) (status : Status) → pending S (Refuse tag view asked media_id status ∷ H) ≡ pending S H
+pub pending-refuse : (S : Setup) (H : List Entry) (tag : ℕ) (view : View) (asked : Asked) (media_id : ℕ) (status : Status) → units_left S (Refuse tag view asked media_id status ∷ H) ≡ units_left S H
 pending-refuse S H tag view asked media_id status =
     let e : Entry = Refuse tag view asked media_id status in
     pending-same S H e refl (λ todo r is. todo-stays S H e todo r is (mark-other S H e todo.token refl ∙ is.outstanding.unmarked) (done_commands-same H e todo.token refl))
 
-pub pending-collect : (S : Setup) (H : List Entry) (tag t : ℕ) → pending S (Collect tag t ∷ H) ≡ pending S H
+pub pending-collect : (S : Setup) (H : List Entry) (tag t : ℕ) → units_left S (Collect tag t ∷ H) ≡ units_left S H
 pending-collect S H tag t =
     pending-same S H (Collect tag t) refl (λ todo r is. todo-stays S H (Collect tag t) todo r is (mark-collect S H tag t todo.token ∙ is.outstanding.unmarked) (done_commands-same H (Collect tag t) todo.token refl))
 
-pub pending-insert : (S : Setup) (H : List Entry) (tag k : ℕ) → pending S (Insert tag k ∷ H) ≡ pending S H
+pub pending-insert : (S : Setup) (H : List Entry) (tag k : ℕ) → units_left S (Insert tag k ∷ H) ≡ units_left S H
 pending-insert S H tag k =
     pending-same S H (Insert tag k) refl (λ todo r is. todo-stays S H (Insert tag k) todo r is (mark-other S H (Insert tag k) todo.token refl ∙ is.outstanding.unmarked) (done_commands-same H (Insert tag k) todo.token refl))
 
 -- a done command that moves nothing and leaves its token open leaves the list, so a fetch does
-pub pending-still : (S : Setup) (H : List Entry) (t : ℕ) (c : Command) → is_transfer c ≡ false → is_sync c ≡ false → (mark_of S H t ≡ None → mark_of S (Done t c ∷ H) t ≡ None) → pending S (Done t c ∷ H) ≡ pending S H
+pub pending-still : (S : Setup) (H : List Entry) (t : ℕ) (c : Command) → is_transfer c ≡ false → is_sync c ≡ false → (mark_of S H t ≡ None → mark_of S (Done t c ∷ H) t ≡ None) → units_left S (Done t c ∷ H) ≡ units_left S H
 pending-still S H t c none unsynced open_ = pending-same S H (Done t c) refl (λ todo r is. by todo r is (cases_eq t todo.token))
   where
     still : (task : Task) → is_finished S (Done t c ∷ H) t task ≡ is_finished S H t task
@@ -208,5 +208,5 @@ pending-still S H t c none unsynced open_ = pending-same S H (Done t c) refl (λ
         let unfinished : is_finished S (Done t c ∷ H) t todo.task ≡ false = still todo.task ∙ rw same is.unfinished in
         rw (← same) (and_from (is_outstanding S (Done t c ∷ H) t) (not (is_finished S (Done t c ∷ H) t todo.task)) (outstanding-test S (Done t c ∷ H) t open_now) (not_from_false (is_finished S (Done t c ∷ H) t todo.task) unfinished))
 
-pub pending-fetch : (S : Setup) (H : List Entry) (t b : ℕ) → IsSetup S → IsLegal S H → MayCommand S H t (Fetch b) → pending S (Done t (Fetch b) ∷ H) ≡ pending S H
+pub pending-fetch : (S : Setup) (H : List Entry) (t b : ℕ) → IsSetup S → IsLegal S H → MayCommand S H t (Fetch b) → units_left S (Done t (Fetch b) ∷ H) ≡ units_left S H
 pending-fetch S H t b is legal may = pending-still S H t (Fetch b) refl refl (λ open_. (fetch-holds S H t b is legal may).outstanding.unmarked)

@@ -7,7 +7,7 @@ use Rattle.disk_split.specs.Units.{units_of}
 use Rattle.history.specs.declared.entry.Entry.{Entry}
 use Rattle.history.specs.declared.entry.Entry.TheVariants.{Collect}
 use Rattle.history.specs.Setup.{Setup}
-use Rattle.history.specs.Tokens.{Request, accepted, request, was_collected, is_flush, from_of, until_of}
+use Rattle.history.specs.Tokens.{Request, token_count, request, was_collected, is_flush, from_of, until_of}
 use Rattle.history.specs.Marks.{IsOutstanding, mark_of, ending, first_from, is_outstanding}
 use Rattle.history.specs.Tasks.{Task, Moves, Syncs, tasks_of, task_command}
 use Rattle.history.specs.Next.{first_open, next_task, Turn, turn_of_request, turn_of_token, next_turn, Outcome, Made, Failed, entry_of}
@@ -93,7 +93,7 @@ pub turn-concerns : (H : List Entry) (turn : Turn) (outcome : Outcome) (u : ℕ)
 turn-concerns H turn Made u other = done-concerns H turn.token u turn.command other
 turn-concerns H turn (Failed done) u other = fault-concerns H turn.token u turn.command done other
 
-pub turn-accepted : (H : List Entry) (turn : Turn) (outcome : Outcome) → accepted (entry_of turn outcome ∷ H) ≡ accepted H
+pub turn-accepted : (H : List Entry) (turn : Turn) (outcome : Outcome) → token_count (entry_of turn outcome ∷ H) ≡ token_count H
 turn-accepted H turn Made = accepted-same H (entry_of turn Made) refl
 turn-accepted H turn (Failed done) = accepted-same H (entry_of turn (Failed done)) refl
 
@@ -121,4 +121,4 @@ pub first-open-collect : (S : Setup) (H : List Entry) (tag t : ℕ) → first_op
 unfolding first_open
 first-open-collect S H tag t =
     rw (accepted-same H (Collect tag t) refl)
-    (first-same (is_outstanding S (Collect tag t ∷ H)) (is_outstanding S H) 0 (accepted H) (λ u. rw (accepted-same H (Collect tag t) refl, mark-collect S H tag t u)))
+    (first-same (is_outstanding S (Collect tag t ∷ H)) (is_outstanding S H) 0 (token_count H) (λ u. rw (accepted-same H (Collect tag t) refl, mark-collect S H tag t u)))

@@ -14,7 +14,7 @@ use Rattle.history.specs.declared.entry.Command.{Command}
 use Rattle.history.specs.declared.entry.Entry.{Entry}
 use Rattle.history.specs.declared.entry.Entry.TheVariants.{Accept, Done, Fault}
 use Rattle.history.specs.Setup.{Setup, IsSetup}
-use Rattle.history.specs.Tokens.{Request, accepted, request, was_collected, is_flush, from_of, until_of}
+use Rattle.history.specs.Tokens.{Request, token_count, request, was_collected, is_flush, from_of, until_of}
 use Rattle.history.specs.Commands.{done_commands, has_done, is_sync}
 use Rattle.history.specs.Marks.{IsOutstanding, mark_of, ending, or_else}
 use Rattle.history.specs.Rules.{MayCommand, MayFollow, IsLegal}
@@ -57,7 +57,7 @@ one-most false = omega arith
 pub commands-within : (S : Setup) (H : List Entry) (t : ℕ) (r : Request) → IsSetup S → IsLegal S H → request H t ≡ Some r
     → commands_of H t + while_open (mark_of S H t) (commands_owed S H t r) ≤ commands_owed S [] t r
 unfolding IsLegal MayFollow
-commands-within S [] t r is legal named = let no_token : t < accepted [] = request-accepted [] t r named in absurd (omega (arith, no_token, accepted-none))
+commands-within S [] t r is legal named = let no_token : t < token_count [] = request-accepted [] t r named in absurd (omega (arith, no_token, accepted-none))
 commands-within S (Done u c ∷ H) t r is (legal, may) named =
     let before : request H t ≡ Some r = sym (request-same H (Done u c) t refl) ∙ named in
     let within : commands_of H t + while_open (mark_of S H t) (commands_owed S H t r) ≤ commands_owed S [] t r = commands-within S H t r is legal before in
@@ -82,7 +82,7 @@ commands-within S (Fault u c done ∷ H) t r is (legal, may) named =
           rw same (omega (arith, within, ended, was, command-lowers S H t c r is legal before own, commands_of-more H (Fault t c done) t (eq-eqb t t refl)))
       | inr other ↦ omega (arith, within, open-stays S H (Fault u c done) t r, commands_of-same H (Fault u c done) t (ne_eqb u t other))
     ]
-commands-within S (Accept tag view asked bytes ∷ H) t r is (legal, may) named = elim (cases_eq t (accepted H)) [
+commands-within S (Accept tag view asked bytes ∷ H) t r is (legal, may) named = elim (cases_eq t (token_count H)) [
   | inl new ↦
       let none : commands_of H t ≡ 0 = untold-commands S H t (unaccepted S H t legal (omega (arith, new))) in
       let empty : done_commands (Accept tag view asked bytes ∷ H) t ≡ done_commands [] t = done_commands-same H (Accept tag view asked bytes) t refl ∙ (untold-done S H t (unaccepted S H t legal (omega (arith, new))) ∙ sym (done_commands-none t)) in
@@ -230,7 +230,7 @@ command-owed S H t c is legal may =
     omega (arith, command-lowers S H t c r is legal named may, open-owed S H t r named token.unmarked)
 
 -- an entry that ends an open token takes at least one from it, and two where a command may be made for it
-pub end-owed : (S : Setup) (H : List Entry) (e : Entry) (t : ℕ) (status : Status) → t < accepted H → mark_of S H t ≡ None → mark_of S (e ∷ H) t ≡ Some status → token_owed S (e ∷ H) t + 1 ≤ token_owed S H t
+pub end-owed : (S : Setup) (H : List Entry) (e : Entry) (t : ℕ) (status : Status) → t < token_count H → mark_of S H t ≡ None → mark_of S (e ∷ H) t ≡ Some status → token_owed S (e ∷ H) t + 1 ≤ token_owed S H t
 end-owed S H e t status token unmarked marked =
     let (r, named) = open-request S H t (record { token = token; unmarked = unmarked }) in
     omega (arith, open-owed S H t r named unmarked, ended-owed-most S (e ∷ H) t status marked)

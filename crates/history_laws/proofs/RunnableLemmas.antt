@@ -8,10 +8,10 @@ use Rattle.disk_split.specs.declared.span.Span.{Span}
 use Rattle.history.specs.declared.entry.Kind.{Kind}
 use Rattle.history.specs.declared.entry.Entry.{Entry}
 use Rattle.history.specs.Setup.{Setup, IsSetup}
-use Rattle.history.specs.Tokens.{Request, accepted, request, changes_bytes}
+use Rattle.history.specs.Tokens.{Request, token_count, request, changes_bytes}
 use Rattle.history.specs.Marks.{all_from, first_from, is_outstanding, IsOutstanding}
 use Rattle.history.specs.Rules.{IsLegal}
-use Rattle.history.specs.Tasks.{Task, Moves, Syncs, tasks_of, is_finished, Todo, todo_of, todo_before, pending, is_clear, is_task_clear, is_runnable, first_runnable}
+use Rattle.history.specs.Tasks.{Task, Moves, Syncs, tasks_of, is_finished, Todo, todo_of, todo_before, units_left, is_clear, is_task_clear, is_runnable, first_runnable}
 use Rattle.history.specs.Next.{first_open, next_task, turn_of_token, next_turn}
 use Rattle.history_laws.specs.Turns.{turn_of_todo}
 use Rattle.history_laws.proofs.TokenLemmas.{request-some}
@@ -106,9 +106,9 @@ agrees-before S H test (suc n) is legal all =
 pub next-runnable : (S : Setup) (H : List Entry) (held : ℕ → Bool) → IsSetup S → IsLegal S H → ((b : ℕ) → held b ≡ false) → next_turn S H ≡ option_map (turn_of_todo H) (first_runnable held true S H)
 unfolding next_turn first_open first_runnable
 next-runnable S H held is legal free =
-    by (agrees-before S H (is_runnable held true) (accepted H) is legal (λ d. free-runnable held d free))
+    by (agrees-before S H (is_runnable held true) (token_count H) is legal (λ d. free-runnable held d free))
   where
-    by : Agrees S H (is_runnable held true) (first_from (is_outstanding S H) 0 (accepted H)) (find (is_runnable held true) (pending S H))
-        → turn_of_token S H (first_from (is_outstanding S H) 0 (accepted H)) ≡ option_map (turn_of_todo H) (find (is_runnable held true) (pending S H))
+    by : Agrees S H (is_runnable held true) (first_from (is_outstanding S H) 0 (token_count H)) (find (is_runnable held true) (units_left S H))
+        → turn_of_token S H (first_from (is_outstanding S H) 0 (token_count H)) ≡ option_map (turn_of_todo H) (find (is_runnable held true) (units_left S H))
     by (inl (first, todo)) = rw (first, todo)
     by (inr (t, d, first, todo, same)) = rw (first, todo) same

@@ -9,7 +9,7 @@ use Rattle.history.specs.declared.entry.Entry.{Entry}
 use Rattle.history.specs.declared.entry.Entry.TheVariants.{Done}
 use Rattle.history.specs.Setup.{Setup, IsSetup}
 use Rattle.history.specs.Eras.{inserts, is_insert}
-use Rattle.history.specs.Tokens.{Request, accepted, request, was_collected}
+use Rattle.history.specs.Tokens.{Request, token_count, request, was_collected}
 use Rattle.history.specs.Commands.{is_fetch}
 use Rattle.history.specs.Marks.{IsOutstanding, ending, is_complete, mark_of, status_if}
 use Rattle.history.specs.Rules.{MayFollow, IsLegal}
@@ -39,7 +39,7 @@ module _ (S : Setup) (t : ℕ) where
       by turn Made = refl
       by turn (Failed done) = refl
 
-  pub while-accepted : (H cs : List Entry) → AreWhileOpen S H t cs → accepted (cs ++ H) ≡ accepted H
+  pub while-accepted : (H cs : List Entry) → AreWhileOpen S H t cs → token_count (cs ++ H) ≡ token_count H
   unfolding AreWhileOpen
   while-accepted H [] all = refl
   while-accepted H (e ∷ cs) (next, all) = rw next.entry (turn-accepted (cs ++ H) next.turn next.outcome ∙ while-accepted H cs all)

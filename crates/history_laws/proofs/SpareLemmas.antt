@@ -10,7 +10,7 @@ use Rattle.history.specs.declared.entry.Entry.{Entry}
 use Rattle.history.specs.declared.entry.Entry.TheVariants.{Accept, Refuse, Done, Fault, Collect, Cancel, Reset, Eject, Insert}
 use Rattle.history.specs.Setup.{Setup, IsSetup}
 use Rattle.history.specs.Eras.{ejects, inserts, is_eject, is_insert, media_id_of}
-use Rattle.history.specs.Tokens.{Request, is_accept, accepted, request, is_collect_of, was_collected}
+use Rattle.history.specs.Tokens.{Request, is_accept, token_count, request, is_collect_of, was_collected}
 use Rattle.history.specs.Marks.{IsOutstanding, mark_of, ending, or_else, is_same_view}
 use Rattle.history.specs.Rules.{MayCommand, MayFollow, IsLegal}
 use Rattle.history.specs.Room.{commands_owed, owed_by, token_owed, tokens_owed, media_owed, owed_entries}
@@ -33,15 +33,15 @@ owed_by-less S H H' t (Some r) (Some status) later false true stays less = omega
 owed_by-less S H H' t (Some r) (Some status) later false false stays less = omega arith
 
 -- no entry makes an accepted token owe more
-pub owed-stays : (S : Setup) (H : List Entry) (e : Entry) (t : ℕ) → t < accepted H → token_owed S (e ∷ H) t ≤ token_owed S H t
+pub owed-stays : (S : Setup) (H : List Entry) (e : Entry) (t : ℕ) → t < token_count H → token_owed S (e ∷ H) t ≤ token_owed S H t
 unfolding token_owed mark_of
 owed-stays S H e t token =
     rw (request-kept H e t (λ same. absurd (omega (arith, same))))
     (owed_by-less S H (e ∷ H) t (request H t) (mark_of S H t) (ending S H e t) (was_collected H t) (was_collected (e ∷ H) t) (collected-stays H e t) (commands-stay S H e t))
 
 -- an ended token was accepted
-pub marked-accepted : (S : Setup) (H : List Entry) (t : ℕ) (status : Status) → IsLegal S H → mark_of S H t ≡ Some status → t < accepted H
-marked-accepted S H t status legal marked = elim (cases_lt t (accepted H)) [
+pub marked-accepted : (S : Setup) (H : List Entry) (t : ℕ) (status : Status) → IsLegal S H → mark_of S H t ≡ Some status → t < token_count H
+marked-accepted S H t status legal marked = elim (cases_lt t (token_count H)) [
   | inl token ↦ token
   | inr past ↦ let unmarked : mark_of S H t ≡ None = untold-mark S H t (unaccepted S H t legal past) in absurd (some-none status (sym marked ∙ unmarked))
 ]
@@ -71,11 +71,11 @@ pub media-same : (S : Setup) (H : List Entry) (e : Entry) → is_eject e ≡ fal
 media-same S H e stays same = rw (ejects-same H e stays, inserts-same H e same)
 
 -- one token's entry takes so many
-one-token : (S : Setup) (H : List Entry) (e : Entry) (t paid : ℕ) → is_accept e ≡ false → is_eject e ≡ false → is_insert e ≡ false → t < accepted H → token_owed S (e ∷ H) t + paid ≤ token_owed S H t
+one-token : (S : Setup) (H : List Entry) (e : Entry) (t paid : ℕ) → is_accept e ≡ false → is_eject e ≡ false → is_insert e ≡ false → t < token_count H → token_owed S (e ∷ H) t + paid ≤ token_owed S H t
     → owed_entries S (e ∷ H) + paid ≤ owed_entries S H
 unfolding owed_entries
 one-token S H e t paid old stays same token falls =
-    rw (accepted-same H e old, media-same S H e stays same) (omega (arith, tokens-fall S H (e ∷ H) (accepted H) t paid token falls (λ u below. owed-stays S H e u below)))
+    rw (accepted-same H e old, media-same S H e stays same) (omega (arith, tokens-fall S H (e ∷ H) (token_count H) t paid token falls (λ u below. owed-stays S H e u below)))
 
 -- a done command takes at least one entry
 pub entries-done : (S : Setup) (H : List Entry) (t : ℕ) (c : Command) → IsSetup S → IsLegal S H → MayCommand S H t c → owed_entries S (Done t c ∷ H) + 1 ≤ owed_entries S H
@@ -94,7 +94,7 @@ pub entries-collect : (S : Setup) (H : List Entry) (tag t : ℕ) → IsLegal S H
 unfolding MayFollow
 entries-collect S H tag t legal may = one-token S H (Collect tag t) t 1 refl refl refl (by (mark_of S H t) refl may.0) (omega (arith, collect-owed S H tag t legal may))
   where
-    by : (m : Option Status) → mark_of S H t ≡ m → is_some m ≡ true → t < accepted H
+    by : (m : Option Status) → mark_of S H t ≡ m → is_some m ≡ true → t < token_count H
     by None is some = cc
     by (Some status) is some = marked-accepted S H t status legal is
 
@@ -103,7 +103,7 @@ pub entries-refuse : (S : Setup) (H : List Entry) (tag : ℕ) (view : View) (ask
 unfolding owed_entries
 entries-refuse S H tag view asked media_id status =
     let e : Entry = Refuse tag view asked media_id status in
-    rw (accepted-same H e refl, media-same S H e refl refl, tokens-same S H (e ∷ H) (accepted H) (λ t below. owed-other S H e t refl))
+    rw (accepted-same H e refl, media-same S H e refl refl, tokens-same S H (e ∷ H) (token_count H) (λ t below. owed-other S H e t refl))
 
 tokens-last : (S : Setup) (H : List Entry) (n : ℕ) → tokens_owed S H (suc n) ≡ tokens_owed S H n + token_owed S H n
 unfolding tokens_owed
@@ -111,13 +111,13 @@ tokens-last S H n = refl
 
 -- an accept adds what its token owes
 pub entries-accept : (S : Setup) (H : List Entry) (tag : ℕ) (view : View) (asked : Asked) (bytes : List ℕ)
-    → owed_entries S (Accept tag view asked bytes ∷ H) ≡ owed_entries S H + token_owed S (Accept tag view asked bytes ∷ H) (accepted H)
+    → owed_entries S (Accept tag view asked bytes ∷ H) ≡ owed_entries S H + token_owed S (Accept tag view asked bytes ∷ H) (token_count H)
 unfolding owed_entries
 entries-accept S H tag view asked bytes =
     let e : Entry = Accept tag view asked bytes in
-    let older : tokens_owed S (e ∷ H) (accepted H) ≡ tokens_owed S H (accepted H) = tokens-same S H (e ∷ H) (accepted H) (λ t below. owed-other S H e t (accept-concerns H tag view asked bytes t (λ same. absurd (omega (arith, same))))) in
-    let more : accepted (e ∷ H) ≡ suc (accepted H) = (let plus : accepted (e ∷ H) ≡ accepted H + 1 = accepted-more H e refl in omega (arith, plus)) in
-    rw (more, media-same S H e refl refl) (omega (arith, tokens-last S (e ∷ H) (accepted H), older))
+    let older : tokens_owed S (e ∷ H) (token_count H) ≡ tokens_owed S H (token_count H) = tokens-same S H (e ∷ H) (token_count H) (λ t below. owed-other S H e t (accept-concerns H tag view asked bytes t (λ same. absurd (omega (arith, same))))) in
+    let more : token_count (e ∷ H) ≡ suc (token_count H) = (let plus : token_count (e ∷ H) ≡ token_count H + 1 = accepted-more H e refl in omega (arith, plus)) in
+    rw (more, media-same S H e refl refl) (omega (arith, tokens-last S (e ∷ H) (token_count H), older))
 
 -- an ending of tokens takes one for each of them, so at least one where a token is open that it ends
 pub entries-end : (S : Setup) (H : List Entry) (e : Entry) (t : ℕ) (status : Status) → is_accept e ≡ false → is_eject e ≡ false → is_insert e ≡ false → IsOutstanding S H t → ending S H e t ≡ Some status
@@ -134,7 +134,7 @@ entries-cancel S H tag view (t, r, open_, named, at) = entries-end S H (Cancel t
 
 pub entries-reset : (S : Setup) (H : List Entry) (tag : ℕ) → MayFollow S H (Reset tag) → owed_entries S (Reset tag ∷ H) + 1 ≤ owed_entries S H
 unfolding MayFollow ending
-entries-reset S H tag (t, open_) = entries-end S H (Reset tag) t Aborted refl refl refl open_ (rw (lt-ltb t (accepted H) open_.token))
+entries-reset S H tag (t, open_) = entries-end S H (Reset tag) t Aborted refl refl refl open_ (rw (lt-ltb t (token_count H) open_.token))
 
 ejects-rise : (H : List Entry) (e : Entry) → ejects H ≤ ejects (e ∷ H)
 ejects-rise H e = elim (cases_Bool (is_eject e)) [ inl is ↦ omega (arith, ejects-more H e is) | inr isnt ↦ omega (arith, ejects-same H e isnt) ]
@@ -147,7 +147,7 @@ pub entries-less : (S : Setup) (H : List Entry) (e : Entry) → is_accept e ≡ 
 unfolding owed_entries
 entries-less S H e old =
     rw (accepted-same H e old)
-    (omega (arith, tokens-less S H (e ∷ H) (accepted H) (λ t below. owed-stays S H e t below), ejects-rise H e, inserts-rise H e))
+    (omega (arith, tokens-less S H (e ∷ H) (token_count H) (λ t below. owed-stays S H e t below), ejects-rise H e, inserts-rise H e))
 
 -- media ids are those of media
 pub media-within : (S : Setup) (H : List Entry) → 1 ≤ length S.media → IsLegal S H → media_id_of H ≤ length S.media
@@ -162,14 +162,14 @@ unfolding MayFollow owed_entries
 entries-eject S H tag some legal present =
     let level : ejects H ≡ inserts H = eqb-true (ejects H) (inserts H) present in
     rw (accepted-same H (Eject tag) refl)
-    (omega (arith, level, media-within S H some legal, tokens-less S H (Eject tag ∷ H) (accepted H) (λ t below. owed-stays S H (Eject tag) t below), ejects-more H (Eject tag) refl, inserts-same H (Eject tag) refl))
+    (omega (arith, level, media-within S H some legal, tokens-less S H (Eject tag ∷ H) (token_count H) (λ t below. owed-stays S H (Eject tag) t below), ejects-more H (Eject tag) refl, inserts-same H (Eject tag) refl))
 
 -- so does an insertion
 pub entries-insert : (S : Setup) (H : List Entry) (tag k : ℕ) → MayFollow S H (Insert tag k) → owed_entries S (Insert tag k ∷ H) + 1 ≤ owed_entries S H
 unfolding MayFollow owed_entries
 entries-insert S H tag k (out, is, within) =
     rw (accepted-same H (Insert tag k) refl)
-    (omega (arith, tokens-less S H (Insert tag k ∷ H) (accepted H) (λ t below. owed-stays S H (Insert tag k) t below), ejects-same H (Insert tag k) refl, inserts-more H (Insert tag k) refl))
+    (omega (arith, tokens-less S H (Insert tag k ∷ H) (token_count H) (λ t below. owed-stays S H (Insert tag k) t below), ejects-same H (Insert tag k) refl, inserts-more H (Insert tag k) refl))
 
 -- every entry but an accept, a refusal and a change of protection takes at least one
 pub entries-owed : (S : Setup) (H : List Entry) (e : Entry) → IsSetup S → 1 ≤ length S.media → IsLegal S H → MayFollow S H e → is_owed e ≡ true → owed_entries S (e ∷ H) + 1 ≤ owed_entries S H
@@ -192,6 +192,6 @@ token-within S H (suc n) t lt = elim (cases_eq t n) [
 ]
 
 -- what a token owes is among the entries that are owed
-pub owed-within : (S : Setup) (H : List Entry) (t : ℕ) → t < accepted H → token_owed S H t ≤ owed_entries S H
+pub owed-within : (S : Setup) (H : List Entry) (t : ℕ) → t < token_count H → token_owed S H t ≤ owed_entries S H
 unfolding owed_entries
-owed-within S H t token = omega (arith, token-within S H (accepted H) t token)
+owed-within S H t token = omega (arith, token-within S H (token_count H) t token)

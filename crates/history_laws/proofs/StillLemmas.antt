@@ -3,7 +3,7 @@ use Rattle.history.specs.Contents.{contents}
 use Rattle.history.specs.Eras.{is_command, media_id_of}
 use Rattle.history.specs.Marks.{HoldsBy, IsOutstanding, fetches, mark_of, or_else}
 use Rattle.history.specs.Setup.{Setup}
-use Rattle.history.specs.Tokens.{Request, accepted}
+use Rattle.history.specs.Tokens.{Request, token_count}
 use Rattle.history.specs.declared.entry.Entry.{Entry}
 use Rattle.history_laws.proofs.ContentLemmas.{contents-same, piece-none}
 use Rattle.history_laws.proofs.CountLemmas.{accepted-same, fetches-same}
@@ -21,7 +21,7 @@ module _ (S : Setup) (H : List Entry) (e : Entry) (still : IsStill S H e) where
   unfolding mark_of
   mark-still t = ap (or_else (mark_of S H t)) (still.unending t) ∙ or_else-none (mark_of S H t)
 
-  pub accepted-still : accepted (e ∷ H) ≡ accepted H
+  pub accepted-still : token_count (e ∷ H) ≡ token_count H
   accepted-still = accepted-same H e still.adds_none
 
   pub fetches-still : fetches (e ∷ H) ≡ fetches H

@@ -5,7 +5,7 @@ use Rattle.efi_status.specs.declared.Status.TheVariants.{Success}
 use Rattle.history.specs.declared.entry.Entry.{Entry}
 use Rattle.history.specs.declared.entry.Entry.TheVariants.{Accept, Refuse, Done, Fault, Collect, Cancel, Reset, Eject, Insert, Protect}
 use Rattle.history.specs.Setup.{Setup}
-use Rattle.history.specs.Tokens.{Request, accepted, request, is_flush, from_of, until_of}
+use Rattle.history.specs.Tokens.{Request, token_count, request, is_flush, from_of, until_of}
 use Rattle.history.specs.Commands.{moves, is_moved}
 use Rattle.history.specs.Marks.{mark_of, ending, status_if, is_complete}
 use Rattle.history.specs.Rules.{IsLegal}
@@ -25,7 +25,7 @@ and-last false b is = cc
 -- the entry that ends a token with success completes it
 ends-complete : (S : Setup) (H : List Entry) (e : Entry) (t : ℕ) → ending S H e t ≡ Some Success → is_complete S (e ∷ H) t ≡ true
 unfolding ending
-ends-complete S H (Accept tag view asked bytes) t is = and-last (nat_eq t (accepted H)) (is_complete S (Accept tag view asked bytes ∷ H) t) (if-true _ Success is)
+ends-complete S H (Accept tag view asked bytes) t is = and-last (nat_eq t (token_count H)) (is_complete S (Accept tag view asked bytes ∷ H) t) (if-true _ Success is)
 ends-complete S H (Done u c) t is = and-last (nat_eq u t) (is_complete S (Done u c ∷ H) t) (if-true _ Success is)
 ends-complete S H (Fault u c n) t is = other (nat_eq u t) is
   where

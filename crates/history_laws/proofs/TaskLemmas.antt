@@ -14,7 +14,7 @@ use Rattle.history.specs.declared.entry.Command.{Command}
 use Rattle.history.specs.declared.entry.Entry.{Entry}
 use Rattle.history.specs.declared.entry.Entry.TheVariants.{Accept, Done}
 use Rattle.history.specs.Setup.{Setup, IsSetup}
-use Rattle.history.specs.Tokens.{Request, accepted, request, is_flush, from_of, until_of}
+use Rattle.history.specs.Tokens.{Request, token_count, request, is_flush, from_of, until_of}
 use Rattle.history.specs.Commands.{is_transfer, is_sync, moves, done_commands, has_done, is_moved}
 use Rattle.history.specs.Marks.{all_from, is_request_complete, is_complete, mark_of, status_if}
 use Rattle.history.specs.Rules.{IsLegal}
@@ -98,7 +98,7 @@ unfolding is_complete
 complete-same S H H' t named same = ap (is_request_complete S H' t) named ∙ request-complete-same S H H' t (request H t) same
 
 -- an entry that is no done command leaves what is complete of the tokens before it
-pub complete-kept : (S : Setup) (H : List Entry) (e : Entry) (t : ℕ) → is_done e ≡ false → t ≢ accepted H → is_complete S (e ∷ H) t ≡ is_complete S H t
+pub complete-kept : (S : Setup) (H : List Entry) (e : Entry) (t : ℕ) → is_done e ≡ false → t ≢ token_count H → is_complete S (e ∷ H) t ≡ is_complete S H t
 complete-kept S H e t isnt old = complete-same S H (e ∷ H) t (request-kept H e t old) (done_commands-same H e t isnt)
 
 -- so does a done command of another token
@@ -107,25 +107,25 @@ complete-done-other S H u t c other =
     complete-same S H (Done u c ∷ H) t (request-same H (Done u c) t refl) (done_commands-other S H (Done u c) t (done-concerns H u t c other))
 
 -- a token is open only where it is not complete
-pub open-incomplete : (S : Setup) (H : List Entry) (t : ℕ) → IsLegal S H → t < accepted H → mark_of S H t ≡ None → is_complete S H t ≡ false
+pub open-incomplete : (S : Setup) (H : List Entry) (t : ℕ) → IsLegal S H → t < token_count H → mark_of S H t ≡ None → is_complete S H t ≡ false
 unfolding IsLegal
 open-incomplete S [] t legal token unmarked = absurd (omega (arith, accepted-none))
-open-incomplete S (Accept tag view asked bytes ∷ H) t (legal, may) token unmarked = elim (cases_eq t (accepted H)) [
+open-incomplete S (Accept tag view asked bytes ∷ H) t (legal, may) token unmarked = elim (cases_eq t (token_count H)) [
   | inl new ↦
-      let own : mark_of S (Accept tag view asked bytes ∷ H) (accepted H) ≡ None = rw (← new) unmarked in
-      rw new (unended (is_complete S (Accept tag view asked bytes ∷ H) (accepted H)) (sym (mark-accept S H tag view asked bytes legal) ∙ own))
+      let own : mark_of S (Accept tag view asked bytes ∷ H) (token_count H) ≡ None = rw (← new) unmarked in
+      rw new (unended (is_complete S (Accept tag view asked bytes ∷ H) (token_count H)) (sym (mark-accept S H tag view asked bytes legal) ∙ own))
   | inr old ↦
-      let below : t < accepted H = omega (arith, old, accepted-more H (Accept tag view asked bytes) refl) in
+      let below : t < token_count H = omega (arith, old, accepted-more H (Accept tag view asked bytes) refl) in
       complete-kept S H (Accept tag view asked bytes) t refl old ∙ open-incomplete S H t legal below (mark-before S H (Accept tag view asked bytes) t unmarked)
 ]
 open-incomplete S (Done u c ∷ H) t (legal, may) token unmarked = elim (cases_eq u t) [
   | inl same ↦ unended (is_complete S (Done u c ∷ H) t) (sym (rw same (mark-done S H t c (mark-before S H (Done t c) t (rw same at unmarked)))) ∙ unmarked)
   | inr other ↦
-      let below : t < accepted H = omega (arith, accepted-same H (Done u c) refl) in
+      let below : t < token_count H = omega (arith, accepted-same H (Done u c) refl) in
       complete-done-other S H u t c other ∙ open-incomplete S H t legal below (mark-before S H (Done u c) t unmarked)
 ]
 open-incomplete S (e ∷ H) t (legal, may) token unmarked =
-    let below : t < accepted H = omega (arith, accepted-same H e refl) in
+    let below : t < token_count H = omega (arith, accepted-same H e refl) in
     complete-kept S H e t refl (λ same. absurd (omega (arith, same, below))) ∙ open-incomplete S H t legal below (mark-before S H e t unmarked)
 
 flush-one : (u : Span) (k : ℕ) → slice_get (Syncs ∷ []) k ≡ Some (Moves u) → ⊥

@@ -17,7 +17,7 @@ use Rattle.history.specs.declared.entry.Command.TheVariants.{Fetch, Store}
 use Rattle.history.specs.declared.entry.Entry.{Entry}
 use Rattle.history.specs.declared.entry.Entry.TheVariants.{Accept, Done, Fault}
 use Rattle.history.specs.Setup.{Setup, IsSetup}
-use Rattle.history.specs.Tokens.{Request, is_accept, accepted, request, is_flush, from_of, until_of}
+use Rattle.history.specs.Tokens.{Request, is_accept, token_count, request, is_flush, from_of, until_of}
 use Rattle.history.specs.Commands.{is_sync, moves, done_commands, has_done, is_moved}
 use Rattle.history.specs.Marks.{all_from, is_complete, ending, mark_of, status_if, was_fetched}
 use Rattle.history.specs.Rules.{IsLegal}
@@ -36,7 +36,7 @@ use Rattle.history_laws.proofs.UnitLemmas.{moves-alike, done-tasks}
 
 pub record IsTidy (S : Setup) (H : List Entry) : Type 0 where
   pub commands : (t : ℕ) (r : Request) → request H t ≡ Some r → AreTaskCommands S r (done_commands H t)
-  pub none : (t : ℕ) → accepted H ≤ t → done_commands H t ≡ []
+  pub none : (t : ℕ) → token_count H ≤ t → done_commands H t ≡ []
 
 -- a legal history is tidy
 pub tidy-legal : (S : Setup) (H : List Entry) → IsSetup S → IsLegal S H → IsTidy S H
@@ -59,7 +59,7 @@ no-commands S r cs none = rw none tt
 -- with an accept
 pub tidy-accept : (S : Setup) (H : List Entry) (tag : ℕ) (view : View) (asked : Asked) (bytes : List ℕ) → IsTidy S H → IsTidy S (Accept tag view asked bytes ∷ H)
 tidy-accept S H tag view asked bytes tidy = record {
-  commands = λ t r named. elim (cases_eq t (accepted H)) [
+  commands = λ t r named. elim (cases_eq t (token_count H)) [
     | inl new ↦ no-commands S r (done_commands (Accept tag view asked bytes ∷ H) t) (done_commands-same H (Accept tag view asked bytes) t refl ∙ tidy.none t (omega (arith, new)))
     | inr old ↦ rw (done_commands-same H (Accept tag view asked bytes) t refl) (tidy.commands t r (sym (request-kept H (Accept tag view asked bytes) t old) ∙ named))
   ];
@@ -102,7 +102,7 @@ unfolding AreTaskCommands
 more-commands S r c cs one others = (one, others)
 
 -- with the command that comes next, done
-tidy-done : (S : Setup) (H : List Entry) (t : ℕ) (r : Request) (c : Command) → request H t ≡ Some r → t < accepted H → IsTaskCommand S r c → IsTidy S H → IsTidy S (Done t c ∷ H)
+tidy-done : (S : Setup) (H : List Entry) (t : ℕ) (r : Request) (c : Command) → request H t ≡ Some r → t < token_count H → IsTaskCommand S r c → IsTidy S H → IsTidy S (Done t c ∷ H)
 tidy-done S H t r c named there of tidy = record {
   commands = λ u q is. elim (cases_eq t u) [
     | inl same ↦
@@ -112,7 +112,7 @@ tidy-done S H t r c named there of tidy = record {
     | inr other ↦ rw (done_commands-other S H (Done t c) u (done-concerns H t u c other)) (tidy.commands u q (sym (request-same H (Done t c) u refl) ∙ is))
   ];
   none = λ u past.
-      let below : accepted H ≤ u = omega (arith, past, accepted-same H (Done t c) refl) in
+      let below : token_count H ≤ u = omega (arith, past, accepted-same H (Done t c) refl) in
       done_commands-other S H (Done t c) u (done-concerns H t u c (λ same. absurd (omega (arith, same, below, there)))) ∙ tidy.none u below;
 }
   where
@@ -159,15 +159,15 @@ unended : (complete : Bool) → status_if complete Success ≡ None → complete
 unended true e = cc
 unended false e = refl
 
-accept-incomplete : (S : Setup) (H : List Entry) (tag : ℕ) (view : View) (asked : Asked) (bytes : List ℕ) (t : ℕ) → t ≡ accepted H → ending S H (Accept tag view asked bytes) t ≡ None
+accept-incomplete : (S : Setup) (H : List Entry) (tag : ℕ) (view : View) (asked : Asked) (bytes : List ℕ) (t : ℕ) → t ≡ token_count H → ending S H (Accept tag view asked bytes) t ≡ None
     → is_complete S (Accept tag view asked bytes ∷ H) t ≡ false
 unfolding ending
-accept-incomplete S H tag view asked bytes t new none = unended (is_complete S (Accept tag view asked bytes ∷ H) t) (rw (eq-eqb t (accepted H) new) at none)
+accept-incomplete S H tag view asked bytes t new none = unended (is_complete S (Accept tag view asked bytes ∷ H) t) (rw (eq-eqb t (token_count H) new) at none)
 
 -- a token is open only where it is not complete
-open-incomplete : (S : Setup) (H : List Entry) (t : ℕ) → t < accepted H → mark_of S H t ≡ None → is_complete S H t ≡ false
+open-incomplete : (S : Setup) (H : List Entry) (t : ℕ) → t < token_count H → mark_of S H t ≡ None → is_complete S H t ≡ false
 open-incomplete S [] t token unmarked = absurd (omega (arith, token, accepted-none))
-open-incomplete S (Accept tag view asked bytes ∷ H) t token unmarked = elim (cases_eq t (accepted H)) [
+open-incomplete S (Accept tag view asked bytes ∷ H) t token unmarked = elim (cases_eq t (token_count H)) [
   | inl new ↦ accept-incomplete S H tag view asked bytes t new (sym (mark-next S H (Accept tag view asked bytes) t (mark-before S H (Accept tag view asked bytes) t unmarked)) ∙ unmarked)
   | inr old ↦
       complete-kept S H (Accept tag view asked bytes) t refl old
@@ -178,7 +178,7 @@ open-incomplete S (Done u c ∷ H) t token unmarked = elim (cases_eq u t) [
   | inr other ↦ complete-done-other S H u t c other ∙ open-incomplete S H t (omega (arith, token, accepted-same H (Done u c) refl)) (mark-before S H (Done u c) t unmarked)
 ]
 open-incomplete S (e ∷ H) t token unmarked =
-    let below : t < accepted H = omega (arith, token, accepted-same H e refl) in
+    let below : t < token_count H = omega (arith, token, accepted-same H e refl) in
     complete-kept S H e t refl (λ same. absurd (omega (arith, same, below))) ∙ open-incomplete S H t below (mark-before S H e t unmarked)
 
 -- a list of which not all pass has one that fails

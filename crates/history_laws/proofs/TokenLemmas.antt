@@ -10,7 +10,7 @@ use Rattle.history.specs.declared.entry.Entry.{Entry}
 use Rattle.history.specs.declared.entry.Entry.TheVariants.{Accept, Refuse, Done, Fault, Collect, Insert}
 use Rattle.history.specs.Setup.{Setup}
 use Rattle.history.specs.Eras.{media_id_of}
-use Rattle.history.specs.Tokens.{Request, is_accept, accepted, request, is_collect_of, was_collected}
+use Rattle.history.specs.Tokens.{Request, is_accept, token_count, request, is_collect_of, was_collected}
 use Rattle.history.specs.Commands.{first_block, block_count, is_get, lies_in, done_commands, has_done}
 use Rattle.history.specs.Contents.{contents, byte_at, bytes_read}
 use Rattle.history.specs.Marks.{mark_of, ending, or_else, ticket_of}
@@ -77,19 +77,19 @@ pub fault-concerns : (H : List Entry) (u t : ℕ) (c : Command) (done : ℕ) →
 fault-concerns H u t c done other = ne_eqb u t other
 
 -- an accept does not concern the tokens before it
-pub accept-concerns : (H : List Entry) (tag : ℕ) (view : View) (asked : Asked) (bytes : List ℕ) (t : ℕ) → t ≢ accepted H → concerns H (Accept tag view asked bytes) t ≡ false
-accept-concerns H tag view asked bytes t other = ne_eqb t (accepted H) other
+pub accept-concerns : (H : List Entry) (tag : ℕ) (view : View) (asked : Asked) (bytes : List ℕ) (t : ℕ) → t ≢ token_count H → concerns H (Accept tag view asked bytes) t ≡ false
+accept-concerns H tag view asked bytes t other = ne_eqb t (token_count H) other
 
 -- a new token has its request
 pub request-accept : (H : List Entry) (tag : ℕ) (view : View) (asked : Asked) (bytes : List ℕ)
-    → request (Accept tag view asked bytes ∷ H) (accepted H) ≡ Some (record { tag = tag; view = view; asked = asked; bytes = bytes })
+    → request (Accept tag view asked bytes ∷ H) (token_count H) ≡ Some (record { tag = tag; view = view; asked = asked; bytes = bytes })
 unfolding request
-request-accept H tag view asked bytes = rw (eq-eqb (accepted H) (accepted H) refl)
+request-accept H tag view asked bytes = rw (eq-eqb (token_count H) (token_count H) refl)
 
 -- every other token keeps its own
-pub request-kept : (H : List Entry) (e : Entry) (t : ℕ) → t ≢ accepted H → request (e ∷ H) t ≡ request H t
+pub request-kept : (H : List Entry) (e : Entry) (t : ℕ) → t ≢ token_count H → request (e ∷ H) t ≡ request H t
 unfolding request
-request-kept H (Accept tag view asked bytes) t other = rw (ne_eqb t (accepted H) other)
+request-kept H (Accept tag view asked bytes) t other = rw (ne_eqb t (token_count H) other)
 request-kept H e t other = refl
 
 -- an entry that is no accept names no token
@@ -99,13 +99,13 @@ request-same H (Accept tag view asked bytes) t other = cc
 request-same H e t other = refl
 
 -- a token with a request was accepted
-pub request-accepted : (H : List Entry) (t : ℕ) (r : Request) → request H t ≡ Some r → t < accepted H
+pub request-accepted : (H : List Entry) (t : ℕ) (r : Request) → request H t ≡ Some r → t < token_count H
 unfolding request
 request-accepted [] t r named = cc
-request-accepted (Accept tag view asked bytes ∷ H) t r named = elim (cases_eq t (accepted H)) [
+request-accepted (Accept tag view asked bytes ∷ H) t r named = elim (cases_eq t (token_count H)) [
   | inl same ↦ omega (arith, accepted-more H (Accept tag view asked bytes) refl)
   | inr other ↦
-      let before : request H t ≡ Some r = rw (ne_eqb t (accepted H) other) at named in
+      let before : request H t ≡ Some r = rw (ne_eqb t (token_count H) other) at named in
       omega (arith, accepted-more H (Accept tag view asked bytes) refl, request-accepted H t r before)
 ]
 request-accepted (e ∷ H) t r named = omega (arith, accepted-same H e refl, request-accepted H t r named)
@@ -114,7 +114,7 @@ request-accepted (e ∷ H) t r named = omega (arith, accepted-same H e refl, req
 pub request-stays : (H : List Entry) (e : Entry) (t : ℕ) (r : Request) → request H t ≡ Some r → request (e ∷ H) t ≡ Some r
 request-stays H e t r named = request-kept H e t (λ same. absurd (omega (arith, request-accepted H t r named))) ∙ named
 
-newest-request : (H : List Entry) (e : Entry) → is_accept e ≡ true → (r : Request) × (request (e ∷ H) (accepted H) ≡ Some r)
+newest-request : (H : List Entry) (e : Entry) → is_accept e ≡ true → (r : Request) × (request (e ∷ H) (token_count H) ≡ Some r)
 newest-request H (Accept tag view asked bytes) is = (record { tag = tag; view = view; asked = asked; bytes = bytes }, request-accept H tag view asked bytes)
 newest-request H e is = cc
 
@@ -122,11 +122,11 @@ older-request : (H : List Entry) (e : Entry) (t : ℕ) → (r : Request) × (req
 older-request H e t (r, named) = (r, request-stays H e t r named)
 
 -- an accepted token has a request
-pub request-some : (H : List Entry) (t : ℕ) → t < accepted H → (r : Request) × (request H t ≡ Some r)
+pub request-some : (H : List Entry) (t : ℕ) → t < token_count H → (r : Request) × (request H t ≡ Some r)
 request-some [] t below = absurd (omega (arith, accepted-none, below))
 request-some (e ∷ H) t below = elim (cases_Bool (is_accept e)) [
   | inr isnt ↦ older-request H e t (request-some H t (omega (arith, accepted-same H e isnt, below)))
-  | inl is ↦ elim (cases_eq t (accepted H)) [
+  | inl is ↦ elim (cases_eq t (token_count H)) [
     | inl same ↦ rw same (newest-request H e is)
     | inr other ↦ older-request H e t (request-some H t (omega (arith, other, accepted-more H e is, below)))
   ]

@@ -12,7 +12,7 @@ use Rattle.history.specs.declared.entry.Command.TheVariants.{Fetch, Store, Put, 
 use Rattle.history.specs.declared.entry.Entry.{Entry}
 use Rattle.history.specs.declared.entry.Entry.TheVariants.{Accept, Done}
 use Rattle.history.specs.Setup.{Setup, size_of, per_of, IsSetup}
-use Rattle.history.specs.Tokens.{Request, accepted, request, is_write, is_erase, changes_bytes, from_of, until_of}
+use Rattle.history.specs.Tokens.{Request, token_count, request, is_write, is_erase, changes_bytes, from_of, until_of}
 use Rattle.history.specs.Commands.{first_block, block_count, is_fetch, is_store, is_put, is_get, is_wipe, is_transfer, lies_in, moves, is_at, done_commands, has_done, is_moved}
 use Rattle.history.specs.Rules.{HasPart, HasRun, MayCommand, MayFollow, IsLegal}
 use Rattle.history_laws.specs.Units.{is_span_command, IsUnitCommand, IsTaskCommand, AreTaskCommands}
@@ -92,9 +92,9 @@ done-tasks S (Done u c ∷ H) t r is (legal, may) named = elim (cases_eq u t) [
       rw (same, eq-eqb t t refl) (may-task S H t c r is before named (rw same at may), before)
   | inr other ↦ rw (ne_eqb u t other) (done-tasks S H t r is legal named)
 ]
-done-tasks S (Accept tag view asked bytes ∷ H) t r is (legal, may) named = elim (cases_eq t (accepted H)) [
+done-tasks S (Accept tag view asked bytes ∷ H) t r is (legal, may) named = elim (cases_eq t (token_count H)) [
   | inl new ↦ let none : done_commands H t ≡ [] = untold-done S H t (unaccepted S H t legal (omega (arith, new))) in rw none tt
-  | inr old ↦ done-tasks S H t r is legal (rw (ne_eqb t (accepted H) old) at named)
+  | inr old ↦ done-tasks S H t r is legal (rw (ne_eqb t (token_count H) old) at named)
 ]
 done-tasks S (e ∷ H) t r is (legal, may) named = done-tasks S H t r is legal named
 

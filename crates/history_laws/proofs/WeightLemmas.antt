@@ -18,7 +18,7 @@ use Rattle.history.specs.declared.entry.Command.TheVariants.{Fetch, Store, Sync}
 use Rattle.history.specs.declared.entry.Entry.{Entry}
 use Rattle.history.specs.declared.entry.Entry.TheVariants.{Accept, Refuse, Done, Fault, Collect}
 use Rattle.history.specs.Setup.{Setup, size_of, per_of, IsSetup}
-use Rattle.history.specs.Tokens.{Request, is_accept, accepted, request, is_flush, from_of, until_of}
+use Rattle.history.specs.Tokens.{Request, is_accept, token_count, request, is_flush, from_of, until_of}
 use Rattle.history.specs.Commands.{is_fetch, is_sync, is_at, moves, lies_in, done_commands, has_done, is_moved}
 use Rattle.history.specs.Marks.{mark_of, status_if, is_complete, was_fetched}
 use Rattle.history.specs.Tasks.{Task, Moves, Syncs, span_command, task_command}
@@ -90,7 +90,7 @@ token_weight : Setup → List Entry → ℕ → ℕ
 token_weight S H t = request_weight S H t (request H t) (mark_of S H t)
 
 pub weight : Setup → List Entry → ℕ
-weight S H = sum_from (token_weight S H) 0 (accepted H)
+weight S H = sum_from (token_weight S H) 0 (token_count H)
 
 byte-less : (m m' f f' : Bool) → (m ≡ true → m' ≡ true) → (f ≡ true → f' ≡ true) → byte_weight m' f' ≤ byte_weight m f
 byte-less m true f f' moved fetched = omega arith
@@ -134,7 +134,7 @@ other-weight S H e t other = same-weight S H (e ∷ H) t (request-other S H e t 
 -- a collect leaves the weight of all
 pub weight-collect : (S : Setup) (H : List Entry) (tag t : ℕ) → weight S (Collect tag t ∷ H) ≡ weight S H
 unfolding weight
-weight-collect S H tag t = rw (accepted-same H (Collect tag t) refl) (ap (λ f. sum_from f 0 (accepted H)) (λ i u. each u i))
+weight-collect S H tag t = rw (accepted-same H (Collect tag t) refl) (ap (λ f. sum_from f 0 (token_count H)) (λ i u. each u i))
   where
     each : (u : ℕ) → token_weight S (Collect tag t ∷ H) u ≡ token_weight S H u
     each u = same-weight S H (Collect tag t ∷ H) u (request-same H (Collect tag t) u refl) (mark-collect S H tag t u) (done_commands-same H (Collect tag t) u refl)
@@ -164,7 +164,7 @@ token-later S H e t other = rw (request-same H e t other) (by (request H t) (mar
 pub weight-later : (S : Setup) (H : List Entry) (e : Entry) → is_accept e ≡ false → weight S (e ∷ H) ≤ weight S H
 unfolding weight
 weight-later S H e other =
-    rw (accepted-same H e other) (sum-below (token_weight S (e ∷ H)) (token_weight S H) 0 (accepted H) (λ t lo hi. token-later S H e t other))
+    rw (accepted-same H e other) (sum-below (token_weight S (e ∷ H)) (token_weight S H) 0 (token_count H) (λ t lo hi. token-later S H e t other))
 
 -- where no token is open, nothing weighs
 weight-ended : (S : Setup) (H : List Entry) (t : ℕ) → (mark_of S H t ≡ None → ⊥) → token_weight S H t ≤ 0
@@ -184,26 +184,26 @@ sum-zero f a (suc n) none = omega (arith, none a (omega arith) (omega arith), su
 pub weight-drained : (S : Setup) (H : List Entry) → first_open S H ≡ None → weight S H ≡ 0
 unfolding weight
 weight-drained S H none =
-    omega (arith, sum-zero (token_weight S H) 0 (accepted H) (λ t lo hi. weight-ended S H t (λ unmarked. first-open-fails S H t none (record { token = omega arith; unmarked = unmarked }))))
+    omega (arith, sum-zero (token_weight S H) 0 (token_count H) (λ t lo hi. weight-ended S H t (λ unmarked. first-open-fails S H t none (record { token = omega arith; unmarked = unmarked }))))
 
 -- the new token weighs at most one, and two for each of its bytes
-weight-new : (S : Setup) (H : List Entry) (tag : ℕ) (view : View) (asked : Asked) (bytes : List ℕ) → token_weight S (Accept tag view asked bytes ∷ H) (accepted H) ≤ 1 + 2 * asked.length
+weight-new : (S : Setup) (H : List Entry) (tag : ℕ) (view : View) (asked : Asked) (bytes : List ℕ) → token_weight S (Accept tag view asked bytes ∷ H) (token_count H) ≤ 1 + 2 * asked.length
 unfolding token_weight
 weight-new S H tag view asked bytes =
     rw (request-accept H tag view asked bytes)
-    (request-most S (Accept tag view asked bytes ∷ H) (accepted H) (record { tag = tag; view = view; asked = asked; bytes = bytes }) (mark_of S (Accept tag view asked bytes ∷ H) (accepted H)))
+    (request-most S (Accept tag view asked bytes ∷ H) (token_count H) (record { tag = tag; view = view; asked = asked; bytes = bytes }) (mark_of S (Accept tag view asked bytes ∷ H) (token_count H)))
 
 -- so an accept adds no more
 pub weight-accept : (S : Setup) (H : List Entry) (tag : ℕ) (view : View) (asked : Asked) (bytes : List ℕ) → weight S (Accept tag view asked bytes ∷ H) ≤ weight S H + (1 + 2 * asked.length)
 unfolding weight
 weight-accept S H tag view asked bytes =
     let e : Entry = Accept tag view asked bytes in
-    let own : token_weight S (e ∷ H) (0 + accepted H) ≤ 1 + 2 * asked.length = (let first : 0 + accepted H ≡ accepted H = omega arith in rw first (weight-new S H tag view asked bytes)) in
+    let own : token_weight S (e ∷ H) (0 + token_count H) ≤ 1 + 2 * asked.length = (let first : 0 + token_count H ≡ token_count H = omega arith in rw first (weight-new S H tag view asked bytes)) in
     rw (accepted-more H e refl) (omega (
       arith,
-      sum-last (token_weight S (e ∷ H)) 0 (accepted H),
+      sum-last (token_weight S (e ∷ H)) 0 (token_count H),
       own,
-      sum-below (token_weight S (e ∷ H)) (token_weight S H) 0 (accepted H) (λ u lo hi. omega (arith, other-weight S H e u (accept-concerns H tag view asked bytes u (λ same. absurd (omega (arith, same)))))),
+      sum-below (token_weight S (e ∷ H)) (token_weight S H) 0 (token_count H) (λ u lo hi. omega (arith, other-weight S H e u (accept-concerns H tag view asked bytes u (λ same. absurd (omega (arith, same)))))),
     ))
 
 -- a refusal adds nothing
@@ -211,7 +211,7 @@ pub weight-refuse : (S : Setup) (H : List Entry) (tag : ℕ) (view : View) (aske
 unfolding weight
 weight-refuse S H tag view asked k status =
     let e : Entry = Refuse tag view asked k status in
-    rw (accepted-same H e refl) (sum-below (token_weight S (e ∷ H)) (token_weight S H) 0 (accepted H) (λ u lo hi. omega (arith, other-weight S H e u refl)))
+    rw (accepted-same H e refl) (sum-below (token_weight S (e ∷ H)) (token_weight S H) 0 (token_count H) (λ u lo hi. omega (arith, other-weight S H e u refl)))
 
 -- a command makes a byte of its token lighter: it moves the byte, or it fetches the byte's group for the first time
 abbrev Lightens : Setup → List Entry → ℕ → ℕ → Command → Type 0
@@ -353,13 +353,13 @@ turn-falls S H turn outcome is next = by (turn-of S H turn next)
     own t r task of Made = task-weight S H t r task is of.named of.open_.unmarked of.next
     own t r task of (Failed done) = fault-weight S H t (task_command H t r.asked.kind task) done r of.named of.open_.unmarked
 
-    by : (t : ℕ) × (r : Request) × (task : Task) × IsTurnOf S H turn t r task → sum_from (token_weight S (entry_of turn outcome ∷ H)) 0 (accepted (entry_of turn outcome ∷ H)) + 1 ≤ sum_from (token_weight S H) 0 (accepted H)
+    by : (t : ℕ) × (r : Request) × (task : Task) × IsTurnOf S H turn t r task → sum_from (token_weight S (entry_of turn outcome ∷ H)) 0 (token_count (entry_of turn outcome ∷ H)) + 1 ≤ sum_from (token_weight S H) 0 (token_count H)
     by (t, r, task, of) =
         let falls : token_weight S (entry_of turn outcome ∷ H) t + 1 ≤ token_weight S H t = subst (λ (v : Turn). token_weight S (entry_of v outcome ∷ H) t + 1 ≤ token_weight S H t) of.is (own t r task of outcome) in
         let token : t ≡ turn.token = ap (λ (v : Turn). v.token) of.is in
-        let each : (u : ℕ) → 0 ≤ u → u < 0 + accepted H → token_weight S (entry_of turn outcome ∷ H) u ≤ token_weight S H u =
+        let each : (u : ℕ) → 0 ≤ u → u < 0 + token_count H → token_weight S (entry_of turn outcome ∷ H) u ≤ token_weight S H u =
         λ u lo hi. elim (cases_eq t u) [
           | inl same ↦ rw (← same) (omega (arith, falls))
           | inr other ↦ omega (arith, other-weight S H (entry_of turn outcome) u (turn-concerns H turn outcome u (λ e. other (token ∙ e))))
         ] in
-        rw (turn-accepted H turn outcome) (sum-falls (token_weight S (entry_of turn outcome ∷ H)) (token_weight S H) 0 (accepted H) t each (omega arith) (omega (arith, of.open_.token)) falls)
+        rw (turn-accepted H turn outcome) (sum-falls (token_weight S (entry_of turn outcome ∷ H)) (token_weight S H) 0 (token_count H) t each (omega arith) (omega (arith, of.open_.token)) falls)

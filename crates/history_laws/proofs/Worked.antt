@@ -13,7 +13,7 @@ use Rattle.history.specs.declared.entry.Entry.{Entry}
 use Rattle.history.specs.declared.entry.Entry.TheVariants.{Accept, Done, Fault, Collect, Cancel, Reset, Eject, Insert, Protect}
 use Rattle.history.specs.Setup.{Setup}
 use Rattle.history.specs.Eras.{ejects, inserts, media_id_of, is_present, is_protected}
-use Rattle.history.specs.Tokens.{accepted, request, was_collected}
+use Rattle.history.specs.Tokens.{token_count, request, was_collected}
 use Rattle.history.specs.Commands.{done_commands, has_done}
 use Rattle.history.specs.Contents.{Piece, piece_in, piece_of, pieces_of, patch_all, contents, flushed_contents, kept_contents, byte_at, bytes_read}
 use Rattle.history.specs.Marks.{all_from, first_from, is_complete, ending, mark_of, is_held, fetches, ticket_of}
@@ -67,7 +67,7 @@ pub across-turns :
     × (next (disk 1 false 2 None) (Done 0 (Store 0) ∷ (Done 0 (Fetch 0) ∷ across)) ≡ turn 0 (Fetch 1))
     × (next (disk 1 false 2 None) (Done 0 (Fetch 1) ∷ (Done 0 (Store 0) ∷ (Done 0 (Fetch 0) ∷ across))) ≡ turn 0 (Store 1))
     × (next (disk 1 false 2 None) across_done ≡ None)
-unfolding next_turn next_task first_open first_from accepted mark_of ending is_complete all_from request done_commands has_done units_of runs_from
+unfolding next_turn next_task first_open first_from token_count mark_of ending is_complete all_from request done_commands has_done units_of runs_from
 across-turns = (refl, refl, refl, refl, refl)
 
 -- it ends with success with its last store, and its pieces are two, the newest first
@@ -75,7 +75,7 @@ pub across-ends :
     (mark_of (disk 1 false 2 None) (Done 0 (Fetch 1) ∷ (Done 0 (Store 0) ∷ (Done 0 (Fetch 0) ∷ across))) 0 ≡ None)
     × (mark_of (disk 1 false 2 None) across_done 0 ≡ Some Success)
     × (pieces_of (disk 1 false 2 None) 1 across_done ≡ piece 0 512 (204 ∷ (221 ∷ [])) ∷ (piece 0 510 (170 ∷ (187 ∷ [])) ∷ []))
-unfolding next_turn next_task first_open first_from accepted mark_of ending is_complete all_from request done_commands has_done units_of runs_from pieces_of piece_of piece_in inserts
+unfolding next_turn next_task first_open first_from token_count mark_of ending is_complete all_from request done_commands has_done units_of runs_from pieces_of piece_of piece_in inserts
 across-ends = (refl, refl, refl)
 
 -- it owes four commands, its end and its collect, beside one ejection
@@ -86,7 +86,7 @@ pub across-owes :
     × (owed_entries (disk 1 false 2 None) (Fault 0 (Fetch 1) 0 ∷ (Done 0 (Store 0) ∷ (Done 0 (Fetch 0) ∷ across))) ≡ 2)
     × (owed_entries (disk 1 false 2 None) across_done ≡ 2)
     × (owed_entries (disk 1 false 2 None) (Collect 1 0 ∷ across_done) ≡ 1)
-unfolding next_turn next_task first_open first_from accepted mark_of ending is_complete all_from request done_commands has_done units_of runs_from ejects inserts was_collected commands_owed token_owed tokens_owed owed_entries
+unfolding next_turn next_task first_open first_from token_count mark_of ending is_complete all_from request done_commands has_done units_of runs_from ejects inserts was_collected commands_owed token_owed tokens_owed owed_entries
 across-owes = (refl, refl, refl, refl, refl, refl)
 
 abbrev around : List Entry
@@ -104,7 +104,7 @@ pub around-read :
     × (bytes_read (disk 1 false 2 (Some (replicate 1024 0))) around_done 1 510 ≡ Some 170)
     × (bytes_read (disk 1 false 2 (Some (replicate 1024 0))) around_done 1 513 ≡ Some 221)
     × (bytes_read (disk 1 false 2 (Some (replicate 1024 0))) (Done 1 (Get 0 1) ∷ around) 1 513 ≡ None)
-unfolding next_turn next_task first_open first_from accepted mark_of ending is_complete all_from request done_commands has_done units_of runs_from pieces_of piece_of piece_in inserts bytes_read contents patch_all
+unfolding next_turn next_task first_open first_from token_count mark_of ending is_complete all_from request done_commands has_done units_of runs_from pieces_of piece_of piece_in inserts bytes_read contents patch_all
 around-read = (refl, refl, refl, refl, refl, refl, refl)
 
 -- a range that leaves the medium, a length that is no number of blocks, and a block behind the last
@@ -124,7 +124,7 @@ refusals = (refl, refl, refl, refl, refl, refl, refl, refl)
 pub empty-ends :
     (mark_of (disk 1 false 2 None) (Accept 1 (view 1024) (bytes_at Read 1024 0) [] ∷ []) 0 ≡ Some Success)
     × (next (disk 1 false 2 None) (Accept 1 (view 1024) (bytes_at Read 1024 0) [] ∷ []) ≡ None)
-unfolding next_turn next_task first_open first_from accepted mark_of ending is_complete all_from request done_commands has_done units_of runs_from
+unfolding next_turn next_task first_open first_from token_count mark_of ending is_complete all_from request done_commands has_done units_of runs_from
 empty-ends = (refl, refl)
 
 abbrev filled : List Entry
@@ -136,7 +136,7 @@ pub partly-put :
     × (mark_of (disk 1 false 4 None) (Fault 0 (Put 0 3) 1 ∷ filled) 0 ≡ Some DeviceError)
     × (pieces_of (disk 1 false 4 None) 1 (Fault 0 (Put 0 3) 1 ∷ filled) ≡ piece 0 0 (replicate 512 255) ∷ [])
     × (pieces_of (disk 1 false 4 None) 1 (Fault 0 (Put 0 3) 0 ∷ filled) ≡ [])
-unfolding next_turn next_task first_open first_from accepted mark_of ending is_complete all_from request done_commands has_done units_of runs_from pieces_of piece_of piece_in inserts
+unfolding next_turn next_task first_open first_from token_count mark_of ending is_complete all_from request done_commands has_done units_of runs_from pieces_of piece_of piece_in inserts
 partly-put = (refl, refl, refl, refl)
 
 abbrev sharing : List Entry
@@ -154,7 +154,7 @@ pub gates :
     × (ticket_of sharing_turned 0 0 ≡ Some 0)
     × (ticket_of sharing_turned 1 0 ≡ Some 1)
     × (ticket_of (Done 1 (Fetch 0) ∷ (Fault 0 (Fetch 0) 0 ∷ sharing)) 1 0 ≡ Some 1)
-unfolding next_turn next_task first_open first_from accepted mark_of ending is_complete all_from request done_commands has_done units_of runs_from is_held first_runnable todo_before todo_of ticket_of fetches
+unfolding next_turn next_task first_open first_from token_count mark_of ending is_complete all_from request done_commands has_done units_of runs_from is_held first_runnable todo_before todo_of ticket_of fetches
 gates = (refl, refl, refl, refl, refl, refl, refl)
 
 abbrev covering : List Entry
@@ -169,7 +169,7 @@ pub barred-run :
     × (runnable true (disk 1 false 2 None) (Done 0 (Store 0) ∷ (Done 0 (Fetch 0) ∷ covering)) ≡ turn 1 (Put 0 1))
     × (runnable false (disk 1 false 2 None) (Done 0 (Fetch 0) ∷ apart) ≡ None)
     × (runnable true (disk 1 false 2 None) (Done 0 (Fetch 0) ∷ apart) ≡ turn 1 (Fetch 1))
-unfolding next_turn next_task first_open first_from accepted mark_of ending is_complete all_from request done_commands has_done units_of runs_from is_held first_runnable todo_before todo_of
+unfolding next_turn next_task first_open first_from token_count mark_of ending is_complete all_from request done_commands has_done units_of runs_from is_held first_runnable todo_before todo_of
 barred-run = (refl, refl, refl, refl)
 
 abbrev elsewhere : View
@@ -185,7 +185,7 @@ pub cancelled :
     × (mark_of (disk 1 false 2 None) (Cancel 1 (view 1024) ∷ viewed) 1 ≡ None)
     × (is_held (disk 1 false 2 None) (Cancel 1 (view 1024) ∷ viewed) 0 ≡ false)
     × (mark_of (disk 1 false 2 None) (Reset 1 ∷ viewed) 1 ≡ Some Aborted)
-unfolding next_turn next_task first_open first_from accepted mark_of ending is_complete all_from request done_commands has_done units_of runs_from is_held
+unfolding next_turn next_task first_open first_from token_count mark_of ending is_complete all_from request done_commands has_done units_of runs_from is_held
 cancelled = (refl, refl, refl, refl, refl)
 
 abbrev unflushed : List Entry
@@ -201,7 +201,7 @@ pub flushed :
     × (next (disk 1 true 1 None) flushing ≡ turn 1 Sync)
     × (mark_of (disk 1 true 1 None) (Done 1 Sync ∷ flushing) 1 ≡ Some Success)
     × (byte_at (kept_contents (disk 1 true 1 (Some (replicate 512 0))) 1 (Eject 1 ∷ (Done 1 Sync ∷ flushing))) 0 ≡ Some 17)
-unfolding next_turn next_task first_open first_from accepted mark_of ending is_complete all_from request done_commands has_done units_of runs_from pieces_of piece_of piece_in inserts contents flushed_contents kept_contents patch_all
+unfolding next_turn next_task first_open first_from token_count mark_of ending is_complete all_from request done_commands has_done units_of runs_from pieces_of piece_of piece_in inserts contents flushed_contents kept_contents patch_all
 flushed = (refl, refl, refl, refl, refl)
 
 abbrev two_media : Setup
@@ -218,7 +218,7 @@ pub ejected :
     × (media_id_of (Insert 2 2 ∷ (Collect 1 0 ∷ ejected_open)) ≡ 2)
     × (is_present (Insert 2 2 ∷ (Collect 1 0 ∷ ejected_open)) ≡ true)
     × (refusal_of two_media (Insert 2 2 ∷ (Collect 1 0 ∷ ejected_open)) (view 1024) (bytes_at Read 0 512) 1 ≡ Some MediaChanged)
-unfolding next_turn next_task first_open first_from accepted mark_of ending is_complete all_from request done_commands has_done units_of runs_from refusal_of is_protected ejects inserts
+unfolding next_turn next_task first_open first_from token_count mark_of ending is_complete all_from request done_commands has_done units_of runs_from refusal_of is_protected ejects inserts
 ejected = (refl, refl, refl, refl, refl, refl)
 
 abbrev mixed : List Entry
@@ -232,7 +232,7 @@ pub protected :
     × (mark_of (disk 1 false 2 None) (Done 1 (Get 0 1) ∷ mixed) 1 ≡ Some Success)
     × (bytes_read (disk 1 false 2 (Some (replicate 1024 0))) (Done 1 (Get 0 1) ∷ mixed) 1 1 ≡ Some 0)
     × (refusal_of (disk 1 false 2 None) mixed (view 1024) (bytes_at Write 0 1) 1 ≡ Some WriteProtected)
-unfolding next_turn next_task first_open first_from accepted mark_of ending is_complete all_from request done_commands has_done units_of runs_from pieces_of piece_of piece_in inserts refusal_of is_protected ejects bytes_read contents patch_all
+unfolding next_turn next_task first_open first_from token_count mark_of ending is_complete all_from request done_commands has_done units_of runs_from pieces_of piece_of piece_in inserts refusal_of is_protected ejects bytes_read contents patch_all
 protected = (refl, refl, refl, refl, refl, refl)
 
 abbrev grouped : List Entry
@@ -246,7 +246,7 @@ pub one-group :
     × (next (disk 8 false 16 None) (Done 0 (Fetch 0) ∷ grouped) ≡ turn 0 (Store 0))
     × (mark_of (disk 8 false 16 None) (Done 0 (Store 0) ∷ (Done 0 (Fetch 0) ∷ grouped)) 0 ≡ Some Success)
     × (pieces_of (disk 8 false 16 None) 1 (Done 0 (Store 0) ∷ (Done 0 (Fetch 0) ∷ grouped)) ≡ piece 0 510 aabbccdd ∷ [])
-unfolding next_turn next_task first_open first_from accepted mark_of ending is_complete all_from request done_commands has_done units_of runs_from pieces_of piece_of piece_in inserts is_held
+unfolding next_turn next_task first_open first_from token_count mark_of ending is_complete all_from request done_commands has_done units_of runs_from pieces_of piece_of piece_in inserts is_held
 one-group = (refl, refl, refl, refl, refl, refl)
 
 -- a store that failed after one block gives the bytes of that block
@@ -254,7 +254,7 @@ pub partly-stored :
     (mark_of (disk 8 false 16 None) (Fault 0 (Store 0) 1 ∷ (Done 0 (Fetch 0) ∷ grouped)) 0 ≡ Some DeviceError)
     × (pieces_of (disk 8 false 16 None) 1 (Fault 0 (Store 0) 1 ∷ (Done 0 (Fetch 0) ∷ grouped)) ≡ piece 0 510 (170 ∷ (187 ∷ [])) ∷ [])
     × (pieces_of (disk 8 false 16 None) 1 (Fault 0 (Store 0) 0 ∷ (Done 0 (Fetch 0) ∷ grouped)) ≡ [])
-unfolding next_turn next_task first_open first_from accepted mark_of ending is_complete all_from request done_commands has_done units_of runs_from pieces_of piece_of piece_in inserts
+unfolding next_turn next_task first_open first_from token_count mark_of ending is_complete all_from request done_commands has_done units_of runs_from pieces_of piece_of piece_in inserts
 partly-stored = (refl, refl, refl)
 
 abbrev cutting : List Entry
@@ -271,7 +271,7 @@ pub two-groups :
     × (next (disk 8 false 16 None) (Done 0 (Fetch 8) ∷ cut_once) ≡ turn 0 (Store 8))
     × (pieces_of (disk 8 false 16 None) 1 (Done 0 (Store 8) ∷ (Done 0 (Fetch 8) ∷ cut_once)) ≡ piece 0 4096 (replicate 104 90) ∷ (piece 0 4000 (replicate 96 90) ∷ []))
     × (next (disk 8 false 16 None) (Accept 1 (view 8192) (bytes_at Write 4096 4096) (replicate 4096 90) ∷ []) ≡ turn 0 (Put 8 8))
-unfolding next_turn next_task first_open first_from accepted mark_of ending is_complete all_from request done_commands has_done units_of runs_from pieces_of piece_of piece_in inserts
+unfolding next_turn next_task first_open first_from token_count mark_of ending is_complete all_from request done_commands has_done units_of runs_from pieces_of piece_of piece_in inserts
 two-groups = (refl, refl, refl, refl, refl, refl)
 
 abbrev erasing : List Entry
@@ -284,7 +284,7 @@ pub erased :
     × (pieces_of (disk 1 false 4 None) 1 (Done 0 (Wipe 1 2) ∷ erasing) ≡ piece 0 512 (replicate 1024 0) ∷ [])
     × (mark_of (disk 1 false 4 None) (Fault 0 (Wipe 1 2) 1 ∷ erasing) 0 ≡ Some DeviceError)
     × (pieces_of (disk 1 false 4 None) 1 (Fault 0 (Wipe 1 2) 1 ∷ erasing) ≡ piece 0 512 (replicate 512 0) ∷ [])
-unfolding next_turn next_task first_open first_from accepted mark_of ending is_complete all_from request done_commands has_done units_of runs_from pieces_of piece_of piece_in inserts
+unfolding next_turn next_task first_open first_from token_count mark_of ending is_complete all_from request done_commands has_done units_of runs_from pieces_of piece_of piece_in inserts
 erased = (refl, refl, refl, refl, refl)
 
 -- inside a group of four it is a part: it fetches the group and stores zeros
@@ -293,5 +293,5 @@ pub erased-inside :
     × (next (disk 4 false 4 None) (Done 0 (Fetch 0) ∷ erasing) ≡ turn 0 (Store 0))
     × (mark_of (disk 4 false 4 None) (Done 0 (Store 0) ∷ (Done 0 (Fetch 0) ∷ erasing)) 0 ≡ Some Success)
     × (pieces_of (disk 4 false 4 None) 1 (Done 0 (Store 0) ∷ (Done 0 (Fetch 0) ∷ erasing)) ≡ piece 0 512 (replicate 1024 0) ∷ [])
-unfolding next_turn next_task first_open first_from accepted mark_of ending is_complete all_from request done_commands has_done units_of runs_from pieces_of piece_of piece_in inserts
+unfolding next_turn next_task first_open first_from token_count mark_of ending is_complete all_from request done_commands has_done units_of runs_from pieces_of piece_of piece_in inserts
 erased-inside = (refl, refl, refl, refl)

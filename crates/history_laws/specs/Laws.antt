@@ -12,12 +12,12 @@ use Rattle.history.specs.declared.entry.Entry.{Entry}
 use Rattle.history.specs.declared.entry.Entry.TheVariants.{Accept, Refuse, Done, Fault, Cancel, Reset, Eject, Protect}
 use Rattle.history.specs.Setup.{Setup, IsSetup, size_of, per_of, first_of}
 use Rattle.history.specs.Eras.{ejects, inserts, media_id_of, era_commands, era_faults}
-use Rattle.history.specs.Tokens.{Request, is_accept, accepted, request, from_of, until_of}
+use Rattle.history.specs.Tokens.{Request, is_accept, token_count, request, from_of, until_of}
 use Rattle.history.specs.Commands.{is_transfer, done_commands, is_moved}
 use Rattle.history.specs.Contents.{pieces_of, contents, kept_contents, byte_at, bytes_read}
 use Rattle.history.specs.Marks.{ending, mark_of, has_view, is_some_change, is_outstanding, is_complete, is_held, fetches, Holds, HoldsBy}
 use Rattle.history.specs.Rules.{MayCommand, MayFollow, IsLegal}
-use Rattle.history.specs.Tasks.{Moves, tasks_of, is_finished, Todo, pending, first_runnable, task_command}
+use Rattle.history.specs.Tasks.{Moves, tasks_of, is_finished, Todo, units_left, first_runnable, task_command}
 use Rattle.history.specs.Next.{next_turn}
 use Rattle.history.specs.Room.{commands, AreFewCommands, owed_entries}
 use Rattle.history_laws.specs.Told.{is_done, told, IsUntold, concerns}
@@ -38,7 +38,7 @@ ReadsNothingElse = (S : Setup) (H : List Entry) (e : Entry) (t x : ℕ) → conc
 
 -- nothing is told of a token that is not yet accepted
 abbrev pub BeginsUntold : Type 0
-BeginsUntold = (S : Setup) (H : List Entry) (t : ℕ) → IsLegal S H → accepted H ≤ t → IsUntold S H t
+BeginsUntold = (S : Setup) (H : List Entry) (t : ℕ) → IsLegal S H → token_count H ≤ t → IsUntold S H t
 
 -- a token ends once
 abbrev pub EndsOnce : Type 0
@@ -78,7 +78,7 @@ CompletesWhereFinished = (S : Setup) (H : List Entry) (t : ℕ) (r : Request) �
 
 -- and no complete token is open
 abbrev pub OpenIsIncomplete : Type 0
-OpenIsIncomplete = (S : Setup) (H : List Entry) (t : ℕ) → IsLegal S H → t < accepted H → mark_of S H t ≡ None → is_complete S H t ≡ false
+OpenIsIncomplete = (S : Setup) (H : List Entry) (t : ℕ) → IsLegal S H → t < token_count H → mark_of S H t ≡ None → is_complete S H t ≡ false
 
 -- at most one token holds a group
 abbrev pub HasOneHolder : Type 0
@@ -149,7 +149,7 @@ CostsFew = (S : Setup) (H : List Entry) → IsSetup S → IsLegal S H → AreFew
 
 -- accepts, commands, ejections and insertions are no more than the entries together
 abbrev pub CountsAreWithin : Type 0
-CountsAreWithin = (H : List Entry) → accepted H + (commands H + (ejects H + inserts H)) ≤ length H
+CountsAreWithin = (H : List Entry) → token_count H + (commands H + (ejects H + inserts H)) ≤ length H
 
 -- a legal history that has begun has fewer commands and fewer insertions than entries
 abbrev pub CommandsAreFewer : Type 0
@@ -161,27 +161,27 @@ NextIsRunnable = (S : Setup) (H : List Entry) (held : ℕ → Bool) → IsSetup 
 
 -- an entry that is no accept leaves those units that are still to do
 abbrev pub KeepsTodo : Type 0
-KeepsTodo = (S : Setup) (H : List Entry) (e : Entry) → is_accept e ≡ false → pending S (e ∷ H) ≡ filter (is_todo S (e ∷ H)) (pending S H)
+KeepsTodo = (S : Setup) (H : List Entry) (e : Entry) → is_accept e ≡ false → units_left S (e ∷ H) ≡ filter (is_todo S (e ∷ H)) (units_left S H)
 
 -- an accept adds the units of its request at the end
 abbrev pub AddsUnits : Type 0
 AddsUnits =
     (S : Setup) (H : List Entry) (tag : ℕ) (view : View) (asked : Asked) (bytes : List ℕ) → IsSetup S → IsLegal S (Accept tag view asked bytes ∷ H)
-    → pending S (Accept tag view asked bytes ∷ H) ≡ pending S H ++ todos_of S (accepted H) (record { tag = tag; view = view; asked = asked; bytes = bytes })
+    → units_left S (Accept tag view asked bytes ∷ H) ≡ units_left S H ++ todos_of S (token_count H) (record { tag = tag; view = view; asked = asked; bytes = bytes })
 
 -- a done command that finishes a unit takes that unit away, and no other
 abbrev pub TakesUnit : Type 0
 TakesUnit =
     (S : Setup) (H : List Entry) (t : ℕ) (c : Command) (r : Request) (u : Span) → IsSetup S → IsLegal S (Done t c ∷ H) → request H t ≡ Some r → IsUnitCommand S r c u → is_transfer c ≡ true
-    → pending S (Done t c ∷ H) ≡ filter (λ todo. not (is_todo_of t u todo)) (pending S H)
+    → units_left S (Done t c ∷ H) ≡ filter (λ todo. not (is_todo_of t u todo)) (units_left S H)
 
 -- an entry that is no accept and no done command takes away the units of the tokens that it ends, and no other
 abbrev pub EndTakes : Type 0
-EndTakes = (S : Setup) (H : List Entry) (e : Entry) → is_accept e ≡ false → is_done e ≡ false → pending S (e ∷ H) ≡ filter (λ todo. is_none (ending S H e todo.token)) (pending S H)
+EndTakes = (S : Setup) (H : List Entry) (e : Entry) → is_accept e ≡ false → is_done e ≡ false → units_left S (e ∷ H) ≡ filter (λ todo. is_none (ending S H e todo.token)) (units_left S H)
 
 -- the units that are left stand in the order of their tokens, and those of one token in the order of their bytes
 abbrev pub StandInOrder : Type 0
-StandInOrder = (S : Setup) (H : List Entry) → IsSetup S → Ordered IsBefore (pending S H)
+StandInOrder = (S : Setup) (H : List Entry) → IsSetup S → Ordered IsBefore (units_left S H)
 
 -- the command of the first runnable unit may be made
 abbrev pub RunnableMay : Type 0

@@ -2,7 +2,7 @@
 use Rattle.std.specs.Prelude.{ℕ, zero, suc, ◌+◌, ◌-◌, ◌&&◌, not, if◌then◌else◌, List, filter, sum_by, is_some}
 use Rattle.history.specs.declared.entry.Entry.{Entry}
 use Rattle.history.specs.Setup.{Setup}
-use Rattle.history.specs.Tokens.{Request, accepted}
+use Rattle.history.specs.Tokens.{Request, token_count}
 use Rattle.history.specs.Marks.{is_outstanding, ending}
 use Rattle.history.specs.Tasks.{Task, Moves, Syncs, tasks_of, is_finished}
 
@@ -22,4 +22,4 @@ ended_before S H e (suc n) = if is_outstanding S H n && is_some (ending S H e n)
 
 -- how many outstanding tokens this entry ends
 unfoldable pub ended_by : Setup → List Entry → Entry → ℕ
-ended_by S H e = ended_before S H e (accepted H)
+ended_by S H e = ended_before S H e (token_count H)

@@ -3,7 +3,7 @@ use Rattle.std.specs.Prelude.{ℕ, zero, suc, ◌+◌, List, Option}
 use Rattle.efi_status.specs.declared.Status.{Status}
 use Rattle.history.specs.declared.entry.Entry.{Entry}
 use Rattle.history.specs.Setup.{Setup}
-use Rattle.history.specs.Tokens.{accepted, request, was_collected}
+use Rattle.history.specs.Tokens.{token_count, request, was_collected}
 use Rattle.history.specs.Room.{owed_by, media_owed}
 
 -- what a token owes so far
@@ -17,4 +17,4 @@ tokens_owed_so_far S H marks (suc n) = tokens_owed_so_far S H marks n + token_ow
 
 -- the entries that the history must still have room for so far
 abbrev pub owed_so_far : Setup → List Entry → (ℕ → Option Status) → ℕ
-owed_so_far S H marks = tokens_owed_so_far S H marks (accepted H) + media_owed S H
+owed_so_far S H marks = tokens_owed_so_far S H marks (token_count H) + media_owed S H

@@ -5,7 +5,7 @@ use Rattle.history.specs.declared.entry.Entry.{Entry}
 use Rattle.history.specs.declared.entry.Entry.TheVariants.{Done, Fault}
 use Rattle.history.specs.Setup.{Setup}
 use Rattle.history.specs.Eras.{is_fault}
-use Rattle.history.specs.Tokens.{Request, accepted, request, was_collected}
+use Rattle.history.specs.Tokens.{Request, token_count, request, was_collected}
 use Rattle.history.specs.Commands.{first_block}
 use Rattle.history.specs.Contents.{bytes_read}
 use Rattle.history.specs.Marks.{IsOutstanding, mark_of}
@@ -48,7 +48,7 @@ AreOwnInOrder S t q (e ∷ earlier) = (is_command_of t e ≡ true) × IsBehind S
 
 -- the later history has the same tokens, and the ended ones are as they were
 pub record Stays (S : Setup) (H H' : List Entry) : Type 0 where
-  pub count : accepted H' ≡ accepted H
+  pub count : token_count H' ≡ token_count H
   pub named : (t : ℕ) → request H' t ≡ request H t
   pub collected : (t : ℕ) → was_collected H' t ≡ was_collected H t
   pub marked : (t : ℕ) (status : Status) → mark_of S H t ≡ Some status → mark_of S H' t ≡ Some status

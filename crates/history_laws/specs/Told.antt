@@ -5,7 +5,7 @@ use Rattle.history.specs.declared.entry.Command.{Command}
 use Rattle.history.specs.declared.entry.Entry.{Entry}
 use Rattle.history.specs.declared.entry.Entry.TheVariants.{Accept, Refuse, Done, Fault, Collect, Cancel, Reset, Eject, Insert, Protect}
 use Rattle.history.specs.Setup.{Setup}
-use Rattle.history.specs.Tokens.{Request, accepted, request, was_collected}
+use Rattle.history.specs.Tokens.{Request, token_count, request, was_collected}
 use Rattle.history.specs.Commands.{done_commands}
 use Rattle.history.specs.Contents.{bytes_read}
 use Rattle.history.specs.Marks.{has_view, is_some_change, mark_of, ticket_of}
@@ -41,14 +41,14 @@ pub record IsUntold (S : Setup) (H : List Entry) (t : ℕ) : Type 0 where
 
 -- the entry may change what the history tells of the token
 abbrev pub concerns : List Entry → Entry → ℕ → Bool
-concerns H (Accept tag view asked bytes) t = nat_eq t (accepted H)
+concerns H (Accept tag view asked bytes) t = nat_eq t (token_count H)
 concerns H (Refuse tag view asked media_id status) t = false
 concerns H (Done u c) t = nat_eq u t
 concerns H (Fault u c done) t = nat_eq u t
 concerns H (Collect tag u) t = nat_eq u t
 concerns H (Cancel tag view) t = has_view view (request H t)
-concerns H (Reset tag) t = nat_lt t (accepted H)
-concerns H (Eject tag) t = nat_lt t (accepted H)
+concerns H (Reset tag) t = nat_lt t (token_count H)
+concerns H (Eject tag) t = nat_lt t (token_count H)
 concerns H (Insert tag media_id) t = false
 concerns H (Protect tag on) t = on && is_some_change (request H t)
 

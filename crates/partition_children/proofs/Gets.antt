@@ -15,10 +15,10 @@ use Rattle.history.specs.declared.entry.Entry.{Entry}
 use Rattle.history.specs.declared.entry.Entry.TheVariants.{Accept, Done, Fault}
 use Rattle.history.specs.Setup.{Setup, IsSetup}
 use Rattle.history.specs.Eras.{is_fault}
-use Rattle.history.specs.Tokens.{Request, accepted, request, from_of, until_of}
+use Rattle.history.specs.Tokens.{Request, token_count, request, from_of, until_of}
 use Rattle.history.specs.Marks.{mark_of, IsOutstanding}
 use Rattle.history.specs.Rules.{IsLegal, MayFollow}
-use Rattle.history.specs.Tasks.{Task, Moves, Todo, tasks_of, pending, is_runnable, first_runnable}
+use Rattle.history.specs.Tasks.{Task, Moves, Todo, tasks_of, units_left, is_runnable, first_runnable}
 use Rattle.history.specs.Next.{first_open, Turn, Outcome, Made, Failed, entry_of, next_turn}
 use Rattle.history.specs.Room.{is_command_of}
 use Rattle.history_laws.specs.Pending.{todo_at, todos_of, is_todo_of, IsBefore, Ordered}
@@ -62,18 +62,18 @@ module _ (S : Setup) (H : List Entry) (t : ℕ) (view : View) (read : ℕ × ℕ
     pub commands : cs ≡ reverse (map (get_of t) front)
     pub units_are : units ≡ front ++ rest
     pub gets : AreGets t cs
-    pub left : pending S (cs ++ H) ≡ map todo rest
+    pub left : units_left S (cs ++ H) ≡ map todo rest
 
   -- what is told of the request
   module _ (named : request H t ≡ Some q) where
     -- the turn of the first unit that is left
-    turn-by : (G : List Entry) (rest : List Span) → IsLegal S G → pending S G ≡ map todo rest
+    turn-by : (G : List Entry) (rest : List Span) → IsLegal S G → units_left S G ≡ map todo rest
         → next_turn S G ≡ option_map (turn_of_todo G) (find (is_runnable (λ b. false) true) (map todo rest))
     unfolding first_runnable
     turn-by G rest legal left =
         next-runnable S G (λ b. false) is legal (λ b. refl) ∙ ap (λ ts. option_map (turn_of_todo G) (find (is_runnable (λ b. false) true) ts)) left
 
-    pub next-unit : (G : List Entry) (rest : List Span) (turn : Turn) → IsLegal S G → pending S G ≡ map todo rest → next_turn S G ≡ Some turn
+    pub next-unit : (G : List Entry) (rest : List Span) (turn : Turn) → IsLegal S G → units_left S G ≡ map todo rest → next_turn S G ≡ Some turn
         → (u : Span) × (more : List Span) × (rest ≡ u ∷ more) × (turn ≡ record { token = t; command = Get u.block u.count })
     next-unit G [] turn legal left next = let none : next_turn S G ≡ None = turn-by G [] legal left in absurd cc
     next-unit G (u ∷ rest) turn legal left next =
@@ -81,7 +81,7 @@ module _ (S : Setup) (H : List Entry) (t : ℕ) (view : View) (read : ℕ × ℕ
         (u, rest, refl, cc)
 
     -- a unit that is left is a unit of the read
-    unit-left : (cs : List Entry) (u : Span) (rest : List Span) → AreWhileOpen S H t cs → pending S (cs ++ H) ≡ map todo (u ∷ rest) → IsUnitCommand S q (Get u.block u.count) u
+    unit-left : (cs : List Entry) (u : Span) (rest : List Span) → AreWhileOpen S H t cs → units_left S (cs ++ H) ≡ map todo (u ∷ rest) → IsUnitCommand S q (Get u.block u.count) u
     unit-left cs u rest all left =
         let (r, is_left) = pending-is S (cs ++ H) 0 (todo u) (ap (λ xs. slice_get xs 0) left) in
         let same : r ≡ q = same-request r (sym is_left.named ∙ (while-request S t H cs t all ∙ named)) in
@@ -137,7 +137,7 @@ module _ (S : Setup) (H : List Entry) (t : ℕ) (view : View) (read : ℕ × ℕ
             cc
 
     -- commands of which none failed got the first units
-    pub got-all : (cs : List Entry) → pending S H ≡ map todo units → AreWhileOpen S H t cs → AreOwnInOrder S t q cs → IsLegal S (cs ++ H) → ends_in_fault cs ≡ false → (rest : List Span) × Got cs rest
+    pub got-all : (cs : List Entry) → units_left S H ≡ map todo units → AreWhileOpen S H t cs → AreOwnInOrder S t q cs → IsLegal S (cs ++ H) → ends_in_fault cs ≡ false → (rest : List Span) × Got cs rest
     unfolding AreWhileOpen AreOwnInOrder IsLegal
     got-all [] first all own legal sound = (units, record { front = []; commands = refl; units_are = refl; gets = tt; left = first })
     got-all (e ∷ cs) first (next, all) (own, behind, owns) (legal, may) sound =

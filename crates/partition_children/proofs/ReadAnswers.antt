@@ -13,7 +13,7 @@ use Rattle.history.specs.declared.entry.Entry.{Entry}
 use Rattle.history.specs.declared.entry.Entry.TheVariants.{Accept, Collect, Fault}
 use Rattle.history.specs.Setup.{Setup, IsSetup}
 use Rattle.history.specs.Eras.{is_fault, media_id_of}
-use Rattle.history.specs.Tokens.{accepted}
+use Rattle.history.specs.Tokens.{token_count}
 use Rattle.history.specs.Contents.{contents}
 use Rattle.history.specs.Next.{first_open, Turn, Outcome, Made, Failed, entry_of}
 use Rattle.history.specs.Rules.{IsLegal, MayFollow}
@@ -34,7 +34,7 @@ module _ (old new : State) (k : ℕ) (read : ℕ × ℕ) (is : IsSetup old.setup
   H = Accept 0 (whole_view old.setup k) (read_asked read) [] ∷ old.entries
 
   abbrev t : ℕ
-  t = accepted old.entries
+  t = token_count old.entries
 
   abbrev view : View
   view = whole_view old.setup k

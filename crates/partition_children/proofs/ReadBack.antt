@@ -16,11 +16,11 @@ use Rattle.history.specs.declared.entry.Entry.{Entry}
 use Rattle.history.specs.declared.entry.Entry.TheVariants.{Accept, Collect, Done, Fault}
 use Rattle.history.specs.Setup.{Setup, IsSetup, blocks_of, size_of}
 use Rattle.history.specs.Eras.{media_id_of}
-use Rattle.history.specs.Tokens.{Request, accepted, request, from_of, until_of}
+use Rattle.history.specs.Tokens.{Request, token_count, request, from_of, until_of}
 use Rattle.history.specs.Contents.{byte_at, bytes_read, contents}
 use Rattle.history.specs.Commands.{done_commands, has_done, is_moved, lies_in, moves}
 use Rattle.history.specs.Marks.{all_from, is_complete, mark_of, status_if}
-use Rattle.history.specs.Tasks.{Moves, Task, pending, tasks_of}
+use Rattle.history.specs.Tasks.{Moves, Task, units_left, tasks_of}
 use Rattle.history.specs.Next.{first_open, Turn, Outcome, Made, Failed, entry_of}
 use Rattle.history.specs.Rules.{IsLegal, MayFollow}
 use Rattle.history_laws.specs.Pending.{todo_at}
@@ -51,7 +51,7 @@ module _ (S : Setup) (E : List Entry) (k : ℕ) (read : ℕ × ℕ) (is : IsSetu
   H = accept ∷ E
 
   abbrev t : ℕ
-  t = accepted E
+  t = token_count E
 
   abbrev r : Request
   r = record { tag = 0; view = whole_view S k; asked = read_asked read; bytes = [] }
@@ -73,7 +73,7 @@ module _ (S : Setup) (E : List Entry) (k : ℕ) (read : ℕ × ℕ) (is : IsSetu
   map-moves [] = refl
   map-moves (u ∷ us) = ap (λ ds. todo_at t r (Moves u) ∷ ds) (map-moves us)
 
-  pub first-left : IsLegal S H → pending S H ≡ map (λ u. record { token = t; kind = Read; task = Moves u }) all_units
+  pub first-left : IsLegal S H → units_left S H ≡ map (λ u. record { token = t; kind = Read; task = Moves u }) all_units
   first-left legal =
       pending-accept S E 0 (whole_view S k) (read_asked read) [] is legal
       ∙ (ap (λ ds. ds ++ map (todo_at t r) (tasks_of S r)) (drained-pending S E drained) ∙ map-moves all_units)

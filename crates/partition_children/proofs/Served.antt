@@ -7,7 +7,7 @@ use Rattle.history.specs.declared.entry.Kind.TheVariants.{Read}
 use Rattle.history.specs.declared.entry.Entry.{Entry}
 use Rattle.history.specs.declared.entry.Entry.TheVariants.{Accept, Collect}
 use Rattle.history.specs.Setup.{Setup, IsSetup}
-use Rattle.history.specs.Tokens.{Request, accepted, request}
+use Rattle.history.specs.Tokens.{Request, token_count, request}
 use Rattle.history.specs.Marks.{mark_of}
 use Rattle.history.specs.Next.{first_open}
 use Rattle.history.specs.Rules.{IsLegal}
@@ -26,14 +26,14 @@ use Rattle.partition_children.specs.Entries.{read_asked}
 pub record Served (S : Setup) (E : List Entry) (view : View) (read : ℕ × ℕ) (status : Status) (failed : Bool) (bytes : List ℕ) (new : State) : Type 0 where
   pub cs : List Entry
   pub setup : new.setup ≡ S
-  pub entries : new.entries ≡ Collect 0 (accepted E) ∷ (cs ++ Accept 0 view (read_asked read) [] ∷ E)
+  pub entries : new.entries ≡ Collect 0 (token_count E) ∷ (cs ++ Accept 0 view (read_asked read) [] ∷ E)
   pub legal : IsLegal S (cs ++ Accept 0 view (read_asked read) [] ∷ E)
-  pub open_ : AreWhileOpen S (Accept 0 view (read_asked read) [] ∷ E) (accepted E) cs
-  pub own : AreOwnInOrder S (accepted E) (record { tag = 0; view = view; asked = read_asked read; bytes = [] }) cs
+  pub open_ : AreWhileOpen S (Accept 0 view (read_asked read) [] ∷ E) (token_count E) cs
+  pub own : AreOwnInOrder S (token_count E) (record { tag = 0; view = view; asked = read_asked read; bytes = [] }) cs
   pub last : ends_in_fault cs ≡ failed
   pub drained : first_open new.setup new.entries ≡ None
-  pub marked : mark_of S (cs ++ Accept 0 view (read_asked read) [] ∷ E) (accepted E) ≡ Some status
-  pub got : HasBytesRead S (cs ++ Accept 0 view (read_asked read) [] ∷ E) (accepted E) (record { tag = 0; view = view; asked = read_asked read; bytes = [] }) bytes
+  pub marked : mark_of S (cs ++ Accept 0 view (read_asked read) [] ∷ E) (token_count E) ≡ Some status
+  pub got : HasBytesRead S (cs ++ Accept 0 view (read_asked read) [] ∷ E) (token_count E) (record { tag = 0; view = view; asked = read_asked read; bytes = [] }) bytes
   pub long : length bytes ≡ read.1
 
 -- a fact of a history as that of an equal one
@@ -71,26 +71,26 @@ module _ (old new : State) (view : View) (k at : ℕ) (buffer : Vec ℕ) (status
   new-setup : new.setup ≡ old.setup
   new-setup = ap (λ (s : State). s.setup) out.finishes.collects.new_is ∙ served-setup
 
-  new-entries : new.entries ≡ Collect 0 (accepted old.entries) ∷ (cs ++ H)
+  new-entries : new.entries ≡ Collect 0 (token_count old.entries) ∷ (cs ++ H)
   new-entries =
       ap (λ (s : State). s.entries) out.finishes.collects.new_is
-      ∙ (ap (λ (t : ℕ). Collect 0 t ∷ out.finishes.served.entries) out.accepts.numbered ∙ ap (λ (E : List Entry). Collect 0 (accepted old.entries) ∷ E) served-entries)
+      ∙ (ap (λ (t : ℕ). Collect 0 t ∷ out.finishes.served.entries) out.accepts.numbered ∙ ap (λ (E : List Entry). Collect 0 (token_count old.entries) ∷ E) served-entries)
 
-  open-now : AreWhileOpen old.setup H (accepted old.entries) cs
+  open-now : AreWhileOpen old.setup H (token_count old.entries) cs
   open-now = cast (λ S E t. AreWhileOpen S E t cs) _ _ _ _ _ _ begun-setup begun-entries out.accepts.numbered out.finishes.serves.while_open
 
   asked-is : out.finishes.asked ≡ r
   asked-is = some-request out.finishes.asked r
       (sym (cast (λ S E t. request E t ≡ Some out.finishes.asked) old.setup old.setup _ _ _ _ refl served-entries out.accepts.numbered out.finishes.collects.named)
-      ∙ (while-request old.setup (accepted old.entries) H cs (accepted old.entries) open-now ∙ request-accept old.entries 0 view (read_asked read) []))
+      ∙ (while-request old.setup (token_count old.entries) H cs (token_count old.entries) open-now ∙ request-accept old.entries 0 view (read_asked read) []))
 
   abbrev alone : IsServedAlone old.setup out.token.number out.finishes.asked cs new
   alone = out.alone drained
 
-  reads-got : HasBytesRead old.setup (cs ++ H) (accepted old.entries) r bytes
+  reads-got : HasBytesRead old.setup (cs ++ H) (token_count old.entries) r bytes
   reads-got =
       let kind : out.finishes.asked.asked.kind ≡ Read = ap (λ (x : Request). x.asked.kind) asked-is in
-      subst (λ (x : Request). HasBytesRead old.setup (cs ++ H) (accepted old.entries) x bytes) asked-is
+      subst (λ (x : Request). HasBytesRead old.setup (cs ++ H) (token_count old.entries) x bytes) asked-is
       (cast (λ S E t. HasBytesRead S E t out.finishes.asked bytes) _ _ _ _ _ _ served-setup served-entries out.accepts.numbered (out.finishes.collects.read kind))
 
   pub served : Served old.setup old.entries view read status failed bytes new
@@ -98,9 +98,9 @@ module _ (old new : State) (view : View) (k at : ℕ) (buffer : Vec ℕ) (status
     cs = cs;
     setup = new-setup;
     entries = new-entries;
-    legal = legal-before old.setup (cs ++ H) (Collect 0 (accepted old.entries)) (cast (λ S E t. IsLegal S E) _ _ _ _ 0 0 new-setup new-entries refl out.finishes.collects.legal);
+    legal = legal-before old.setup (cs ++ H) (Collect 0 (token_count old.entries)) (cast (λ S E t. IsLegal S E) _ _ _ _ 0 0 new-setup new-entries refl out.finishes.collects.legal);
     open_ = open-now;
-    own = subst (λ (x : Request). AreOwnInOrder old.setup (accepted old.entries) x cs) asked-is (subst (λ (t : ℕ). AreOwnInOrder old.setup t out.finishes.asked cs) out.accepts.numbered alone.own);
+    own = subst (λ (x : Request). AreOwnInOrder old.setup (token_count old.entries) x cs) asked-is (subst (λ (t : ℕ). AreOwnInOrder old.setup t out.finishes.asked cs) out.accepts.numbered alone.own);
     last = out.finishes.last;
     drained = alone.drained;
     marked = cast (λ S E t. mark_of S E t ≡ Some status) _ _ _ _ _ _ served-setup served-entries out.accepts.numbered out.finishes.collects.marked;

@@ -9,7 +9,7 @@ use Rattle.disk_io2.specs.Views.{whole_view}
 use Rattle.std.proofs.lemmas.Bool.{cases_lt, or_right}
 use Rattle.std.proofs.lemmas.List.{append_assoc}
 use Rattle.history.specs.Eras.{is_present, media_id_of}
-use Rattle.history.specs.Tokens.{accepted, is_collect_of, was_collected}
+use Rattle.history.specs.Tokens.{token_count, is_collect_of, was_collected}
 use Rattle.history.specs.Contents.{contents, kept_contents}
 use Rattle.disk_core.specs.State.{State}
 use Rattle.history_laws.proofs.TokenLemmas.{collected-stays}
@@ -64,7 +64,7 @@ stays-on a b c f g one two = record {
   present = two.present ∙ one.present;
   bytes = λ k. subst (λ (S : Setup). contents S k c.entries ≡ contents S k b.entries) one.setup (two.bytes k) ∙ one.bytes k;
   kept = λ k. subst (λ (S : Setup). kept_contents S k c.entries ≡ kept_contents S k b.entries) one.setup (two.kept k) ∙ one.kept k;
-  collected = λ t from below. elim (cases_lt t (accepted b.entries)) [
+  collected = λ t from below. elim (cases_lt t (token_count b.entries)) [
     | inl early ↦ subst (λ (E : List Entry). was_collected E t ≡ true) (sym two.entries) (collected-later two.more b.entries t (one.collected t from early))
     | inr late ↦ two.collected t late below
   ];

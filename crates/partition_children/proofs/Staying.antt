@@ -10,7 +10,7 @@ use Rattle.history.specs.declared.entry.Entry.{Entry}
 use Rattle.history.specs.declared.entry.Entry.TheVariants.{Accept, Collect, Done, Fault}
 use Rattle.history.specs.Setup.{Setup}
 use Rattle.history.specs.Eras.{is_eject, is_insert, is_present, media_id_of}
-use Rattle.history.specs.Tokens.{accepted, was_collected}
+use Rattle.history.specs.Tokens.{token_count, was_collected}
 use Rattle.history.specs.Contents.{contents, kept_contents, piece_of}
 use Rattle.history.specs.Room.{faults}
 use Rattle.history_laws.proofs.ContentLemmas.{contents-same, is_flush_entry, kept-same, piece-none, piece-unchanged, piece-unchanged-fault}
@@ -37,7 +37,7 @@ pub same-accept : (S : Setup) (G : List Entry) (view : View) (read : ℕ × ℕ)
 same-accept S G view read = let e : Entry = Accept 0 view (read_asked read) [] in same-entry S G e refl refl refl (piece-none S G e refl)
 
 -- and no count but that of the commands
-gets-accepted : (G : List Entry) (t : ℕ) (cs : List Entry) → AreGets t cs → accepted (cs ++ G) ≡ accepted G
+gets-accepted : (G : List Entry) (t : ℕ) (cs : List Entry) → AreGets t cs → token_count (cs ++ G) ≡ token_count G
 gets-accepted G t [] all = refl
 gets-accepted G t (e ∷ cs) ((u, same), all) = rw same (accepted-same (cs ++ G) (get_of t u) refl ∙ gets-accepted G t cs all)
 
@@ -61,10 +61,10 @@ commands-same S G t f cs (inl (none, all)) = same-gets S G t cs all
 commands-same S G t f cs (inr (one, last)) =
     subst (λ (xs : List Entry). SameMedia S G (xs ++ G)) (sym last.is) (same-on S G (last.earlier ++ G) _ (same-gets S G t last.earlier last.gets) (same-fault S (last.earlier ++ G) t last.unit))
 
-commands-accepted : (G : List Entry) (t f : ℕ) (cs : List Entry) → Commands t f cs → accepted (cs ++ G) ≡ accepted G
+commands-accepted : (G : List Entry) (t f : ℕ) (cs : List Entry) → Commands t f cs → token_count (cs ++ G) ≡ token_count G
 commands-accepted G t f cs (inl (none, all)) = gets-accepted G t cs all
 commands-accepted G t f cs (inr (one, last)) =
-    ap (λ (xs : List Entry). accepted (xs ++ G)) last.is ∙ (accepted-same (last.earlier ++ G) (Fault t (Get last.unit.block last.unit.count) 0) refl ∙ gets-accepted G t last.earlier last.gets)
+    ap (λ (xs : List Entry). token_count (xs ++ G)) last.is ∙ (accepted-same (last.earlier ++ G) (Fault t (Get last.unit.block last.unit.count) 0) refl ∙ gets-accepted G t last.earlier last.gets)
 
 commands-faults : (G : List Entry) (t f : ℕ) (cs : List Entry) → Commands t f cs → faults (cs ++ G) ≡ faults G + f
 commands-faults G t f cs (inl (none, all)) = omega (arith, gets-faults G t cs all)
@@ -75,17 +75,17 @@ commands-faults G t f cs (inr (one, last)) =
 
 -- what a served read leaves of the disk
 pub read-stays : (old new : State) (view : View) (read : ℕ × ℕ) (status : Status) (failed : Bool) (bytes : List ℕ) (f : ℕ) (s : Served old.setup old.entries view read status failed bytes new)
-    → Commands (accepted old.entries) f s.cs → IsIdle new.gates → AddsEntriesAlone old f new
+    → Commands (token_count old.entries) f s.cs → IsIdle new.gates → AddsEntriesAlone old f new
 read-stays old new view read status failed bytes f s all idle =
     let accept : Entry = Accept 0 view (read_asked read) [] in
-    let t = accepted old.entries in
+    let t = token_count old.entries in
     let H = accept ∷ old.entries in
     let same : SameMedia old.setup old.entries (Collect 0 t ∷ (s.cs ++ H)) =
     same-on old.setup old.entries (s.cs ++ H) (Collect 0 t ∷ (s.cs ++ H))
     (same-on old.setup old.entries H (s.cs ++ H) (same-accept old.setup old.entries view read) (commands-same old.setup H t f s.cs all)) (same-collect old.setup (s.cs ++ H) t) in
     let same_new : SameMedia old.setup old.entries new.entries = subst (λ (E : List Entry). SameMedia old.setup old.entries E) (sym s.entries) same in
-    let count : accepted new.entries ≡ t + 1 =
-    ap accepted s.entries ∙ (accepted-same (s.cs ++ H) (Collect 0 t) refl ∙ (commands-accepted H t f s.cs all ∙ accepted-more old.entries accept refl)) in
+    let count : token_count new.entries ≡ t + 1 =
+    ap token_count s.entries ∙ (accepted-same (s.cs ++ H) (Collect 0 t) refl ∙ (commands-accepted H t f s.cs all ∙ accepted-more old.entries accept refl)) in
     record {
       setup = s.setup;
       more = Collect 0 t ∷ (s.cs ++ accept ∷ []);

@@ -11,7 +11,7 @@ use Rattle.history.specs.declared.entry.Command.TheVariants.{Get}
 use Rattle.history.specs.declared.entry.Entry.{Entry}
 use Rattle.history.specs.declared.entry.Entry.TheVariants.{Accept, Done, Collect}
 use Rattle.history.specs.Setup.{Setup}
-use Rattle.history.specs.Tokens.{accepted}
+use Rattle.history.specs.Tokens.{token_count}
 use Rattle.disk_io2.specs.Views.{whole_view}
 
 -- a read of so many bytes from this one on
@@ -28,7 +28,7 @@ gets_of S t (at, count) = reverse (map (get_of t) (units_of S.geometry at (at + 
 -- the entries after a read of medium k: it is accepted with tag 0, got, and collected
 abbrev pub after_read : Setup → ℕ → List Entry → ℕ × ℕ → List Entry
 after_read S k H read =
-    Collect 0 (accepted H) ∷ (gets_of S (accepted H) read ++ Accept 0 (whole_view S k) (read_asked read) [] ∷ H)
+    Collect 0 (token_count H) ∷ (gets_of S (token_count H) read ++ Accept 0 (whole_view S k) (read_asked read) [] ∷ H)
 
 -- those after all of these reads
 unfoldable pub after_reads : Setup → ℕ → List Entry → List (ℕ × ℕ) → List Entry

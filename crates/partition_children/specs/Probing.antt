@@ -9,7 +9,7 @@ use Rattle.history.specs.declared.entry.Entry.{Entry}
 use Rattle.history.specs.declared.entry.Entry.TheVariants.{Accept, Fault, Collect}
 use Rattle.history.specs.Setup.{Setup, size_of, blocks_of}
 use Rattle.history.specs.Eras.{media_id_of, is_present}
-use Rattle.history.specs.Tokens.{accepted, was_collected}
+use Rattle.history.specs.Tokens.{token_count, was_collected}
 use Rattle.history.specs.Contents.{contents, kept_contents}
 use Rattle.history.specs.Next.{first_open}
 use Rattle.history.specs.Room.{faults}
@@ -49,7 +49,7 @@ pub record AddsEntriesAlone (old : State) (failed : ℕ) (new : State) : Type 0 
   pub present : is_present new.entries ≡ is_present old.entries
   pub bytes : (k : ℕ) → contents old.setup k new.entries ≡ contents old.setup k old.entries
   pub kept : (k : ℕ) → kept_contents old.setup k new.entries ≡ kept_contents old.setup k old.entries
-  pub collected : (t : ℕ) → accepted old.entries ≤ t → t < accepted new.entries → was_collected new.entries t ≡ true
+  pub collected : (t : ℕ) → token_count old.entries ≤ t → t < token_count new.entries → was_collected new.entries t ≡ true
   pub failures : faults new.entries ≡ faults old.entries + failed
 
 -- a read that succeeded: its entries, and its bytes, which are those of the medium
@@ -64,8 +64,8 @@ pub record FailsToRead (S : Setup) (k : ℕ) (H : List Entry) (read : ℕ × ℕ
   pub failed : Span
   pub rest : List Span
   pub units : units_of S.geometry read.0 (read.0 + read.1) ≡ got ++ failed ∷ rest
-  pub entries : all ≡ Collect 0 (accepted H) ∷ Fault (accepted H) (Get failed.block failed.count) 0
-      ∷ (reverse (map (get_of (accepted H)) got) ++ Accept 0 (whole_view S k) (read_asked read) [] ∷ H)
+  pub entries : all ≡ Collect 0 (token_count H) ∷ Fault (token_count H) (Get failed.block failed.count) 0
+      ∷ (reverse (map (get_of (token_count H)) got) ++ Accept 0 (whole_view S k) (read_asked read) [] ∷ H)
 
 -- a read that did not succeed: the device failed, or memory ran out and nothing has changed
 unfoldable pub EndsRead : State → ℕ → ℕ × ℕ → ReadFault → State → Type 0

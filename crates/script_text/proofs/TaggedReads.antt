@@ -8,7 +8,7 @@ use Rattle.history.specs.declared.entry.View.{View}
 use Rattle.history.specs.declared.entry.Asked.{Asked}
 use Rattle.history.specs.declared.entry.Entry.{Entry}
 use Rattle.history.specs.declared.entry.Entry.TheVariants.{Accept, Refuse, Done, Fault, Collect, Cancel, Reset, Eject, Insert, Protect}
-use Rattle.history.specs.Tokens.{Request, is_read, is_accept, accepted, request}
+use Rattle.history.specs.Tokens.{Request, is_read, is_accept, token_count, request}
 use Rattle.script_text.specs.Report.{is_tagged_read, tagged_read, tagged_reads, is_tagged}
 
 pub map_both : (es fs : List Entry) → tagged_reads (es ++ fs) ≡ tagged_reads es ++ tagged_reads fs
@@ -52,10 +52,10 @@ pick true r o = refl
 pick false r o = refl
 
 -- as many as there are tokens
-pub counted : (H : List Entry) → length (tagged_reads (reverse H)) ≡ accepted H
-unfolding tagged_reads accepted
+pub counted : (H : List Entry) → length (tagged_reads (reverse H)) ≡ token_count H
+unfolding tagged_reads token_count
 counted [] = refl
-counted (Accept tag view asked bytes ∷ before) = ap length (added tag view asked bytes before) ∙ length-append (tagged_reads (reverse before)) _ ∙ (let one : accepted (Accept tag view asked bytes ∷ before) ≡ 1 + accepted before = sum_by-cons (λ e. cond (is_accept e) 1 0) (Accept tag view asked bytes) before in let n = counted before in omega arith)
+counted (Accept tag view asked bytes ∷ before) = ap length (added tag view asked bytes before) ∙ length-append (tagged_reads (reverse before)) _ ∙ (let one : token_count (Accept tag view asked bytes ∷ before) ≡ 1 + token_count before = sum_by-cons (λ e. cond (is_accept e) 1 0) (Accept tag view asked bytes) before in let n = counted before in omega arith)
 counted (Refuse tag view asked media_id status ∷ before) = ap length (same (Refuse tag view asked media_id status) before refl) ∙ counted before
 counted (Done token command ∷ before) = ap length (same (Done token command) before refl) ∙ counted before
 counted (Fault token command done ∷ before) = ap length (same (Fault token command done) before refl) ∙ counted before
@@ -72,8 +72,8 @@ tagged_is [] t = (unfold tagged_reads in refl)
 tagged_is (Accept tag view asked bytes ∷ before) t =
     let r : Request = record { tag = tag; view = view; asked = asked; bytes = bytes } in
     ap (λ l. is_tagged l t) (added tag view asked bytes before)
-    ∙ at_push (nat_eq t (accepted before)) (tagged_reads (reverse before)) _ t (ap (nat_eq t) (counted before))
-    ∙ (rw (tagged_is before t) (pick (nat_eq t (accepted before)) r (request before t)))
+    ∙ at_push (nat_eq t (token_count before)) (tagged_reads (reverse before)) _ t (ap (nat_eq t) (counted before))
+    ∙ (rw (tagged_is before t) (pick (nat_eq t (token_count before)) r (request before t)))
 tagged_is (Refuse tag view asked media_id status ∷ before) t = ap (λ l. is_tagged l t) (same (Refuse tag view asked media_id status) before refl) ∙ tagged_is before t
 tagged_is (Done token command ∷ before) t = ap (λ l. is_tagged l t) (same (Done token command) before refl) ∙ tagged_is before t
 tagged_is (Fault token command done ∷ before) t = ap (λ l. is_tagged l t) (same (Fault token command done) before refl) ∙ tagged_is before t

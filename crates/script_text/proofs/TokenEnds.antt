@@ -3,7 +3,7 @@ use Rattle.std.proofs.Common.{◌≡◌, ℕ, zero, suc, List, [], ◌∷◌, le
 use Rattle.efi_status.specs.declared.Status.{Status}
 use Rattle.history.specs.declared.entry.Entry.{Entry}
 use Rattle.history.specs.Setup.{Setup}
-use Rattle.history.specs.Tokens.{accepted}
+use Rattle.history.specs.Tokens.{token_count}
 use Rattle.history.specs.Marks.{mark_of}
 use Rattle.script_text.specs.declared.report.parts.TokenLine.{TokenLine}
 use Rattle.script_text.specs.Report.{AreEnds}
@@ -18,5 +18,5 @@ mark_at mark [] all t = tt
 mark_at mark (line ∷ more) (first, later) zero = first
 mark_at mark (line ∷ more) (first, later) (suc t) = mark_at (λ u. mark (suc u)) more later t
 
-pub ends_one_by_one : (S : Setup) (H : List Entry) (ends : List TokenLine) → length ends ≡ accepted H → HaveMarks (mark_of S H) ends → AreEnds S H ends
+pub ends_one_by_one : (S : Setup) (H : List Entry) (ends : List TokenLine) → length ends ≡ token_count H → HaveMarks (mark_of S H) ends → AreEnds S H ends
 ends_one_by_one S H ends count all = record { count = count; each = mark_at (mark_of S H) ends all }

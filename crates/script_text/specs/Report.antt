@@ -6,7 +6,7 @@ use Rattle.efi_status.specs.StatusTable.{name_of}
 use Rattle.history.specs.declared.entry.Entry.{Entry}
 use Rattle.history.specs.declared.entry.Entry.TheVariants.{Accept}
 use Rattle.history.specs.Setup.{Setup, size_of, per_of}
-use Rattle.history.specs.Tokens.{Request, accepted, request, is_read, from_of}
+use Rattle.history.specs.Tokens.{Request, token_count, request, is_read, from_of}
 use Rattle.history.specs.Marks.{mark_of}
 use Rattle.history.specs.Contents.{bytes_read}
 use Rattle.script_text.specs.declared.report.parts.KeptMedium.{KeptMedium}
@@ -104,7 +104,7 @@ givens_of tokens = map (λ line. line.given) tokens
 
 -- the lines say how the tokens ended, one for each token in order
 pub record AreEnds (S : Setup) (H : List Entry) (tokens : List TokenLine) : Type 0 where
-  pub count : length tokens ≡ accepted H
+  pub count : length tokens ≡ token_count H
   pub each : (t : ℕ) → IfSome (slice_get tokens t) (λ line. mark_of S H t ≡ Some line.status)
 
 -- these are the bytes that the token read, as far as its medium tells them
@@ -119,5 +119,5 @@ pub record IsGiven (S : Setup) (H : List Entry) (t : ℕ) (given : Option (List 
 
 -- one for each token in order
 pub record AreGiven (S : Setup) (H : List Entry) (given : List (Option (List ℕ))) : Type 0 where
-  pub count : length given ≡ accepted H
+  pub count : length given ≡ token_count H
   pub each : (t : ℕ) → IfSome (slice_get given t) (IsGiven S H t)

@@ -14,7 +14,7 @@ use Rattle.history.specs.Eras.{media_id_of}
 use Rattle.history.specs.Setup.{Setup}
 use Rattle.disk_core.specs.declared.answers.Token.{Token}
 use Rattle.history.specs.Marks.{mark_of}
-use Rattle.history.specs.Tokens.{Request, accepted, is_accept, is_collect_of, was_collected}
+use Rattle.history.specs.Tokens.{Request, token_count, is_accept, is_collect_of, was_collected}
 use Rattle.history.specs.Marks.{IsOutstanding}
 use Rattle.history.specs.Next.{Outcome, Made, Failed, entry_of}
 use Rattle.history.specs.Rules.{MayFollow, IsLegal}
@@ -79,20 +79,20 @@ did-keeps old new i token e does keeps = record {
   script = keeps-to old.disk.setup new.disk.setup old.script new.script _ new.places _ new.disk.entries does.goes_on.setup does.script does.places does.entries (keeps-does old.disk.setup old.script old.places old.disk.entries i e keeps.script does.does);
   buffers = λ t later was.
       let same : was_collected new.disk.entries t ≡ was_collected old.disk.entries t = rw does.entries (does-no-collect old.disk.entries t e (λ x is. line-no-collect old.disk.setup old.disk.entries t (i + 1) does.does.role.stand does.does.order x (sym does.does.entry ∙ is))) in
-      subst IsSome (sym (does.given t)) (keeps.buffers t (subst (λ (d : Script). accepted d.opening ≤ t) does.script later) (sym same ∙ was));
+      subst IsSome (sym (does.given t)) (keeps.buffers t (subst (λ (d : Script). token_count d.opening ≤ t) does.script later) (sym same ∙ was));
 }
 
 -- a token that was handed back
 pub takes-keeps : (old new : DeskState) (tag t : ℕ) → TakesBack old tag t new → ((done : ℕ → ℕ) → ((i : ℕ) → done i ≡ length (places_at old.places i)) → MayComeNext old.disk.setup old.script old.disk.entries done (Collect tag t)) → Keeps old → Keeps new
 takes-keeps old new tag t takes may keeps = record {
   script = keeps-to old.disk.setup new.disk.setup old.script new.script old.places new.places _ new.disk.entries (ap (λ (s : State). s.setup) takes.collects.new_is) takes.script takes.places entries (keeps-enters old.disk.setup old.script old.places old.disk.entries (Collect tag t) keeps.script may);
-  buffers = λ u later was. by u (subst (λ (d : Script). accepted d.opening ≤ u) takes.script later) (subst (λ H. was_collected H u ≡ true) entries was) (cases_eq u t);
+  buffers = λ u later was. by u (subst (λ (d : Script). token_count d.opening ≤ u) takes.script later) (subst (λ H. was_collected H u ≡ true) entries was) (cases_eq u t);
 }
   where
     entries : new.disk.entries ≡ Collect tag t ∷ old.disk.entries
     entries = ap (λ (s : State). s.entries) takes.collects.new_is
 
-    by : (u : ℕ) → accepted old.script.opening ≤ u → was_collected (Collect tag t ∷ old.disk.entries) u ≡ true → (u ≡ t) ⊎ (u ≢ t) → IsSome (given_at new.given u)
+    by : (u : ℕ) → token_count old.script.opening ≤ u → was_collected (Collect tag t ∷ old.disk.entries) u ≡ true → (u ≡ t) ⊎ (u ≢ t) → IsSome (given_at new.given u)
     by u later was (inl same) = rw (same, takes.kept) refl
     by u later was (inr other) = subst IsSome (sym (takes.others u other)) (keeps.buffers u later (sym (other-collect old.disk.entries tag t u (λ e. other (sym e))) ∙ was))
 
@@ -145,7 +145,7 @@ made-collect : (u t : ℕ) (c : Command) (outcome : Outcome) → is_collect_of u
 made-collect u t c Made = refl
 made-collect u t c (Failed done) = refl
 
-made-enters : (S : Setup) (d : Script) (H : List Entry) (done : ℕ → ℕ) (t : ℕ) (c : Command) (outcome : Outcome) → accepted d.opening ≤ t → MayComeNext S d H done (entry_of (record { token = t; command = c }) outcome)
+made-enters : (S : Setup) (d : Script) (H : List Entry) (done : ℕ → ℕ) (t : ℕ) (c : Command) (outcome : Outcome) → token_count d.opening ≤ t → MayComeNext S d H done (entry_of (record { token = t; command = c }) outcome)
 made-enters S d H done t c Made later = later
 made-enters S d H done t c (Failed n) later = later
 
@@ -186,7 +186,7 @@ moved-says old new b Says moves sound says = record { says = says; script = rw (
 pub moved-keeps : (old new : DeskState) (Says : State → State → Type 0) → Moves old.disk new.disk → OnDisk old new Says → Keeps old → Keeps new
 moved-keeps old new Says moves on keeps = record {
   script = rw (on.script, on.places) (script moves);
-  buffers = λ t later was. rw on.given (keeps.buffers t (subst (λ (d : Script). accepted d.opening ≤ t) on.script later) (sym (collected moves t) ∙ was));
+  buffers = λ t later was. rw on.given (keeps.buffers t (subst (λ (d : Script). token_count d.opening ≤ t) on.script later) (sym (collected moves t) ∙ was));
 }
   where
     script : Moves old.disk new.disk → KeepsScript new.disk.setup old.script old.places new.disk.entries

@@ -7,7 +7,7 @@ use Rattle.history.specs.declared.entry.Asked.{Asked}
 use Rattle.history.specs.declared.entry.Entry.{Entry}
 use Rattle.history.specs.declared.entry.Entry.TheVariants.{Accept, Refuse}
 use Rattle.history.specs.Setup.{Setup}
-use Rattle.history.specs.Tokens.{is_accept, accepted, is_collect_of}
+use Rattle.history.specs.Tokens.{is_accept, token_count, is_collect_of}
 use Rattle.history.specs.Rules.{refusal_of, IsLegal}
 use Rattle.block_gate.specs.Gates.{Gates}
 use Rattle.disk_core.specs.declared.answers.Token.{Token}
@@ -68,7 +68,7 @@ pub does-accept : (old new : State) (b roomy b' : Books) (place tag : ℕ) (view
     → Accepts old tag view media_id asked bytes brought token new → GoesOn old new → AddsToken roomy place tag token.number b' → DoesOn old b new b' (Some (answer_of tag view asked bytes media_id (refusal_of old.setup old.entries view asked media_id))) (Some token)
 does-accept old new b roomy b' place tag view media_id asked bytes brought token tagged sound change accepts goes adds =
     let legal : IsLegal old.setup (Accept tag view asked bytes ∷ old.entries) = subst (λ (s : State). IsLegal s.setup s.entries) accepts.new_is accepts.legal in
-    let adds_next : AddsToken roomy place tag (accepted old.entries) b' = subst (λ n. AddsToken roomy place tag n b') accepts.numbered adds in
+    let adds_next : AddsToken roomy place tag (token_count old.entries) b' = subst (λ n. AddsToken roomy place tag n b') accepts.numbered adds in
     let next : AreBooksSound old.setup (Accept tag view asked bytes ∷ old.entries) b' = sound-token old.setup old.entries place tag view asked bytes roomy b' (legal-before old.setup old.entries (Accept tag view asked bytes) legal) (legal-last old.setup old.entries (Accept tag view asked bytes) legal) tagged (roomy-sound old.setup old.entries b roomy place sound change) adds_next in
     let same : AreSame b roomy = roomy-same b roomy place change in
     record {

@@ -7,7 +7,7 @@ use Rattle.history.specs.declared.entry.Entry.{Entry}
 use Rattle.history.specs.declared.entry.Entry.TheVariants.{Cancel, Reset, Eject, Insert, Protect}
 use Rattle.history.specs.Setup.{Setup}
 use Rattle.history.specs.Eras.{is_present, media_id_of}
-use Rattle.history.specs.Tokens.{accepted, request, is_accept, is_collect_of}
+use Rattle.history.specs.Tokens.{token_count, request, is_accept, is_collect_of}
 use Rattle.history.specs.Marks.{first_from, has_view, is_outstanding, IsOutstanding, ending}
 use Rattle.history.specs.Next.{first_open}
 use Rattle.history_laws.proofs.ClosedLemmas.{cancel-some, cancel-none, reset-some, reset-none}
@@ -52,9 +52,9 @@ module _ (old new : State) (b : Books) (sound : AreBooksOf old b) where
   ends-some e (suc n) other none no_accept ends some goes = does-ends e (suc n) other none no_accept ends goes
 
   pub does-cancel : (tag : ℕ) (view : View) (count : ℕ) → EndSays old (Cancel tag view) count new → DoesOn old b new b (entry_if (is_view_open old.setup old.entries view) (Cancel tag view)) None
-  does-cancel tag view count says = by (first_from (λ t. is_outstanding old.setup old.entries t && has_view view (request old.entries t)) 0 (accepted old.entries)) refl
+  does-cancel tag view count says = by (first_from (λ t. is_outstanding old.setup old.entries t && has_view view (request old.entries t)) 0 (token_count old.entries)) refl
     where
-      by : (o : Option ℕ) → first_from (λ t. is_outstanding old.setup old.entries t && has_view view (request old.entries t)) 0 (accepted old.entries) ≡ o → DoesOn old b new b (entry_if (is_view_open old.setup old.entries view) (Cancel tag view)) None
+      by : (o : Option ℕ) → first_from (λ t. is_outstanding old.setup old.entries t && has_view view (request old.entries t)) 0 (token_count old.entries) ≡ o → DoesOn old b new b (entry_if (is_view_open old.setup old.entries view) (Cancel tag view)) None
       by None none = rw none (ends-none (Cancel tag view) count says (cancel-none old.setup old.entries tag view none) (end_goes_on old new (Cancel tag view) count says))
       by (Some t) some = rw some (ends-some (Cancel tag view) count refl (λ t. refl) refl says (cancel-some old.setup old.entries tag view t some) (end_goes_on old new (Cancel tag view) count says))
 

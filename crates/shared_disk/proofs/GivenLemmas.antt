@@ -12,7 +12,7 @@ use Rattle.disk_core.specs.Calls.{MarkSays}
 use Rattle.shared_disk.specs.declared.books.Buffer.{Buffer}
 use Rattle.shared_disk.specs.declared.books.Buffer.TheVariants.{Awaited, Kept, Gone}
 use Rattle.shared_disk.specs.Inside.{is_awaited}
-use Rattle.history.specs.Tokens.{Request, accepted}
+use Rattle.history.specs.Tokens.{Request, token_count}
 use Rattle.history.specs.Commands.{moves}
 use Rattle.history.specs.Marks.{mark_of, is_outstanding}
 use Rattle.history.specs.Rules.{MayFollow, IsLegal}
@@ -45,7 +45,7 @@ mark-closed s t (Mark.Ended status) legal not says = ended-test s.setup s.entrie
   where
     some-none : (status : Status) → Some status ≡ None → ⊥
     some-none status e = cc
-mark-closed s t Mark.Unknown legal not (inl past) = rw (le-ltb t (accepted s.entries) past) refl
+mark-closed s t Mark.Unknown legal not (inl past) = rw (le-ltb t (token_count s.entries) past) refl
 mark-closed s t Mark.Unknown legal not (inr was) = ended-test s.setup s.entries t (λ none. clash (open-kept s.setup s.entries t legal none) was)
   where
     clash : {b : Bool} → b ≡ false → b ≡ true → ⊥

@@ -3,7 +3,7 @@ use Rattle.std.proofs.Common.{◌≡◌, ℕ, ◌<◌, ◌≤◌, inl, inr, true
 use Rattle.std.proofs.lemmas.Bool.{cases_lt}
 use Rattle.history.specs.declared.entry.Entry.{Entry}
 use Rattle.history.specs.Setup.{Setup}
-use Rattle.history.specs.Tokens.{accepted, request, was_collected}
+use Rattle.history.specs.Tokens.{token_count, request, was_collected}
 use Rattle.history.specs.Marks.{is_outstanding}
 use Rattle.history.specs.Next.{first_open}
 use Rattle.history_laws.proofs.NextLemmas.{outstanding-from, first-open-fails}
@@ -21,7 +21,7 @@ use Rattle.shared_disk.proofs.LineLemmas.{state-same}
 use Rattle.shared_disk.proofs.WaitLemmas.{there-is, awaited-no, awaited-yes}
 
 -- the books with other marks
-pub sound-marks : (S : Setup) (H : List Entry) (b : Books) (n m : ℕ) → AreBooksSound S H b → n ≤ accepted H → m ≤ accepted H → ((t : ℕ) → t < n → is_outstanding S H t ≡ false) → ((t : ℕ) → t < m → was_collected H t ≡ true)
+pub sound-marks : (S : Setup) (H : List Entry) (b : Books) (n m : ℕ) → AreBooksSound S H b → n ≤ token_count H → m ≤ token_count H → ((t : ℕ) → t < n → is_outstanding S H t ≡ false) → ((t : ℕ) → t < m → was_collected H t ≡ true)
     → AreBooksSound S H (record { opened = b.opened; clients = b.clients; courses = b.courses; slots = b.slots; ended = n; collected = m })
 sound-marks S H b n m sound n_few m_few closed collected = record {
   opened = sound.opened;
@@ -55,17 +55,17 @@ module _ (S : Setup) (H : List Entry) (b : Books) (sound : AreBooksSound S H b) 
         awaited-yes S H t s.0.buffer slot.buffer (before t s.0 late lt s.1))
   ]
 
-  pub none-left : accepted H ≤ m → first_left H ≡ None
+  pub none-left : token_count H ≤ m → first_left H ≡ None
   unfolding first_left
-  none-left all = first_from-none (λ t. not (was_collected H t)) 0 (accepted H) (λ t le lt. ap not (collected-before t (omega (arith, lt, all))))
+  none-left all = first_from-none (λ t. not (was_collected H t)) 0 (token_count H) (λ t le lt. ap not (collected-before t (omega (arith, lt, all))))
 
-  pub least-left : m < accepted H → ((s : Slot) → slice_get b.slots.items m ≡ Some s → is_awaited s.buffer ≡ true) → (first_left H ≡ Some m) × (was_collected H m ≡ false)
+  pub least-left : m < token_count H → ((s : Slot) → slice_get b.slots.items m ≡ Some s → is_awaited s.buffer ≡ true) → (first_left H ≡ Some m) × (was_collected H m ≡ false)
   unfolding first_left
   least-left lt here =
       let s : (s : Slot) × (slice_get b.slots.items m ≡ Some s) = there-is b.slots.items m (omega (arith, lt, sound.counted)) in
       let slot : IsSlot S H m s.0 = sound.slots m s.0 s.1 in
       let left : was_collected H m ≡ false = awaited-no S H m s.0.buffer slot.buffer (here s.0 s.1) in
-      (first_from-least (λ t. not (was_collected H t)) (accepted H) m lt (ap not left) (λ u less. ap not (collected-before u less)), left)
+      (first_from-least (λ t. not (was_collected H t)) (token_count H) m lt (ap not left) (λ u less. ap not (collected-before u less)), left)
 
 -- nothing may be collected: a line is left, a token is outstanding, or none is left
 pub last-line : (disk : State) (b b' : Books) (i : ℕ) → AreSame b b' → IsSome (order_in b i) → LastSays (desk_state disk b) None (desk_state disk b')

@@ -7,7 +7,7 @@ use Rattle.history.specs.declared.entry.Entry.{Entry}
 use Rattle.history.specs.declared.order.Order.{Order}
 use Rattle.history.specs.declared.order.Order.TheVariants as order
 use Rattle.history.specs.Setup.{Setup}
-use Rattle.history.specs.Tokens.{accepted, request, was_collected}
+use Rattle.history.specs.Tokens.{token_count, request, was_collected}
 use Rattle.disk_core.specs.declared.answers.Token.{Token}
 use Rattle.disk_core.specs.State.{State}
 use Rattle.disk_core.specs.GoingOn.{GoesOn}
@@ -162,13 +162,13 @@ unfolding LineSays desk_state
 wait-not-yet disk b b' i same next waits = (next, is-true (first_own_open disk.setup disk.entries (i + 1)) waits, state-same disk b b' same)
 
 -- the least uncollected token of a client none of whose tokens is outstanding
-pub own-left : (S : Setup) (H : List Entry) (tag t : ℕ) → Some t ≡ first_own_left H tag → false ≡ is_some (first_own_open S H tag) → (t < accepted H) × (was_collected H t ≡ false) × (is_outstanding S H t ≡ false)
+pub own-left : (S : Setup) (H : List Entry) (tag t : ℕ) → Some t ≡ first_own_left H tag → false ≡ is_some (first_own_open S H tag) → (t < token_count H) × (was_collected H t ≡ false) × (is_outstanding S H t ≡ false)
 unfolding first_own_left first_own_open
 own-left S H tag t least none =
-    let found = first_from-some (λ u. not (was_collected H u) && has_tag tag (request H u)) 0 (accepted H) t (sym least) in
+    let found = first_from-some (λ u. not (was_collected H u) && has_tag tag (request H u)) 0 (token_count H) t (sym least) in
     let own : has_tag tag (request H t) ≡ true = and-second (not (was_collected H t)) (has_tag tag (request H t)) found.2 in
     let left : not (was_collected H t) ≡ true = and-first (not (was_collected H t)) (has_tag tag (request H t)) found.2 in
-    let fails : (is_outstanding S H t && has_tag tag (request H t)) ≡ false = first_from-fails (λ u. is_outstanding S H u && has_tag tag (request H u)) 0 (accepted H) t (is-none _ none) (omega arith) (omega (arith, found.1)) in
+    let fails : (is_outstanding S H t && has_tag tag (request H t)) ≡ false = first_from-fails (λ u. is_outstanding S H u && has_tag tag (request H u)) 0 (token_count H) t (is-none _ none) (omega arith) (omega (arith, found.1)) in
     (omega (arith, found.1), not-true (was_collected H t) left, and-one (is_outstanding S H t) (rw own at fails))
   where
     not-true : (b : Bool) → not b ≡ true → b ≡ false

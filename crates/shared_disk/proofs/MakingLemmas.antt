@@ -8,7 +8,7 @@ use Rattle.history.specs.declared.entry.Entry.TheVariants.{Accept}
 use Rattle.std.specs.Global.{Vec}
 use Rattle.history.specs.declared.entry.Entry.{Entry}
 use Rattle.history.specs.Setup.{Setup}
-use Rattle.history.specs.Tokens.{Request, accepted, request}
+use Rattle.history.specs.Tokens.{Request, token_count, request}
 use Rattle.disk_core.specs.State.{State}
 use Rattle.shared_disk.specs.declared.clients.Client.{Client}
 use Rattle.shared_disk.specs.declared.books.Buffer.TheVariants.{Gone}
@@ -52,18 +52,18 @@ none-given n slots is = rw is (by n)
     by zero = refl
     by (suc n) = ap (λ xs. None ∷ xs) (by n)
 
-pub state-new : (disk : State) (clients : Vec Client) (courses : Vec Course) (slots : Vec Slot) (n : ℕ) → n ≡ length disk.entries → AreNew clients.items courses.items → slots.items ≡ replicate (accepted disk.entries) (record { tag = 0; buffer = Gone })
+pub state-new : (disk : State) (clients : Vec Client) (courses : Vec Course) (slots : Vec Slot) (n : ℕ) → n ≡ length disk.entries → AreNew clients.items courses.items → slots.items ≡ replicate (token_count disk.entries) (record { tag = 0; buffer = Gone })
     → desk_state disk (record { opened = n; clients = clients; courses = courses; slots = slots; ended = 0; collected = 0 }) ≡ desk_over disk (roles_of clients.items)
 unfolding desk_state
-state-new disk clients courses slots n is new gone = rw (first-all disk.entries n is, no-places clients.items courses.items new, none-given (accepted disk.entries) slots.items gone) refl
+state-new disk clients courses slots n is new gone = rw (first-all disk.entries n is, no-places clients.items courses.items new, none-given (token_count disk.entries) slots.items gone) refl
 
 -- no token of an opening has the tag of a client
 pub opening-tag : (H : List Entry) (t : ℕ) (r : Request) → All (λ e. tag_of e ≡ 0) H → request H t ≡ Some r → r.tag ≡ 0
 unfolding request
 opening-tag [] t r tags named = cc
-opening-tag (Accept tag view asked bytes ∷ H) t r tags named = by (nat_eq t (accepted H)) refl (λ there. opening-tag H t r (All-tail (λ e. tag_of e ≡ 0) _ H tags) there)
+opening-tag (Accept tag view asked bytes ∷ H) t r tags named = by (nat_eq t (token_count H)) refl (λ there. opening-tag H t r (All-tail (λ e. tag_of e ≡ 0) _ H tags) there)
   where
-    by : (b : Bool) → nat_eq t (accepted H) ≡ b → (request H t ≡ Some r → r.tag ≡ 0) → r.tag ≡ 0
+    by : (b : Bool) → nat_eq t (token_count H) ≡ b → (request H t ≡ Some r → r.tag ≡ 0) → r.tag ≡ 0
     by true is later = let same : tag ≡ r.tag = (let named : Some (record { tag = tag; view = view; asked = asked; bytes = bytes }) ≡ Some r = rw is at named in cc) in sym same ∙ All-head (λ e. tag_of e ≡ 0) _ H tags
     by false is later = later (rw is at named)
 opening-tag (e ∷ H) t r tags named = opening-tag H t r (All-tail (λ e. tag_of e ≡ 0) _ H tags) named
@@ -86,7 +86,7 @@ past-slot zero t s at = cc
 past-slot (suc n) zero s at = (omega arith, sym (some-same (record { tag = 0; buffer = Gone }) s at))
 past-slot (suc n) (suc t) s at = let before : (t < n) × (s ≡ record { tag = 0; buffer = Gone }) = past-slot n t s at in (omega (arith, before.0), before.1)
 
-pub sound-new : (S : Setup) (H : List Entry) (clients : Vec Client) (courses : Vec Course) (slots : Vec Slot) (n : ℕ) → n ≡ length H → AreDeskClients clients.items → IsOpening H → AreNew clients.items courses.items → slots.items ≡ replicate (accepted H) (record { tag = 0; buffer = Gone })
+pub sound-new : (S : Setup) (H : List Entry) (clients : Vec Client) (courses : Vec Course) (slots : Vec Slot) (n : ℕ) → n ≡ length H → AreDeskClients clients.items → IsOpening H → AreNew clients.items courses.items → slots.items ≡ replicate (token_count H) (record { tag = 0; buffer = Gone })
     → AreBooksSound S H (record { opened = n; clients = clients; courses = courses; slots = slots; ended = 0; collected = 0 })
 sound-new S H clients courses slots n is are opening new gone = record {
   opened = omega (arith, is);
@@ -100,21 +100,21 @@ sound-new S H clients courses slots n is are opening new gone = record {
       record {
         few = rw course.places (omega arith);
         room = course.room;
-        own = course.tokens ∙ sym (opening-own H i (accepted H) opening);
+        own = course.tokens ∙ sym (opening-own H i (token_count H) opening);
         ended_few = rw course.ended (omega arith);
         collected_few = rw course.collected (omega arith);
         ended = λ j t lt. absurd (omega (arith, rw course.ended at lt));
         collected = λ j t lt. absurd (omega (arith, rw course.collected at lt));
       };
-  counted = ap length gone ∙ length-replicate (accepted H) (record { tag = 0; buffer = Gone });
-  slots = λ t s at. past t s (past-slot (accepted H) t s (rw gone at at));
+  counted = ap length gone ∙ length-replicate (token_count H) (record { tag = 0; buffer = Gone });
+  slots = λ t s at. past t s (past-slot (token_count H) t s (rw gone at at));
   ended_few = omega arith;
   collected_few = omega arith;
   ended = λ t lt. absurd (omega (arith, lt));
   collected = λ t lt. absurd (omega (arith, lt));
 }
   where
-    past : (t : ℕ) (s : Slot) → (t < accepted H) × (s ≡ record { tag = 0; buffer = Gone }) → IsSlot S H t s
+    past : (t : ℕ) (s : Slot) → (t < token_count H) × (s ≡ record { tag = 0; buffer = Gone }) → IsSlot S H t s
     past t s there =
         let r : (r : Request) × (request H t ≡ Some r) = request-some H t there.0 in
         rw (there.1) (record { tagged = tagged (request H t) (λ q. opening-tag H t q opening.tags) r.0 r.1; buffer = opening.collected t there.0 })

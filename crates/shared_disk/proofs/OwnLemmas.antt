@@ -3,7 +3,7 @@ use Rattle.std.proofs.Common.{◌≡◌, ◌≢◌, ℕ, zero, suc, ◌+◌, ◌
 use Rattle.std.proofs.lemmas.Bool.{cases_eq, cases_lt}
 use Rattle.std.proofs.lemmas.Option.{slice_get_within}
 use Rattle.history.specs.declared.entry.Entry.{Entry}
-use Rattle.history.specs.Tokens.{accepted, request}
+use Rattle.history.specs.Tokens.{token_count, request}
 use Rattle.history.specs.Marks.{first_from}
 use Rattle.history_laws.proofs.ScanLemmas.{first_from-none, first_from-some, first_from-fails}
 use Rattle.shared_disk.specs.Lines.{has_tag, own_before}
@@ -103,22 +103,22 @@ and-false true = refl
 and-false false = refl
 
 -- of the tokens of the tag those before a place are done with, and the one there is not: it is the least
-pub own-least : (H : List Entry) (tag m t : ℕ) (test : ℕ → Bool) → ((j u : ℕ) → j < m → slice_get (own_before H tag (accepted H)) j ≡ Some u → test u ≡ false) → slice_get (own_before H tag (accepted H)) m ≡ Some t → test t ≡ true
-    → first_from (λ u. test u && has_tag tag (request H u)) 0 (accepted H) ≡ Some t
+pub own-least : (H : List Entry) (tag m t : ℕ) (test : ℕ → Bool) → ((j u : ℕ) → j < m → slice_get (own_before H tag (token_count H)) j ≡ Some u → test u ≡ false) → slice_get (own_before H tag (token_count H)) m ≡ Some t → test t ≡ true
+    → first_from (λ u. test u && has_tag tag (request H u)) 0 (token_count H) ≡ Some t
 own-least H tag m t test done at is =
-    let here : IsOwnAt H tag (accepted H) m t = own-at H tag (accepted H) m t at in
-    first_from-least (λ u. test u && has_tag tag (request H u)) (accepted H) t here.within (rw (is, here.own) refl) (λ u lt. by u (here.before u lt) (has_tag tag (request H u)) refl)
+    let here : IsOwnAt H tag (token_count H) m t = own-at H tag (token_count H) m t at in
+    first_from-least (λ u. test u && has_tag tag (request H u)) (token_count H) t here.within (rw (is, here.own) refl) (λ u lt. by u (here.before u lt) (has_tag tag (request H u)) refl)
   where
-    by : (u : ℕ) → (has_tag tag (request H u) ≡ true → (k : ℕ) × (k < m) × (slice_get (own_before H tag (accepted H)) k ≡ Some u)) → (b : Bool) → has_tag tag (request H u) ≡ b → (test u && has_tag tag (request H u)) ≡ false
-    by u before true own = let k : (k : ℕ) × (k < m) × (slice_get (own_before H tag (accepted H)) k ≡ Some u) = before own in rw (done k.0 u k.1 k.2) refl
+    by : (u : ℕ) → (has_tag tag (request H u) ≡ true → (k : ℕ) × (k < m) × (slice_get (own_before H tag (token_count H)) k ≡ Some u)) → (b : Bool) → has_tag tag (request H u) ≡ b → (test u && has_tag tag (request H u)) ≡ false
+    by u before true own = let k : (k : ℕ) × (k < m) × (slice_get (own_before H tag (token_count H)) k ≡ Some u) = before own in rw (done k.0 u k.1 k.2) refl
     by u before false other = rw other (and-false (test u))
 
 -- all of them are done with: there is none
-pub own-none : (H : List Entry) (tag : ℕ) (test : ℕ → Bool) → ((j u : ℕ) → slice_get (own_before H tag (accepted H)) j ≡ Some u → test u ≡ false) → first_from (λ u. test u && has_tag tag (request H u)) 0 (accepted H) ≡ None
-own-none H tag test done = first_from-none (λ u. test u && has_tag tag (request H u)) 0 (accepted H) (λ u le lt. by u (omega (arith, lt)) (has_tag tag (request H u)) refl)
+pub own-none : (H : List Entry) (tag : ℕ) (test : ℕ → Bool) → ((j u : ℕ) → slice_get (own_before H tag (token_count H)) j ≡ Some u → test u ≡ false) → first_from (λ u. test u && has_tag tag (request H u)) 0 (token_count H) ≡ None
+own-none H tag test done = first_from-none (λ u. test u && has_tag tag (request H u)) 0 (token_count H) (λ u le lt. by u (omega (arith, lt)) (has_tag tag (request H u)) refl)
   where
-    by : (u : ℕ) → u < accepted H → (b : Bool) → has_tag tag (request H u) ≡ b → (test u && has_tag tag (request H u)) ≡ false
-    by u lt true own = let k : (j : ℕ) × (slice_get (own_before H tag (accepted H)) j ≡ Some u) = own-in H tag (accepted H) u lt own in rw (done k.0 u k.1) refl
+    by : (u : ℕ) → u < token_count H → (b : Bool) → has_tag tag (request H u) ≡ b → (test u && has_tag tag (request H u)) ≡ false
+    by u lt true own = let k : (j : ℕ) × (slice_get (own_before H tag (token_count H)) j ≡ Some u) = own-in H tag (token_count H) u lt own in rw (done k.0 u k.1) refl
     by u lt false other = rw other (and-false (test u))
 
 -- the tokens of the tag are the same where the requests are

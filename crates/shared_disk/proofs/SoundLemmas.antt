@@ -10,7 +10,7 @@ use Rattle.history.specs.declared.entry.Entry.TheVariants.{Accept, Collect}
 use Rattle.history.specs.declared.entry.View.{View}
 use Rattle.history.specs.declared.entry.Asked.{Asked}
 use Rattle.history.specs.Setup.{Setup}
-use Rattle.history.specs.Tokens.{Request, is_accept, accepted, request, is_collect_of}
+use Rattle.history.specs.Tokens.{Request, is_accept, token_count, request, is_collect_of}
 use Rattle.history.specs.Rules.{MayFollow, IsLegal}
 use Rattle.history_laws.proofs.CountLemmas.{accepted-same, accepted-more}
 use Rattle.history_laws.proofs.TokenLemmas.{request-same, request-kept, request-accept, collected-same}
@@ -40,10 +40,10 @@ pub course-entry : (S : Setup) (H : List Entry) (e : Entry) (tag lines : ℕ) (c
 course-entry S H e tag lines c other course = record {
   few = course.few;
   room = course.room;
-  own = course.own ∙ sym (rw (accepted-same H e other) (own-before-same H (e ∷ H) tag (accepted H) (λ t lt. request-same H e t other)));
+  own = course.own ∙ sym (rw (accepted-same H e other) (own-before-same H (e ∷ H) tag (token_count H) (λ t lt. request-same H e t other)));
   ended_few = course.ended_few;
   collected_few = course.collected_few;
-  ended = λ j t lt at. let there : IsOwnAt H tag (accepted H) j t = own-at H tag (accepted H) j t (rw course.own at at) in closed-stays S H e t there.within (course.ended j t lt at);
+  ended = λ j t lt at. let there : IsOwnAt H tag (token_count H) j t = own-at H tag (token_count H) j t (rw course.own at at) in closed-stays S H e t there.within (course.ended j t lt at);
   collected = λ j t lt at. collected-stays H e t (course.collected j t lt at);
 }
 
@@ -99,39 +99,39 @@ sound-changes S H b place Changes b' sound change next = record {
         rw same (rw is at (next client (rw same at at) (sound.courses place client change.was (rw same at at) change.there)))
     by i client c at there (inr other) = sound.courses i client c at (sym (change.others i other) ∙ there)
 
-new-own : (H : List Entry) (tag : ℕ) (view : View) (asked : Asked) (bytes : List ℕ) → own_before (Accept tag view asked bytes ∷ H) tag (accepted (Accept tag view asked bytes ∷ H)) ≡ own_before H tag (accepted H) ++ accepted H ∷ []
+new-own : (H : List Entry) (tag : ℕ) (view : View) (asked : Asked) (bytes : List ℕ) → own_before (Accept tag view asked bytes ∷ H) tag (token_count (Accept tag view asked bytes ∷ H)) ≡ own_before H tag (token_count H) ++ token_count H ∷ []
 new-own H tag view asked bytes =
-    let n : accepted (Accept tag view asked bytes ∷ H) ≡ suc (accepted H) = omega (arith, accepted-more H (Accept tag view asked bytes) refl) in
-    let own : has_tag tag (request (Accept tag view asked bytes ∷ H) (accepted H)) ≡ true = rw (request-accept H tag view asked bytes) (eq-eqb tag tag refl) in
-    rw n (own-more (Accept tag view asked bytes ∷ H) tag (accepted H) own
-    ∙ ap (λ xs. xs ++ accepted H ∷ []) (own-before-same H (Accept tag view asked bytes ∷ H) tag (accepted H) (λ t lt. request-kept H (Accept tag view asked bytes) t (λ same. absurd (omega (arith, lt, same))))))
+    let n : token_count (Accept tag view asked bytes ∷ H) ≡ suc (token_count H) = omega (arith, accepted-more H (Accept tag view asked bytes) refl) in
+    let own : has_tag tag (request (Accept tag view asked bytes ∷ H) (token_count H)) ≡ true = rw (request-accept H tag view asked bytes) (eq-eqb tag tag refl) in
+    rw n (own-more (Accept tag view asked bytes ∷ H) tag (token_count H) own
+    ∙ ap (λ xs. xs ++ token_count H ∷ []) (own-before-same H (Accept tag view asked bytes ∷ H) tag (token_count H) (λ t lt. request-kept H (Accept tag view asked bytes) t (λ same. absurd (omega (arith, lt, same))))))
 
-other-own : (H : List Entry) (tag other : ℕ) (view : View) (asked : Asked) (bytes : List ℕ) → tag ≢ other → own_before (Accept tag view asked bytes ∷ H) other (accepted (Accept tag view asked bytes ∷ H)) ≡ own_before H other (accepted H)
+other-own : (H : List Entry) (tag other : ℕ) (view : View) (asked : Asked) (bytes : List ℕ) → tag ≢ other → own_before (Accept tag view asked bytes ∷ H) other (token_count (Accept tag view asked bytes ∷ H)) ≡ own_before H other (token_count H)
 other-own H tag other view asked bytes differs =
-    let n : accepted (Accept tag view asked bytes ∷ H) ≡ suc (accepted H) = omega (arith, accepted-more H (Accept tag view asked bytes) refl) in
-    let own : has_tag other (request (Accept tag view asked bytes ∷ H) (accepted H)) ≡ false = rw (request-accept H tag view asked bytes) (ne_eqb tag other differs) in
-    rw n (own-same (Accept tag view asked bytes ∷ H) other (accepted H) own
-    ∙ own-before-same H (Accept tag view asked bytes ∷ H) other (accepted H) (λ t lt. request-kept H (Accept tag view asked bytes) t (λ same. absurd (omega (arith, lt, same)))))
+    let n : token_count (Accept tag view asked bytes ∷ H) ≡ suc (token_count H) = omega (arith, accepted-more H (Accept tag view asked bytes) refl) in
+    let own : has_tag other (request (Accept tag view asked bytes ∷ H) (token_count H)) ≡ false = rw (request-accept H tag view asked bytes) (ne_eqb tag other differs) in
+    rw n (own-same (Accept tag view asked bytes ∷ H) other (token_count H) own
+    ∙ own-before-same H (Accept tag view asked bytes ∷ H) other (token_count H) (λ t lt. request-kept H (Accept tag view asked bytes) t (λ same. absurd (omega (arith, lt, same)))))
 
 -- the course of a client that was given a new token
-course-token : (S : Setup) (H : List Entry) (tag lines : ℕ) (view : View) (asked : Asked) (bytes : List ℕ) (c c' : Course) → HasToken (accepted H) c c' → IsCourse S H tag lines c → IsCourse S (Accept tag view asked bytes ∷ H) tag lines c'
+course-token : (S : Setup) (H : List Entry) (tag lines : ℕ) (view : View) (asked : Asked) (bytes : List ℕ) (c c' : Course) → HasToken (token_count H) c c' → IsCourse S H tag lines c → IsCourse S (Accept tag view asked bytes ∷ H) tag lines c'
 course-token S H tag lines view asked bytes c c' has course = record {
   few = rw has.places (course.few);
   room = rw has.places (course.room);
-  own = has.tokens ∙ (ap (λ xs. xs ++ accepted H ∷ []) course.own ∙ sym (new-own H tag view asked bytes));
-  ended_few = omega (arith, has.ended, course.ended_few, ap length has.tokens, length-append c.tokens.items (accepted H ∷ []));
-  collected_few = omega (arith, has.collected, course.collected_few, ap length has.tokens, length-append c.tokens.items (accepted H ∷ []));
+  own = has.tokens ∙ (ap (λ xs. xs ++ token_count H ∷ []) course.own ∙ sym (new-own H tag view asked bytes));
+  ended_few = omega (arith, has.ended, course.ended_few, ap length has.tokens, length-append c.tokens.items (token_count H ∷ []));
+  collected_few = omega (arith, has.collected, course.collected_few, ap length has.tokens, length-append c.tokens.items (token_count H ∷ []));
   ended = λ j t lt at.
       let was : slice_get c.tokens.items j ≡ Some t = before j t (omega (arith, lt, has.ended, course.ended_few)) (rw has.tokens at at) in
-      let there : IsOwnAt H tag (accepted H) j t = own-at H tag (accepted H) j t (rw course.own at was) in
+      let there : IsOwnAt H tag (token_count H) j t = own-at H tag (token_count H) j t (rw course.own at was) in
       closed-stays S H (Accept tag view asked bytes) t there.within (course.ended j t (omega (arith, lt, has.ended)) was);
   collected = λ j t lt at.
       let was : slice_get c.tokens.items j ≡ Some t = before j t (omega (arith, lt, has.collected, course.collected_few)) (rw has.tokens at at) in
       collected-stays H (Accept tag view asked bytes) t (course.collected j t (omega (arith, lt, has.collected)) was);
 }
   where
-    before : (j t : ℕ) → j < length c.tokens.items → slice_get (c.tokens.items ++ accepted H ∷ []) j ≡ Some t → slice_get c.tokens.items j ≡ Some t
-    before j t lt at = elim (get-push c.tokens.items (accepted H) t j at) [ inl was ↦ was | inr last ↦ absurd (omega (arith, lt, last.0)) ]
+    before : (j t : ℕ) → j < length c.tokens.items → slice_get (c.tokens.items ++ token_count H ∷ []) j ≡ Some t → slice_get c.tokens.items j ≡ Some t
+    before j t lt at = elim (get-push c.tokens.items (token_count H) t j at) [ inl was ↦ was | inr last ↦ absurd (omega (arith, lt, last.0)) ]
 
 -- the course of another client
 course-other : (S : Setup) (H : List Entry) (tag other lines : ℕ) (view : View) (asked : Asked) (bytes : List ℕ) (c : Course) → tag ≢ other → IsCourse S H other lines c → IsCourse S (Accept tag view asked bytes ∷ H) other lines c
@@ -141,12 +141,12 @@ course-other S H tag other lines view asked bytes c differs course = record {
   own = course.own ∙ sym (other-own H tag other view asked bytes differs);
   ended_few = course.ended_few;
   collected_few = course.collected_few;
-  ended = λ j t lt at. let there : IsOwnAt H other (accepted H) j t = own-at H other (accepted H) j t (rw course.own at at) in closed-stays S H (Accept tag view asked bytes) t there.within (course.ended j t lt at);
+  ended = λ j t lt at. let there : IsOwnAt H other (token_count H) j t = own-at H other (token_count H) j t (rw course.own at at) in closed-stays S H (Accept tag view asked bytes) t there.within (course.ended j t lt at);
   collected = λ j t lt at. collected-stays H (Accept tag view asked bytes) t (course.collected j t lt at);
 }
 
 -- the books after a request of a client was accepted
-pub sound-token : (S : Setup) (H : List Entry) (place tag : ℕ) (view : View) (asked : Asked) (bytes : List ℕ) (b b' : Books) → IsLegal S H → MayFollow S H (Accept tag view asked bytes) → tag ≡ place + 1 → AreBooksSound S H b → AddsToken b place tag (accepted H) b'
+pub sound-token : (S : Setup) (H : List Entry) (place tag : ℕ) (view : View) (asked : Asked) (bytes : List ℕ) (b b' : Books) → IsLegal S H → MayFollow S H (Accept tag view asked bytes) → tag ≡ place + 1 → AreBooksSound S H b → AddsToken b place tag (token_count H) b'
     → AreBooksSound S (Accept tag view asked bytes ∷ H) b'
 sound-token S H place tag view asked bytes b b' legal may tagged sound adds = record {
   opened = omega (arith, adds.opened, sound.opened);
@@ -174,13 +174,13 @@ sound-token S H place tag view asked bytes b b' legal may tagged sound adds = re
     slot : (t : ℕ) (s : Slot) → (slice_get b.slots.items t ≡ Some s) ⊎ ((t ≡ length b.slots.items) × (record { tag = tag; buffer = Awaited } ≡ s)) → IsSlot S (Accept tag view asked bytes ∷ H) t s
     slot t s (inl was) =
         let old : IsSlot S H t s = sound.slots t s was in
-        let lt : t < accepted H = omega (arith, slice_get_within b.slots.items t s was, sound.counted) in
+        let lt : t < token_count H = omega (arith, slice_get_within b.slots.items t s was, sound.counted) in
         record { tagged = rw (request-kept H (Accept tag view asked bytes) t (λ same. absurd (omega (arith, lt, same)))) (old.tagged); buffer = buffer-entry S H (Accept tag view asked bytes) t s.buffer may refl old.buffer }
     slot t s (inr last) =
-        let is : t ≡ accepted H = last.0 ∙ sound.counted in
+        let is : t ≡ token_count H = last.0 ∙ sound.counted in
         rw (← last.1, is) (record {
           tagged = rw (request-accept H tag view asked bytes) (eq-eqb tag tag refl);
-          buffer = collected-same H (Accept tag view asked bytes) (accepted H) refl ∙ untold-collected S H (accepted H) (unaccepted S H (accepted H) legal (omega arith));
+          buffer = collected-same H (Accept tag view asked bytes) (token_count H) refl ∙ untold-collected S H (token_count H) (unaccepted S H (token_count H) legal (omega arith));
         })
 
 -- the books after a token was handed back, whose buffer they keep

@@ -6,7 +6,7 @@ use Rattle.history.specs.declared.entry.Kind.TheVariants.{Read, Write, Flush, Er
 use Rattle.history.specs.declared.entry.Entry.{Entry}
 use Rattle.history.specs.declared.entry.Entry.TheVariants.{Collect}
 use Rattle.history.specs.Setup.{Setup}
-use Rattle.history.specs.Tokens.{Request, accepted, was_collected, is_flush}
+use Rattle.history.specs.Tokens.{Request, token_count, was_collected, is_flush}
 use Rattle.history.specs.Commands.{moves}
 use Rattle.history.specs.Rules.{MayFollow, IsLegal}
 use Rattle.history_laws.proofs.ClosedLemmas.{legal-last, legal-before}
@@ -88,7 +88,7 @@ module _ (old new : State) (tag t : ℕ) (status : Status) (buffer : List ℕ) (
   }
 
 -- a token that has ended and was not collected can be
-pub is-there : (old new : State) (tag t : ℕ) (fault : NotThere) → t < accepted old.entries → was_collected old.entries t ≡ false → is_outstanding old.setup old.entries t ≡ false → CollectSays old tag t (Err fault) new → ⊥
+pub is-there : (old new : State) (tag t : ℕ) (fault : NotThere) → t < token_count old.entries → was_collected old.entries t ≡ false → is_outstanding old.setup old.entries t ≡ false → CollectSays old tag t (Err fault) new → ⊥
 unfolding CollectSays
 is-there old new tag t NotThere.Outstanding lt not closed says =
     let open_now : is_outstanding old.setup old.entries t ≡ true = outstanding-test old.setup old.entries t (record { token = says.0; unmarked = says.1 }) in

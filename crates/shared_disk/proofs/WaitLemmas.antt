@@ -4,7 +4,7 @@ use Rattle.std.proofs.lemmas.Bool.{cases_lt, lt-ltb, le-ltb}
 use Rattle.std.proofs.lemmas.Option.{slice_get_within, slice_get_past}
 use Rattle.history.specs.declared.entry.Entry.{Entry}
 use Rattle.history.specs.Setup.{Setup}
-use Rattle.history.specs.Tokens.{accepted, was_collected}
+use Rattle.history.specs.Tokens.{token_count, was_collected}
 use Rattle.history.specs.Marks.{is_outstanding}
 use Rattle.shared_disk.specs.declared.clients.Client.{Client}
 use Rattle.shared_disk.specs.declared.books.Books.{Books}
@@ -59,10 +59,10 @@ module _ (S : Setup) (H : List Entry) (b : Books) (place : ℕ) (was : Course) (
   pub collected-from : was.collected ≤ length was.tokens.items
   collected-from = course.collected_few
 
-  pub own-accepted : (j t : ℕ) → slice_get was.tokens.items j ≡ Some t → t < accepted H
-  own-accepted j t at = let there : IsOwnAt H (place + 1) (accepted H) j t = own-at H (place + 1) (accepted H) j t (rw course.own at at) in there.within
+  pub own-accepted : (j t : ℕ) → slice_get was.tokens.items j ≡ Some t → t < token_count H
+  own-accepted j t at = let there : IsOwnAt H (place + 1) (token_count H) j t = own-at H (place + 1) (token_count H) j t (rw course.own at at) in there.within
 
-  own-get : (j : ℕ) → slice_get (own_before H (place + 1) (accepted H)) j ≡ slice_get was.tokens.items j
+  own-get : (j : ℕ) → slice_get (own_before H (place + 1) (token_count H)) j ≡ slice_get was.tokens.items j
   own-get j = rw course.own refl
 
   module _ (n : ℕ) (within : was.ended ≤ n) (most : n ≤ length was.tokens.items) (before : (j t : ℕ) → was.ended ≤ j → j < n → slice_get was.tokens.items j ≡ Some t → is_outstanding S H t ≡ false)

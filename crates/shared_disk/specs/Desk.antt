@@ -12,7 +12,7 @@ use Rattle.history.specs.declared.order.Order.TheVariants as order
 use Rattle.history.specs.declared.order.Payload.{Payload}
 use Rattle.history.specs.declared.order.Payload.TheVariants.{Given, Fill, Nothing}
 use Rattle.history.specs.Setup.{Setup}
-use Rattle.history.specs.Tokens.{Request, accepted, request, was_collected, from_of, until_of}
+use Rattle.history.specs.Tokens.{Request, token_count, request, was_collected, from_of, until_of}
 use Rattle.history.specs.Commands.{is_moved}
 use Rattle.history.specs.Marks.{mark_of}
 use Rattle.history.specs.Rules.{IsWellAsked}
@@ -104,7 +104,7 @@ AreGivenBack s = (t : ℕ) (buffer : List ℕ) → given_at s.given t ≡ Some b
 
 -- the desk has the buffer of each token that its clients have collected
 abbrev pub HasBuffers : DeskState → Type 0
-HasBuffers s = (t : ℕ) → accepted s.script.opening ≤ t → was_collected s.disk.entries t ≡ true → IsSome (given_at s.given t)
+HasBuffers s = (t : ℕ) → token_count s.script.opening ≤ t → was_collected s.disk.entries t ≡ true → IsSome (given_at s.given t)
 
 -- the desk keeps its script, and the buffers of all tokens that its clients have collected
 pub record Keeps (s : DeskState) : Type 0 where
@@ -117,7 +117,7 @@ desk_over disk roles = record {
   disk = disk;
   script = record { opening = disk.entries; roles = roles };
   places = map (λ role. []) roles;
-  given = replicate (accepted disk.entries) None;
+  given = replicate (token_count disk.entries) None;
 }
 
 -- the disk alone was called, which kept its setup
@@ -142,7 +142,7 @@ is_accept_of (Some (Protect tag on)) = false
 
 -- the next token: its number, and its event, which has seen nothing and is that of what the disk keeps of it
 pub record IsNewToken (old new : State) (token : Token) : Type 0 where
-  pub numbered : token.number ≡ accepted old.entries
+  pub numbered : token.number ≡ token_count old.entries
   pub unseen : token.event.seen ≡ 0
   pub buffer : List ℕ
   pub kept : new.kept ≡ old.kept ++ Some (record { buffer = buffer; word = token.event.word }) ∷ []

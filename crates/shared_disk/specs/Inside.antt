@@ -4,7 +4,7 @@ use Rattle.efi_status.specs.declared.Status.{Status}
 use Rattle.history.specs.declared.entry.Entry.{Entry}
 use Rattle.history.specs.declared.order.Order.{Order}
 use Rattle.history.specs.Setup.{Setup}
-use Rattle.history.specs.Tokens.{Request, accepted, request, was_collected}
+use Rattle.history.specs.Tokens.{Request, token_count, request, was_collected}
 use Rattle.history.specs.Marks.{is_outstanding}
 use Rattle.token_table.specs.declared.record.Done.{Done}
 use Rattle.disk_core.specs.declared.answers.Token.{Token}
@@ -74,7 +74,7 @@ desk_state disk b = record {
 pub record IsCourse (S : Setup) (H : List Entry) (tag lines : ℕ) (c : Course) : Type 0 where
   pub few : length c.places.items ≤ lines
   pub room : lines ≤ vec_capacity c.places
-  pub own : c.tokens.items ≡ own_before H tag (accepted H)
+  pub own : c.tokens.items ≡ own_before H tag (token_count H)
   pub ended_few : c.ended ≤ length c.tokens.items
   pub collected_few : c.collected ≤ length c.tokens.items
   pub ended : (j t : ℕ) → j < c.ended → slice_get c.tokens.items j ≡ Some t → is_outstanding S H t ≡ false
@@ -89,10 +89,10 @@ pub record AreBooksSound (S : Setup) (H : List Entry) (b : Books) : Type 0 where
   pub lines : sum_by (λ client. length client.orders.items) b.clients.items ≤ 2 ^ 32
   pub paired : length b.courses.items ≡ length b.clients.items
   pub courses : (i : ℕ) (client : Client) (c : Course) → slice_get b.clients.items i ≡ Some client → slice_get b.courses.items i ≡ Some c → IsCourse S H (i + 1) (length client.orders.items) c
-  pub counted : length b.slots.items ≡ accepted H
+  pub counted : length b.slots.items ≡ token_count H
   pub slots : (t : ℕ) (s : Slot) → slice_get b.slots.items t ≡ Some s → IsSlot S H t s
-  pub ended_few : b.ended ≤ accepted H
-  pub collected_few : b.collected ≤ accepted H
+  pub ended_few : b.ended ≤ token_count H
+  pub collected_few : b.collected ≤ token_count H
   pub ended : (t : ℕ) → t < b.ended → is_outstanding S H t ≡ false
   pub collected : (t : ℕ) → t < b.collected → was_collected H t ≡ true
 

@@ -11,7 +11,7 @@ use Rattle.history.specs.declared.order.Payload.{Payload}
 use Rattle.history.specs.declared.order.Payload.TheVariants.{Given, Fill, Nothing}
 use Rattle.history.specs.Setup.{Setup}
 use Rattle.history.specs.Eras.{media_id_of, is_present}
-use Rattle.history.specs.Tokens.{Request, accepted, request, was_collected}
+use Rattle.history.specs.Tokens.{Request, token_count, request, was_collected}
 use Rattle.history.specs.Marks.{first_from, has_view, is_outstanding}
 use Rattle.history.specs.Rules.{refusal_of}
 use Rattle.history.specs.Next.{first_open}
@@ -53,7 +53,7 @@ request_entry S H tag view asked payload k = answer_of tag view asked (payload_b
 
 -- an outstanding token has this view
 abbrev pub is_view_open : Setup → List Entry → View → Bool
-is_view_open S H view = is_some (first_from (λ t. is_outstanding S H t && has_view view (request H t)) 0 (accepted H))
+is_view_open S H view = is_some (first_from (λ t. is_outstanding S H t && has_view view (request H t)) 0 (token_count H))
 
 -- no medium is in, and a spare is left
 abbrev pub is_insertable : Setup → List Entry → Bool
@@ -83,15 +83,15 @@ has_tag tag (Some r) = nat_eq r.tag tag
 
 -- the least outstanding token of this tag
 unfoldable pub first_own_open : Setup → List Entry → ℕ → Option ℕ
-first_own_open S H tag = first_from (λ t. is_outstanding S H t && has_tag tag (request H t)) 0 (accepted H)
+first_own_open S H tag = first_from (λ t. is_outstanding S H t && has_tag tag (request H t)) 0 (token_count H)
 
 -- the least of its tokens that was not collected
 unfoldable pub first_own_left : List Entry → ℕ → Option ℕ
-first_own_left H tag = first_from (λ t. not (was_collected H t) && has_tag tag (request H t)) 0 (accepted H)
+first_own_left H tag = first_from (λ t. not (was_collected H t) && has_tag tag (request H t)) 0 (token_count H)
 
 -- the least of all tokens that was not collected
 unfoldable pub first_left : List Entry → Option ℕ
-first_left H = first_from (λ t. not (was_collected H t)) 0 (accepted H)
+first_left H = first_from (λ t. not (was_collected H t)) 0 (token_count H)
 
 -- the tokens of this tag among the first n, in order of number
 unfoldable pub own_before : List Entry → ℕ → ℕ → List ℕ

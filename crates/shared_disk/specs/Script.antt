@@ -6,7 +6,7 @@ use Rattle.history.specs.declared.entry.Entry.TheVariants.{Accept, Refuse, Done,
 use Rattle.history.specs.declared.order.Order.{Order}
 use Rattle.history.specs.declared.order.Order.TheVariants as order
 use Rattle.history.specs.Setup.{Setup}
-use Rattle.history.specs.Tokens.{accepted, request, was_collected}
+use Rattle.history.specs.Tokens.{token_count, request, was_collected}
 use Rattle.history.specs.Next.{first_open}
 use Rattle.shared_disk.specs.Lines.{Role, line_entry, with_line_entry, has_tag, first_own_open, first_own_left, first_left}
 
@@ -26,7 +26,7 @@ tag_of (Protect tag on) = tag
 -- a history that clients may begin at: no entry has the tag of a client, and each token was collected
 pub record IsOpening (H : List Entry) : Type 0 where
   pub tags : All (λ e. tag_of e ≡ 0) H
-  pub collected : (t : ℕ) → t < accepted H → was_collected H t ≡ true
+  pub collected : (t : ℕ) → t < token_count H → was_collected H t ≡ true
 
 -- the history at the beginning, and the clients
 pub record Script : Type 0 where
@@ -109,8 +109,8 @@ pub record CollectsAtEnd (S : Setup) (roles : List Role) (H : List Entry) (done 
 
 -- a command is of no token of the opening, and a collect is at a wait or at the end; every other entry is a line's
 abbrev pub MayComeNext : Setup → Script → List Entry → (ℕ → ℕ) → Entry → Type 0
-MayComeNext S d H done (Done t c) = accepted d.opening ≤ t
-MayComeNext S d H done (Fault t c n) = accepted d.opening ≤ t
+MayComeNext S d H done (Done t c) = token_count d.opening ≤ t
+MayComeNext S d H done (Fault t c n) = token_count d.opening ≤ t
 MayComeNext S d H done (Collect tag t) = ((i : ℕ) × (tag ≡ i + 1) × CollectsAtWait S d.roles H i (done i) t) ⊎ CollectsAtEnd S d.roles H done tag t
 MayComeNext S d H done (Accept tag view asked bytes) = ⊥
 MayComeNext S d H done (Refuse tag view asked media_id status) = ⊥
@@ -147,4 +147,4 @@ pub record RunsWholeScript (S : Setup) (d : Script) (H : List Entry) : Type 0 wh
   pub places : List (List ℕ)
   pub keeps : KeepsScript S d places H
   pub over : AreOver d.roles (λ i. length (places_at places i))
-  pub collected : (t : ℕ) → t < accepted H → was_collected H t ≡ true
+  pub collected : (t : ℕ) → t < token_count H → was_collected H t ≡ true

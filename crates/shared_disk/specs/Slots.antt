@@ -2,7 +2,7 @@
 use Rattle.std.specs.Prelude.{◌≡◌, ℕ, true, false, List, length, map, slice_get, Option, None, Some}
 use Rattle.history.specs.declared.entry.Entry.{Entry}
 use Rattle.history.specs.Setup.{Setup}
-use Rattle.history.specs.Tokens.{Request, accepted, request, was_collected}
+use Rattle.history.specs.Tokens.{Request, token_count, request, was_collected}
 use Rattle.shared_disk.specs.declared.books.Buffer.{Buffer}
 use Rattle.shared_disk.specs.declared.books.Buffer.TheVariants.{Awaited, Kept, Gone}
 use Rattle.shared_disk.specs.declared.books.Slot.{Slot}
@@ -26,7 +26,7 @@ pub record IsSlot (S : Setup) (H : List Entry) (t : ℕ) (s : Slot) : Type 0 whe
 
 -- one for each token in order
 pub record AreSlots (S : Setup) (H : List Entry) (slots : List Slot) : Type 0 where
-  pub counted : length slots ≡ accepted H
+  pub counted : length slots ≡ token_count H
   pub each : (t : ℕ) (s : Slot) → slice_get slots t ≡ Some s → IsSlot S H t s
 
 abbrev pub buffers_of : List Slot → List (Option (List ℕ))

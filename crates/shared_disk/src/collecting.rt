@@ -1,5 +1,5 @@
 ghost use Rattle.std.specs.Prelude.{◌≡◌, ℕ, ◌<◌, ◌≤◌, true, false, Some, slice_get, length};
-ghost use Rattle.history.specs.Tokens.{accepted, was_collected};
+ghost use Rattle.history.specs.Tokens.{token_count, was_collected};
 ghost use Rattle.history.specs.Marks.{is_outstanding};
 ghost use Rattle.shared_disk.specs.declared.books.Slot.{Slot};
 ghost use Rattle.shared_disk.specs.Desk.{LastSays, TakesBack};
@@ -13,7 +13,7 @@ use token_table::Mark;
 // Collects a token that has ended, and keeps its buffer.
 pub fn collect_token<M: Medium>(disk: &mut Disk<M>, books: &mut Books, tag: u32, number: u64)
     requires sound { AreBooksOf disk.old books.old }
-    requires there { number < accepted disk.old.entries }
+    requires there { number < token_count disk.old.entries }
     requires uncollected { was_collected disk.old.entries number ≡ false }
     requires ended { is_outstanding disk.old.setup disk.old.entries number ≡ false }
     ensures takes { TakesBack (desk_state disk.old books.old) tag number (desk_state disk.new books.new) }
@@ -27,7 +27,7 @@ pub fn collect_token<M: Medium>(disk: &mut Disk<M>, books: &mut Books, tag: u32,
 
 // The first token from this one on that is outstanding, and their number where none is.
 fn first_open<M: Medium>(disk: &Disk<M>, from: usize, count: usize) -> usize
-    requires count { count ≡ accepted disk.now.entries }
+    requires count { count ≡ token_count disk.now.entries }
     requires from { from ≤ count }
     ensures within { from ≤ result }
     ensures most { result ≤ count }

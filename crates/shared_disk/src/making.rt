@@ -1,5 +1,5 @@
 ghost use Rattle.std.specs.Prelude.{◌≡◌, ◌<◌, ◌≤◌, ◌^◌, length, reverse, replicate, IfOk, IfErr};
-ghost use Rattle.history.specs.Tokens.{accepted};
+ghost use Rattle.history.specs.Tokens.{token_count};
 ghost use Rattle.shared_disk.specs.declared.books.Buffer.{Buffer};
 ghost use Rattle.shared_disk.specs.Lines.{roles_of};
 ghost use Rattle.shared_disk.specs.Script.{IsOpening};
@@ -16,7 +16,7 @@ use std::alloc::{AllocError, Global};
 // How many requests were accepted.
 fn count_tokens(entries: &[Entry]) -> u64
     requires { length entries.now < 2 ^ 63 }
-    ensures value { result ≡ accepted (reverse entries.now) }
+    ensures value { result ≡ token_count (reverse entries.now) }
     ensures few { result < 2 ^ 63 }
 {
     let mut count: u64 = 0;

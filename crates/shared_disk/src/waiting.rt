@@ -1,6 +1,6 @@
 ghost use Rattle.std.specs.Prelude.{◌≡◌, ℕ, ◌+◌, ◌-◌, ◌<◌, ◌≤◌, true, false, Some, slice_get, length, is_some};
 ghost use Rattle.history.specs.declared.order.Order.{Order};
-ghost use Rattle.history.specs.Tokens.{accepted};
+ghost use Rattle.history.specs.Tokens.{token_count};
 ghost use Rattle.history.specs.Marks.{is_outstanding};
 ghost use Rattle.shared_disk.specs.declared.books.Slot.{Slot};
 ghost use Rattle.shared_disk.specs.Lines.{first_own_open, first_own_left};
@@ -18,7 +18,7 @@ use token_table::Mark;
 fn first_outstanding<M: Medium>(disk: &Disk<M>, tokens: &[u64], from: usize) -> usize
     requires from { from ≤ length tokens.now }
     requires accepted { (j t : ℕ) → slice_get tokens.now j ≡ Some t
-        → t < accepted disk.now.entries }
+        → t < token_count disk.now.entries }
     ensures within { from ≤ result }
     ensures most { result ≤ length tokens.now }
     ensures before { (j t : ℕ) → from ≤ j → j < result → slice_get tokens.now j ≡ Some t

@@ -10,7 +10,7 @@ use Rattle.history.specs.declared.entry.Kind.TheVariants.{Read, Write, Flush, Er
 use Rattle.history.specs.declared.entry.Entry.{Entry}
 use Rattle.history.specs.declared.entry.Entry.TheVariants.{Accept, Refuse, Done, Fault, Collect, Cancel, Reset, Eject, Insert, Protect}
 use Rattle.history.specs.Setup.{Setup}
-use Rattle.history.specs.Tokens.{is_accept, accepted, is_read, is_write}
+use Rattle.history.specs.Tokens.{is_accept, token_count, is_read, is_write}
 use Rattle.history.specs.Eras.{is_command}
 use Rattle.history.specs.Marks.{mark_of}
 use Rattle.history.specs.Room.{commands}
@@ -19,7 +19,7 @@ use Rattle.script_text.specs.declared.report.parts.TokenLine.{TokenLine}
 use Rattle.script_text.specs.Report.{AreEnds, is_success}
 use Rattle.stack_run.specs.declared.summary.Figures.{Figures}
 use Rattle.stack_run.specs.Figures.{is_success_by, with_moved, with_accepted, figures_with, figures_of}
-use Rattle.stack_run.specs.Summary.{is_refuse, refused, moved_in}
+use Rattle.stack_run.specs.Summary.{is_refuse, refusal_count, moved_in}
 
 -- one entry further, of entries of which the oldest stands first
 pub figures-next : (ends : List TokenLine) (es : List Entry) (i : ℕ) (e : Entry) → i < length es
@@ -31,8 +31,8 @@ figures-next ends es i e there =
 
 -- the figures are the numbers of the entries
 pub record AreCounted (ends : List TokenLine) (H : List Entry) (f : Figures) : Type 0 where
-  pub accepted : f.accepted ≡ accepted H
-  pub refused : f.refused ≡ refused H
+  pub accepted : f.accepted ≡ token_count H
+  pub refused : f.refused ≡ refusal_count H
   pub commands : f.commands ≡ commands H
   pub written : f.written ≡ moved_in (is_success_by ends) is_write H
   pub read : f.read ≡ moved_in (is_success_by ends) is_read H
@@ -57,11 +57,11 @@ stays k n f = record { written = none (is_write k) f.written; read = none (is_re
     none true m = sym (zero-add m)
     none false m = sym (zero-add m)
 
-adds : (b : Bool) (k : Kind) (n : ℕ) (f f' : Figures) (ends : List TokenLine) (H : List Entry) → is_success_by ends f.accepted ≡ b → f.accepted ≡ accepted H
-    → AddsMoved b k n f f' → (f'.written ≡ (if is_write k && is_success_by ends (accepted H) then n else 0) + f.written)
-    × (f'.read ≡ (if is_read k && is_success_by ends (accepted H) then n else 0) + f.read)
+adds : (b : Bool) (k : Kind) (n : ℕ) (f f' : Figures) (ends : List TokenLine) (H : List Entry) → is_success_by ends f.accepted ≡ b → f.accepted ≡ token_count H
+    → AddsMoved b k n f f' → (f'.written ≡ (if is_write k && is_success_by ends (token_count H) then n else 0) + f.written)
+    × (f'.read ≡ (if is_read k && is_success_by ends (token_count H) then n else 0) + f.read)
 adds b k n f f' ends H is count more =
-    let same : is_success_by ends (accepted H) ≡ b = ap (is_success_by ends) (sym count) ∙ is in
+    let same : is_success_by ends (token_count H) ≡ b = ap (is_success_by ends) (sym count) ∙ is in
     (rw same more.written, rw same more.read)
 
 -- so of one more that was accepted
@@ -77,8 +77,8 @@ accept-counted ends tag view asked bytes before f all = by (is_success_by ends f
           accepted = ap (λ n. n + 1) all.accepted ∙ sym (accepted-more before (Accept tag view asked bytes) refl);
           refused = more.refused ∙ (all.refused ∙ sym (count-same is_refuse (Accept tag view asked bytes) before refl));
           commands = more.commands ∙ (all.commands ∙ sym (commands-same before (Accept tag view asked bytes) refl));
-          written = two.0 ∙ ap (λ n. (if is_write asked.kind && is_success_by ends (accepted before) then asked.length else 0) + n) all.written;
-          read = two.1 ∙ ap (λ n. (if is_read asked.kind && is_success_by ends (accepted before) then asked.length else 0) + n) all.read;
+          written = two.0 ∙ ap (λ n. (if is_write asked.kind && is_success_by ends (token_count before) then asked.length else 0) + n) all.written;
+          read = two.1 ∙ ap (λ n. (if is_read asked.kind && is_success_by ends (token_count before) then asked.length else 0) + n) all.read;
         }
 
     by : (b : Bool) → is_success_by ends f.accepted ≡ b → AreCounted ends (Accept tag view asked bytes ∷ before) (with_accepted b asked f)
@@ -109,7 +109,7 @@ command-counted ends e before f no_accept no_refuse command same all = record {
 
 -- so of all entries
 pub figures-counted : (ends : List TokenLine) (H : List Entry) → AreCounted ends H (figures_of ends H)
-unfolding figures_of moved_in accepted commands
+unfolding figures_of moved_in token_count commands
 figures-counted ends [] = record { accepted = refl; refused = refl; commands = refl; written = refl; read = refl }
 figures-counted ends (Accept tag view asked bytes ∷ before) = accept-counted ends tag view asked bytes before (figures_of ends before) (figures-counted ends before)
 figures-counted ends (Refuse tag view asked media_id status ∷ before) =
@@ -140,14 +140,14 @@ success-told S H ends are t there = by (slice_get_cases ends t).1
     by (inr (past, none)) = let no_way : t < t = omega arith in absurd (lt_irrefl t no_way)
 
 -- so of the bytes that were moved
-pub moved-told : (S : Setup) (H : List Entry) (ends : List TokenLine) → AreEnds S H ends → (test : Kind → Bool) (G : List Entry) → accepted G ≤ accepted H
+pub moved-told : (S : Setup) (H : List Entry) (ends : List TokenLine) → AreEnds S H ends → (test : Kind → Bool) (G : List Entry) → token_count G ≤ token_count H
     → moved_in (is_success_by ends) test G ≡ moved_in (λ t. is_success (mark_of S H t)) test G
 unfolding moved_in
 moved-told S H ends are test [] few = refl
 moved-told S H ends are test (Accept tag view asked bytes ∷ before) few =
     let one = accepted-more before (Accept tag view asked bytes) refl in
-    let there : accepted before < length ends = let count = are.count in omega arith in
-    let same : is_success_by ends (accepted before) ≡ is_success (mark_of S H (accepted before)) = success-told S H ends are (accepted before) there in
+    let there : token_count before < length ends = let count = are.count in omega arith in
+    let same : is_success_by ends (token_count before) ≡ is_success (mark_of S H (token_count before)) = success-told S H ends are (token_count before) there in
     let rest = moved-told S H ends are test before (omega arith) in
     λ i. (if test asked.kind && same i then asked.length else 0) + rest i
 moved-told S H ends are test (Refuse tag view asked media_id status ∷ before) few = moved-told S H ends are test before (let n = accepted-same before (Refuse tag view asked media_id status) refl in omega arith)

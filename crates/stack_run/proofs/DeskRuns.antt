@@ -4,7 +4,7 @@ use Rattle.std.specs.List.{AllByRecursion}
 use Rattle.medium.specs.Device.{Device}
 use Rattle.history.specs.declared.entry.Entry.{Entry}
 use Rattle.history.specs.Setup.{Setup}
-use Rattle.history.specs.Tokens.{accepted, was_collected}
+use Rattle.history.specs.Tokens.{token_count, was_collected}
 use Rattle.history.specs.Rules.{IsLegal}
 use Rattle.history_laws.proofs.CountLemmas.{accepted-none}
 use Rattle.disk_core.specs.State.{State}
@@ -49,13 +49,13 @@ module _ (plan : DiskPlan) (disk : State) (clients : List Client) (desk : DeskSt
     here : (P : Setup → Script → Type 0) → P desk.disk.setup desk.script → P S (script_in plan [])
     here P holds = subst (λ (T : Setup). P T (script_in plan [])) desk-setup (subst (P desk.disk.setup) desk-script holds)
 
-    pub tokens-fit : accepted new.disk.entries ≤ disk_lines plan
+    pub tokens-fit : token_count new.disk.entries ≤ disk_lines plan
     tokens-fit = tokens-few new.disk.setup new.script new.places new.disk.entries plan.clients keeps.script (ap (λ (d : Script). d.opening) new-script) (ap (λ (d : Script). d.roles) new-script)
 
-    none-before : accepted new.script.opening ≡ 0
-    none-before = ap (λ (d : Script). accepted d.opening) new-script ∙ accepted-none
+    none-before : token_count new.script.opening ≡ 0
+    none-before = ap (λ (d : Script). token_count d.opening) new-script ∙ accepted-none
 
-    all-given : RunsWholeScript desk.disk.setup desk.script new.disk.entries → (t : ℕ) → t < accepted new.disk.entries → IsSome (given_at new.given t)
+    all-given : RunsWholeScript desk.disk.setup desk.script new.disk.entries → (t : ℕ) → t < token_count new.disk.entries → IsSome (given_at new.given t)
     all-given whole t inside = keeps.buffers t (omega (arith, none-before)) (whole.collected t inside)
 
     -- each token is kept

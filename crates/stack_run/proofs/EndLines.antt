@@ -6,7 +6,7 @@ use Rattle.history.specs.declared.entry.Kind.{Kind}
 use Rattle.history.specs.declared.entry.Kind.TheVariants.{Read, Write, Flush, Erase}
 use Rattle.history.specs.declared.entry.Entry.{Entry}
 use Rattle.history.specs.Setup.{Setup}
-use Rattle.history.specs.Tokens.{Request, accepted, request, was_collected, is_read, from_of}
+use Rattle.history.specs.Tokens.{Request, token_count, request, was_collected, is_read, from_of}
 use Rattle.history.specs.Marks.{mark_of}
 use Rattle.history.specs.Contents.{bytes_read}
 use Rattle.token_table.specs.declared.record.Done.{Done}
@@ -64,7 +64,7 @@ pub skip-told : (entries : List Entry) (i : ℕ) (e : Entry) → i < length entr
 skip-told entries i e inside is none = flags-next entries i e inside is ∙ (ap (λ l. tagged_reads (take i entries) ++ l) (no-flag e none) ∙ append-nil (tagged_reads (take i entries)))
 
 -- before an entry that accepts a request there are fewer tokens than in all
-pub tokens-left : (H : List Entry) (i : ℕ) (e : Entry) (b : Bool) → i < length (reverse H) → e ≡ get_or (reverse H) i e → tagged_read e ≡ Some b → length (tagged_reads (take i (reverse H))) < accepted H
+pub tokens-left : (H : List Entry) (i : ℕ) (e : Entry) (b : Bool) → i < length (reverse H) → e ≡ get_or (reverse H) i e → tagged_read e ≡ Some b → length (tagged_reads (take i (reverse H))) < token_count H
 tokens-left H i e b inside is flag =
     let more : tagged_reads (take (i + 1) (reverse H)) ≡ tagged_reads (take i (reverse H)) ++ b ∷ [] = flags-next (reverse H) i e inside is ∙ ap (λ l. tagged_reads (take i (reverse H)) ++ l) (flag-of e b flag) in
     let all : tagged_reads (take (i + 1) (reverse H)) ++ tagged_reads (drop (i + 1) (reverse H)) ≡ tagged_reads (reverse H) = sym (map_both (take (i + 1) (reverse H)) (drop (i + 1) (reverse H))) ∙ ap tagged_reads (take-append-drop (i + 1) (reverse H)) in
@@ -146,7 +146,7 @@ module _ (S : Setup) (H : List Entry) (slots : List Slot) (are : AreSlots S H sl
       let (slot, at, is) = told-at (tagged_reads (reverse H)) slots t line there in
       rw is (kept-told t slot.buffer (kept t slot at) (are.each t slot at).buffer)
 
-  count : length (lines_told (tagged_reads (reverse H)) slots) ≡ accepted H
+  count : length (lines_told (tagged_reads (reverse H)) slots) ≡ token_count H
   count = told-count (tagged_reads (reverse H)) slots (omega (arith, counted H, are.counted)) ∙ counted H
 
   pub told-ends : AreEnds S H (lines_told (tagged_reads (reverse H)) slots)

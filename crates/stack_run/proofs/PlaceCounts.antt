@@ -6,7 +6,7 @@ use Rattle.std.proofs.lemmas.Option.{slice_get_within}
 use Rattle.history.specs.declared.entry.Entry.{Entry}
 use Rattle.history.specs.declared.entry.Entry.TheVariants.{Accept, Refuse, Done, Fault, Collect, Cancel, Reset, Eject, Insert, Protect}
 use Rattle.history.specs.Setup.{Setup}
-use Rattle.history.specs.Tokens.{is_accept, accepted}
+use Rattle.history.specs.Tokens.{is_accept, token_count}
 use Rattle.history_laws.proofs.CountLemmas.{accepted-none, accepted-more, accepted-same}
 use Rattle.shared_disk.specs.Lines.{Role, with_line_entry}
 use Rattle.shared_disk.specs.Script.{Script, Deed, Enters, Does, entries_by, places_by, with_place, MayComeNext, Follows, KeepsScript}
@@ -57,7 +57,7 @@ enters-from opening log e i [] = refl
 enters-from opening log e i (role ∷ more) = ap (λ n. length (places_by opening log i) + n) (enters-from opening log e (i + 1) more)
 
 -- an entry that is no line's accepts nothing
-no-accept : (S : Setup) (d : Script) (H : List Entry) (done : ℕ → ℕ) (e : Entry) → MayComeNext S d H done e → accepted (e ∷ H) ≡ accepted H
+no-accept : (S : Setup) (d : Script) (H : List Entry) (done : ℕ → ℕ) (e : Entry) → MayComeNext S d H done e → token_count (e ∷ H) ≡ token_count H
 no-accept S d H done (Accept tag view asked bytes) may = absurd may
 no-accept S d H done (Refuse tag view asked media_id status) may = absurd may
 no-accept S d H done (Done t c) may = accepted-same H (Done t c) refl
@@ -69,15 +69,15 @@ no-accept S d H done (Eject tag) may = absurd may
 no-accept S d H done (Insert tag media_id) may = absurd may
 no-accept S d H done (Protect tag on) may = absurd may
 
-one-accept : (e : Option Entry) (H : List Entry) → accepted (with_line_entry e H) ≤ accepted H + 1
+one-accept : (e : Option Entry) (H : List Entry) → token_count (with_line_entry e H) ≤ token_count H + 1
 one-accept None H = omega arith
 one-accept (Some e) H = by (is_accept e) refl
   where
-    by : (b : Bool) → is_accept e ≡ b → accepted (e ∷ H) ≤ accepted H + 1
+    by : (b : Bool) → is_accept e ≡ b → token_count (e ∷ H) ≤ token_count H + 1
     by true is = omega (arith, accepted-more H e is)
     by false is = omega (arith, accepted-same H e is)
 
-accepted-places : (S : Setup) (d : Script) (log : List Deed) → Follows S d log → accepted (entries_by d.opening log) ≤ accepted d.opening + places_from d.opening log 0 d.roles
+accepted-places : (S : Setup) (d : Script) (log : List Deed) → Follows S d log → token_count (entries_by d.opening log) ≤ token_count d.opening + places_from d.opening log 0 d.roles
 unfolding Follows entries_by
 accepted-places S d [] follows = omega arith
 accepted-places S d (Enters e ∷ log) follows =
@@ -119,18 +119,18 @@ few-from opening log i (role ∷ more) each =
     let rest = few-from opening log (i + 1) more (λ k r there. let next : i + suc k ≡ (i + 1) + k = omega arith in subst (λ n. length (places_by opening log n) ≤ length r.orders) next (each (suc k) r there)) in
     omega (arith, first, rest, sum_by-cons (λ (r : Role). length r.orders) role more)
 
-accepted-few : (S : Setup) (d : Script) (places : List (List ℕ)) (H : List Entry) → KeepsScript S d places H → d.opening ≡ [] → accepted H ≤ sum_by (λ (role : Role). length role.orders) d.roles
+accepted-few : (S : Setup) (d : Script) (places : List (List ℕ)) (H : List Entry) → KeepsScript S d places H → d.opening ≡ [] → token_count H ≤ sum_by (λ (role : Role). length role.orders) d.roles
 accepted-few S d places H keeps begins =
     let most = accepted-places S d keeps.log keeps.follows in
     let few = few-from d.opening keeps.log 0 d.roles (λ k role there. let at : k ≡ 0 + k = omega arith in subst (λ n. length (places_by d.opening keeps.log n) ≤ length role.orders) at (few-places S d keeps.log k role keeps.follows there)) in
-    let none : accepted d.opening ≡ 0 = ap accepted begins ∙ accepted-none in
-    omega (arith, most, few, none, ap accepted keeps.history)
+    let none : token_count d.opening ≡ 0 = ap token_count begins ∙ accepted-none in
+    omega (arith, most, few, none, ap token_count keeps.history)
 
 lines-same : (clients : List ClientPlan) → sum_by (λ (role : Role). length role.orders) (script_roles clients) ≡ sum_by client_lines clients
 lines-same [] = refl
 lines-same (client ∷ more) = rw (sum_by-cons (λ (role : Role). length role.orders) (Rattle.stack_run.specs.Clients.role_in client) (script_roles more), sum_by-cons client_lines client more, lines-same more) refl
 
 -- no more than the lines of a disk
-pub tokens-few : (S : Setup) (d : Script) (places : List (List ℕ)) (H : List Entry) (clients : List ClientPlan) → KeepsScript S d places H → d.opening ≡ [] → d.roles ≡ script_roles clients → accepted H ≤ sum_by client_lines clients
+pub tokens-few : (S : Setup) (d : Script) (places : List (List ℕ)) (H : List Entry) (clients : List ClientPlan) → KeepsScript S d places H → d.opening ≡ [] → d.roles ≡ script_roles clients → token_count H ≤ sum_by client_lines clients
 tokens-few S d places H clients keeps begins roles =
     omega (arith, accepted-few S d places H keeps begins, ap (sum_by (λ (role : Role). length role.orders)) roles, lines-same clients)

@@ -11,7 +11,7 @@ use Rattle.history.specs.Eras.{ejects, inserts, media_id_of, is_present}
 use Rattle.history.specs.Marks.{first_from}
 use Rattle.history.specs.Next.{first_open}
 use Rattle.history.specs.Room.{faults}
-use Rattle.history.specs.Tokens.{accepted}
+use Rattle.history.specs.Tokens.{token_count}
 use Rattle.block_gate.specs.Gates.{idle_gates}
 use Rattle.history_laws.proofs.OneMediumLemmas.{faults-alone}
 use Rattle.disk_core.specs.State.{State, setup_of, opening_from}
@@ -36,7 +36,7 @@ no-faults H none = rw none refl
 
 -- a disk to which nothing has happened
 pub fresh-quiet : (s : State) (size : ℕ) → s.entries ≡ [] → s.gates ≡ idle_gates 1 size → IsQuiet s
-unfolding idle_gates first_open first_from accepted
+unfolding idle_gates first_open first_from token_count
 fresh-quiet s size none gates = record {
   idle = subst IsIdle (sym gates) (record { held = refl; gone = refl; free = omega arith });
   drained = ap (λ H. first_open s.setup H) none;

@@ -27,12 +27,12 @@ unfoldable pub first_part : List DiskPlan → Option ℕ
 first_part [] = None
 first_part (disk ∷ more) = some_or (first_part_in disk.clients) (first_part more)
 
-abbrev pub refused_at : Option ℕ → List DiskPlan → Result (List DiskPlan) (ℕ × Reason)
-refused_at None plans = Ok plans
-refused_at (Some line) plans = Err (line, why.Part)
+abbrev pub refusal_at : Option ℕ → List DiskPlan → Result (List DiskPlan) (ℕ × Reason)
+refusal_at None plans = Ok plans
+refusal_at (Some line) plans = Err (line, why.Part)
 
 abbrev pub whole_alone : List DiskPlan → Result (List DiskPlan) (ℕ × Reason)
-whole_alone plans = refused_at (first_part plans) plans
+whole_alone plans = refusal_at (first_part plans) plans
 
 -- the plans that the bytes say; a client on a partition is refused at its line
 unfoldable pub said_of : List ℕ → Result (List DiskPlan) (ℕ × Reason)

@@ -4,7 +4,7 @@ use Rattle.history.specs.declared.entry.Kind.{Kind}
 use Rattle.history.specs.declared.entry.Entry.{Entry}
 use Rattle.history.specs.declared.entry.Entry.TheVariants.{Accept, Refuse}
 use Rattle.history.specs.Setup.{Setup}
-use Rattle.history.specs.Tokens.{accepted, is_read, is_write}
+use Rattle.history.specs.Tokens.{token_count, is_read, is_write}
 use Rattle.history.specs.Marks.{mark_of}
 use Rattle.history.specs.Room.{commands}
 use Rattle.script_text.specs.Text.{line_of}
@@ -15,14 +15,14 @@ abbrev pub is_refuse : Entry → Bool
 is_refuse (Refuse tag view asked media_id status) = true
 is_refuse e = false
 
-abbrev pub refused : List Entry → ℕ
-refused H = count_by is_refuse H
+abbrev pub refusal_count : List Entry → ℕ
+refusal_count H = count_by is_refuse H
 
 -- the bytes of these requests that pass a test and succeeded: each counts where it was accepted
 unfoldable pub moved_in : (ℕ → Bool) → (Kind → Bool) → List Entry → ℕ
 moved_in succeeded test [] = 0
 moved_in succeeded test (Accept tag view asked bytes ∷ before) =
-    (if test asked.kind && succeeded (accepted before) then asked.length else 0) + moved_in succeeded test before
+    (if test asked.kind && succeeded (token_count before) then asked.length else 0) + moved_in succeeded test before
 moved_in succeeded test (e ∷ before) = moved_in succeeded test before
 
 -- the lengths in bytes of the successful requests of a kind
@@ -36,8 +36,8 @@ figure_text word number = line_of (word ∷ decimal number ∷ [])
 abbrev pub summary_text : Setup → List Entry → ℕ → List ℕ
 summary_text S H crc =
     figure_text (codes "entries") (length H)
-    ++ (figure_text (codes "accepted") (accepted H)
-    ++ (figure_text (codes "refused") (refused H)
+    ++ (figure_text (codes "accepted") (token_count H)
+    ++ (figure_text (codes "refused") (refusal_count H)
     ++ (figure_text (codes "commands") (commands H)
     ++ (figure_text (codes "written") (moved_bytes S is_write H)
     ++ (figure_text (codes "read") (moved_bytes S is_read H)

@@ -1,5 +1,5 @@
 ghost use Rattle.std.specs.Prelude.{◌≡◌, ◌≤◌, ◌&&◌, [], Some, All, IsSome, length, reverse, vec_capacity};
-ghost use Rattle.history.specs.Tokens.{accepted, is_read};
+ghost use Rattle.history.specs.Tokens.{token_count, is_read};
 ghost use Rattle.shared_disk.specs.Slots.{buffer_in};
 ghost use Rattle.script_text.specs.Report.{is_success, tagged_read, tagged_reads};
 ghost use Rattle.stack_run.specs.EndLines.{line_told, lines_told};
@@ -78,8 +78,8 @@ fn line_of(tagged: bool, slot: Slot) -> TokenLine
 // Adds how each token of a history ended, for which there is room. All of them were collected.
 pub fn fill_lines(history: &History, slots: Vec<Slot>, ends: &mut Vec<TokenLine>)
     requires empty { ends.old.items ≡ [] }
-    requires room { accepted history.now.entries ≤ vec_capacity ends.old }
-    requires counted { length slots.items ≡ accepted history.now.entries }
+    requires room { token_count history.now.entries ≤ vec_capacity ends.old }
+    requires counted { length slots.items ≡ token_count history.now.entries }
     requires kept { All (λ slot. IsSome (buffer_in slot.buffer)) slots.items }
     ensures { ends.new.items ≡ lines_told (tagged_reads (reverse history.now.entries)) slots.items }
 {

@@ -1,7 +1,7 @@
 use Rattle.std.proofs.Common.{◌≡◌, ◌∙◌, List, ap, sym, subst, length, reverse, replicate}
 use Rattle.std.proofs.lemmas.List.{length-reverse, reverse-reverse}
 use Rattle.history.specs.declared.entry.Entry.{Entry}
-use Rattle.history.specs.Tokens.{accepted}
+use Rattle.history.specs.Tokens.{token_count}
 use Rattle.shared_disk.specs.declared.books.Buffer.TheVariants.{Gone}
 use Rattle.shared_disk.specs.Lines.{roles_of}
 use Rattle.shared_disk.specs.Desk.{Keeps}
@@ -13,8 +13,8 @@ use Rattle.shared_disk.proofs.making.new_books.Goals as goal
 long : (es H : List Entry) → es ≡ reverse H → length es ≡ length H
 long es H is = ap length is ∙ length-reverse H
 
-back : (es H : List Entry) → es ≡ reverse H → accepted (reverse es) ≡ accepted H
-back es H is = ap (λ xs. accepted (reverse xs)) is ∙ ap accepted (reverse-reverse H)
+back : (es H : List Entry) → es ≡ reverse H → token_count (reverse es) ≡ token_count H
+back es H is = ap (λ xs. token_count (reverse xs)) is ∙ ap token_count (reverse-reverse H)
 
 goal-state : goal.returns-clause-state
 goal-state g c =

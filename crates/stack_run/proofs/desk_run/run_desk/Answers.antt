@@ -65,7 +65,7 @@ fill_blocks-requires-clause-room g c =
 pub fill_lines-requires-clause-room : goal.fill_lines-requires-clause-room
 fill_lines-requires-clause-room g c =
     let few = tokens-fit c.args.plan.now c.in-Ok-make.disk c.in-Ok.supplies.clients.items c.in-Ok-make-2.desk _ c.in-Ok-make-2.ensures.desk c.in-Ok.ensures.clients c.in-Ok-make.ensures.entries c.in-Ok-make.ensures.setup c.plain-ran.new.desk c.plain-ran.ensures.stays c.plain-ran.ensures.keeps in
-    omega (arith, few, ap Rattle.history.specs.Tokens.accepted (c.into_media-media-2.ensures.entries ∙ ap (λ (s : State). s.entries) c.into_parts-disk.ensures.disk), c.in-Ok.ensures.tokens)
+    omega (arith, few, ap Rattle.history.specs.Tokens.token_count (c.into_media-media-2.ensures.entries ∙ ap (λ (s : State). s.entries) c.into_parts-disk.ensures.disk), c.in-Ok.ensures.tokens)
 
 pub fill_lines-requires-clause-kept : goal.fill_lines-requires-clause-kept
 fill_lines-requires-clause-kept g c k d inside =

@@ -2,14 +2,14 @@ use Rattle.std.proofs.Common.{◌≡◌, ◌∙◌, ap, sym, subst, refl, arith,
 use Rattle.history.specs.declared.entry.Entry.{Entry}
 use Rattle.history.specs.Setup.{Setup}
 use Rattle.history.specs.Marks.{first_from}
-use Rattle.history.specs.Tokens.{accepted}
+use Rattle.history.specs.Tokens.{token_count}
 use Rattle.history.specs.Next.{first_open}
 use Rattle.block_gate.specs.Gates.{idle_gates}
 use Rattle.disk_core.specs.Turns.{IsIdle}
 use Rattle.partition_children.proofs.tests.images.disk_of.Goals as goal
 
 none-open : (S : Setup) → first_open S [] ≡ None
-unfolding first_open first_from accepted
+unfolding first_open first_from token_count
 none-open S = refl
 
 pub returns-in-Ok-clause-idle : goal.returns-in-Ok-clause-idle
