@@ -1,7 +1,9 @@
 pub mod SubsLemmas
-mod Owning
-mod Removing
 mod Holding
 mod Pushing
-mod Finding
-mod From
+mod Moving
+mod Walks
+mod Leading
+mod Behind
+mod Places
+mod Ends

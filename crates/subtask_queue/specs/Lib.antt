@@ -1,2 +1,3 @@
 pub mod Subs
 pub mod Owned
+pub mod Firsts

@@ -1,25 +1,26 @@
-ghost use Rattle.std.specs.Prelude.{◌≡◌, ℕ, ◌+◌, ◌<◌, ◌^◌, ◌++◌, [], nat_lt, OnOk, OnErr};
+ghost use Rattle.std.specs.Prelude.{◌≡◌, ℕ, ◌+◌, ◌<◌, ◌^◌, ◌++◌, [], length, nat_lt, OnOk, OnErr};
 ghost use Rattle.std.specs.List.{find, filter, count_by};
 ghost use Rattle.block_gate.specs.Gates.{is_block_held};
 ghost use Rattle.disk_split.specs.Units.{IsGeometry};
 ghost use Rattle.std.specs.Option.{option_map};
+ghost use Rattle.subtask_queue.specs.Owned.{waiting_in, AreOf};
 ghost use Rattle.subtask_queue.specs.Subs.{token_of, block_of, is_unit, is_of, is_from, may_run, without_first, without_token, subs_of_request, AreParts, AreBelow};
 
-use crate::entries;
+use crate::linked::Linked;
+use crate::making::units;
 use crate::sub::Sub;
-use crate::units::{Units, count_of};
 use block_gate::Gates;
 use disk_split::{Geometry, Parts};
 use history::Kind;
 use std::alloc::{AllocError, Global};
-use std::collections::BTreeMap;
 use std::marker::Model;
 
-/// The unfinished units of all outstanding requests, by token and byte. Those of one token lie together (own profile).
+/// The unfinished units of all outstanding requests, by token and byte. They are linked nodes, which the first request
+/// brings (own profile).
 #[derive(Drop)]
 pub struct Queue {
     alloc: Global,
-    tokens: BTreeMap<u64, Units>,
+    linked: Option<Linked>,
 }
 
 impl Model for Queue {
@@ -28,11 +29,9 @@ impl Model for Queue {
 
     ghost Value = { List Sub };
 
-    ghost use Rattle.subtask_queue.specs.Owned.{subs_in, AreOwned};
+    ghost use Rattle.subtask_queue.specs.Owned.{waiting_in};
 
-    ghost view = { λ q. subs_in q.tokens.entries };
-
-    ghost invariant = { λ q. AreOwned 0 q.tokens.entries };
+    ghost view = { λ q. waiting_in q.linked };
 }
 
 impl Queue {
@@ -42,7 +41,7 @@ impl Queue {
     {
         Queue {
             alloc,
-            tokens: BTreeMap::new(alloc),
+            linked: None,
         }
     }
 
@@ -63,32 +62,29 @@ impl Queue {
         ensures err { OnErr result (self.new ≡ self.old) }
         ensures below { AreBelow (token + 1) self.new }
     {
-        let units = Units::make(self.alloc, token, kind, parts, blocks)?;
+        let units = units(self.alloc, token, kind, parts, blocks)?;
         if units.len() == 0 {
             return Ok(());
         }
-        entries::put(&mut self.tokens, token, units)
+        append(self.alloc, &mut self.linked, token, &units)
     }
 
     /// The unit of least token and, within it, of least byte that may run now. None exactly where none may.
     pub fn next_runnable(&self, gates: &Gates) -> Option<Sub>
         ensures { result ≡ find (may_run (is_block_held gates.now.held) (nat_lt 0 gates.now.free)) self.now }
     {
-        for units in self.tokens.values() {
-            let next = units.next_runnable(gates);
-            if next.is_some() {
-                return next;
-            }
+        match &self.linked {
+            Some(linked) => linked.next_runnable(gates),
+            None => None,
         }
-        None
     }
 
     /// The least token from this one on that has an unfinished unit. None exactly where no such token has one.
     pub fn token_from(&self, token: u64) -> Option<u64>
         ensures { result ≡ option_map token_of (find (is_from token) self.now) }
     {
-        match self.tokens.range(token..).next() {
-            Some((token, _)) => Some(*token),
+        match &self.linked {
+            Some(linked) => linked.token_from(token),
             None => None,
         }
     }
@@ -97,7 +93,10 @@ impl Queue {
     pub fn finish(&mut self, sub: &Sub)
         ensures { self.new ≡ without_first (is_unit (token_of sub.now) (block_of sub.now)) self.old }
     {
-        entries::finish(&mut self.tokens, sub.token(), sub.block());
+        let (token, block) = (sub.token(), sub.block());
+        if let Some(linked) = &mut self.linked {
+            linked.finish(token, block);
+        }
     }
 
     /// Takes all units of a token out, and answers their number.
@@ -105,6 +104,39 @@ impl Queue {
         ensures count { result ≡ count_by (is_of token) self.old }
         ensures value { self.new ≡ without_token token self.old }
     {
-        count_of(self.tokens.remove(&token))
+        match &mut self.linked {
+            Some(linked) => linked.drop_token(token),
+            None => 0,
+        }
+    }
+}
+
+/// Makes the links, where there are none yet. The error is want of memory.
+fn make_links(alloc: Global, linked: &mut Option<Linked>) -> Result<(), AllocError>
+    ensures { waiting_in linked.new ≡ waiting_in linked.old }
+{
+    if linked.is_none() {
+        *linked = Some(Linked::make(alloc)?);
+    }
+    Ok(())
+}
+
+/// Appends some units of one token to those that are linked. The error is want of memory, and no unit has then changed.
+fn append(
+    alloc: Global,
+    linked: &mut Option<Linked>,
+    token: u64,
+    subs: &[Sub],
+) -> Result<(), AllocError>
+    requires above { AreBelow token (waiting_in linked.old) }
+    requires some { 0 < length subs.now }
+    requires own { AreOf token subs.now }
+    ensures ok { OnOk result (waiting_in linked.new ≡ waiting_in linked.old ++ subs.now) }
+    ensures err { OnErr result (waiting_in linked.new ≡ waiting_in linked.old) }
+{
+    make_links(alloc, linked)?;
+    match linked {
+        Some(linked) => linked.add(token, subs),
+        None => Err(AllocError),
     }
 }
