@@ -1,7 +1,7 @@
 -- Units that are put behind the others.
 use Rattle.std.proofs.Common.{◌≡◌, ℕ, ◌+◌, ◌<◌, true, false, ◌||◌, List, [], ◌∷◌, ◌++◌, length, take, slice_get, get_or, Option, None, Some, option_map, eqb, inl, inr, eq-eqb, refl, sym, ◌∙◌, ap, arith, append_assoc}
 use Rattle.std.specs.List.{list_any}
-use Rattle.std.proofs.lemmas.Bool.{cases_eq, or_cases, or_left, or_right, eqb-true, false_from_ne_true}
+use Rattle.std.proofs.lemmas.Bool.{cases_eq, or_cases, or_left, or_right, eqb-true}
 use Rattle.std.proofs.lemmas.List.{append-nil, take_more, get_or_append_left}
 use Rattle.index_links.specs.Lists.{LinkedLists, list_at, is_among, is_listed, with_node_at_end, AreApart}
 use Rattle.index_links.proofs.LinkedListsLemmas.{listed-in, listed-from, among-append, pushed-here, pushed-other}
@@ -64,6 +64,3 @@ below-next s l n x long inside listed below is = elim (cases_eq x n) [
   | inl same ↦ omega arith
   | inr other ↦ let low = below x (listed-pushed s l n x inside listed other) in omega arith
 ]
-
-pub unlisted-next : (s : LinkedLists) (n : ℕ) → ((y : ℕ) → is_listed s y ≡ true → y < n) → is_listed s n ≡ false
-unlisted-next s n below = false_from_ne_true (is_listed s n) (λ listed. let low = below n listed in omega (arith, low))

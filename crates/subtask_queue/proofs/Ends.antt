@@ -112,9 +112,6 @@ led-added token subs us vs firsts mid after first led below of behind same at =
           (λ differ. same t ∙ led.first t ∙ first-before t us behind.units (none-own token t behind.units differ own) ∙ ap (first_node (is_own t)) (sym behind.value));
     }
 
-pub led-same : (us : List (ℕ × Sub)) (firsts after : FirstNodes) → AreLed us firsts → ((t : ℕ) → first_at after t ≡ first_at firsts t) → AreLed us after
-led-same us firsts after led same = record { rising = led.rising; first = λ t. same t ∙ led.first t }
-
 pub led-none : (us : List (ℕ × Sub)) (firsts : FirstNodes) → us ≡ [] → ((t : ℕ) → first_at firsts t ≡ None) → AreLed us firsts
 unfolding first_node AreRising
 led-none us firsts is none = record { rising = rw is tt; first = λ t. none t ∙ ap (first_node (is_own t)) (sym is) }
