@@ -1,4 +1,4 @@
-ghost use Rattle.std.specs.Prelude.{◌≡◌, ℕ, ◌+◌, ◌*◌, ◌^◌, ◌<◌, ◌≤◌, cond, length, is_none, IsSome, None, OnOk, OnErr, Ok};
+ghost use Rattle.std.specs.Prelude.{◌≡◌, ℕ, ◌+◌, ◌*◌, ◌^◌, ◌<◌, ◌≤◌, cond, length, is_none, IsSome, None, IfErr, OnOk, OnErr, Ok};
 ghost use Rattle.medium.specs.BlockMap.{held_block, HasPlaceFor};
 ghost use Rattle.medium.specs.Cached.{restoration, HasTried, HoldsOthers, most_blocks};
 ghost use Rattle.medium.specs.Counts.{adds, Rose};
@@ -115,7 +115,7 @@ pub fn save<M: Medium>(
     Ok(())
 }
 
-/// Writes all saved blocks back, and ends at the first write that fails.
+/// Writes all saved blocks back, one at a time, and ends at the first write that fails.
 pub fn write_back<M: Medium>(inner: &mut M, saved: &mut BlockMap) -> Result<(), BlockFailed>
     requires size { saved.old.size ≡ (M.device inner.old).size }
     requires inside { (b : ℕ) → IsSome (held_block saved.old b) → b < (M.device inner.old).blocks }
@@ -124,6 +124,7 @@ pub fn write_back<M: Medium>(inner: &mut M, saved: &mut BlockMap) -> Result<(), 
     ensures now { OnOk result ((M.device inner.new).now ≡ restoration (held_block saved.old) saved.old.size (M.device inner.old).blocks (M.device inner.old).now) }
     ensures cause { OnErr result (Rose (M.device inner.old).faults (M.device inner.new).faults) }
     ensures quiet { OnOk result ((M.device inner.new).faults ≡ (M.device inner.old).faults) }
+    ensures none { IfErr result (λ failed. failed.done ≡ 0) }
 {
     while let Some(block) = saved.last() {
         let Some(held) = saved.get(block) else {

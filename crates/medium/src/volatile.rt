@@ -76,12 +76,14 @@ impl<M: Medium + Drop> Volatile<M> {
     ghost use Rattle.medium.specs.Volatiles.{inside_of};
 
     /// The medium inside, with the saved blocks written back: it holds the kept bytes. It fails only where a command
-    /// inside failed, and the medium is then gone.
+    /// inside failed, and the medium is then gone. Each block is written by a command of its own, so that the failed one has
+    /// done none.
     pub fn settle(self) -> Result<M, BlockFailed>
         ensures now { IfOk result (λ inner. (M.device inner).now ≡ (⟦<Volatile<M> as Medium>⟧.device self).kept) }
         ensures same { IfOk result (λ inner. IsSame (M.device (inside_of self)) (M.device inner)) }
         ensures quiet { IfOk result (λ inner. (M.device inner).faults ≡ (M.device (inside_of self)).faults) }
         ensures cause { IfErr result (λ failed. (gone : M) × Rose (M.device (inside_of self)).faults (M.device gone).faults) }
+        ensures none { IfErr result (λ failed. failed.done ≡ 0) }
     {
         let Volatile {
             mut inner,
