@@ -1,10 +1,10 @@
 -- What each call of the gates does, from what its parts did.
 use Rattle.std.proofs.Common.{◌≡◌, ℕ, zero, suc, ◌+◌, ◌-◌, ◌<◌, ◌≤◌, Bool, true, false, cond, not, List, [], ◌∷◌, ◌++◌, length, drop, slice_get, get_or, set, replicate, None, Some, Result, Ok, Err, OnErr, eqb, inl, inr, eq-eqb, refl, sym, ◌∙◌, ap, subst, arith}
 use Rattle.std.specs.List.{refill, length_refill, list_any}
-use Rattle.std.proofs.lemmas.Bool.{cases_eq, cases_Bool, or_cases, or_right, and_right, eqb-true, ne_eqb, false_from_ne_true}
-use Rattle.std.proofs.lemmas.List.{length-set, get_or-set_same, set-get_or, length-replicate, get_or-replicate, length-drop}
+use Rattle.std.proofs.lemmas.Bool.{cases_eq, cases_Bool, cases_lt, or_cases, or_right, and_right, eqb-true, ne_eqb, false_from_ne_true}
+use Rattle.std.proofs.lemmas.List.{length-map, length-set, get_or-set_same, set-get_or, length-replicate, get_or-replicate, length-drop}
 use Rattle.index_links.specs.Lists.{LinkedLists, list_at, is_among, is_listed, with_node_at_end, without_node, AreApart}
-use Rattle.index_links.proofs.LinkedListsLemmas.{among-at, among-append, listed-in, list-exists}
+use Rattle.index_links.proofs.LinkedListsLemmas.{past-lists, among-at, among-append, listed-in, list-exists}
 use Rattle.block_gate.specs.Gates.{Gate, Gates, gate_of, is_block_held, is_lent, is_out, is_ours, with_gate, with_work_out, without_hold, with_work_back, with_new_sets, with_copy, idle_gates}
 use Rattle.block_gate.specs.Works.{Lent}
 use Rattle.block_gate.specs.Sets.{gate_at, gates_in, tickets_in, gates_of, is_so, AreSets}
@@ -216,6 +216,27 @@ pub some-first : (xs : List ℕ) (x : ℕ) → slice_get xs 0 ≡ Some x → 0 <
 some-first [] x is = cc
 some-first (y ∷ ys) x is = omega arith
 
+-- where no set is held, and none out under a revoked ticket, one is free
+pub some-free : (sets : List Gate) (L : LinkedLists) (size : ℕ) → AreSets sets L size → length (list_at L 2) ≡ 0 → (gates_of sets L size).held ≡ [] → 0 < (gates_of sets L size).free
+unfolding gates_of gates_in
+some-free sets L size old none held =
+    let (l, some) = old.some in
+    let one : length (list_at L 1) ≡ 0 = sym (length-map (list_at L 1) (gate_at sets)) ∙ ap length held in
+    elim (cases_lt l 3) [
+      | inl inside ↦ elim (cases_eq l 0) [
+        | inl free ↦ subst (λ k. 0 < length (list_at L k)) free some
+        | inr other ↦ elim (cases_eq l 1) [
+          | inl held_list ↦ let never : 0 < length (list_at L 1) = subst (λ k. 0 < length (list_at L k)) held_list some in omega arith
+          | inr more ↦ let two : l ≡ 2 = omega arith in let never : 0 < length (list_at L 2) = subst (λ k. 0 < length (list_at L k)) two some in omega arith
+        ]
+      ]
+      | inr past ↦ let never : length (list_at L l) ≡ 0 = ap length (past-lists L l (omega (arith, old.lists))) in omega arith
+    ]
+
+pub gone-some : (sets : List Gate) (L : LinkedLists) (size n : ℕ) → slice_get (list_at L 2) 0 ≡ Some n → 0 < length (gates_of sets L size).gone
+unfolding gates_of
+gone-some sets L size n there = omega (arith, tickets-long sets (list_at L 2), some-first (list_at L 2) n there)
+
 pub on-err : {T E : Type 0} (r : Result T E) (P : Type 0) → P → OnErr r P
 on-err (Ok x) P p = tt
 on-err (Err e) P p = p
@@ -253,10 +274,10 @@ blank-at : (count n size : ℕ) → n < count → gate_at (replicate count (reco
 unfolding gate_at
 blank-at count n size there = get_or-replicate count n (record { ticket = 0; block = 0; out = false; copy = replicate size 0 }) (record { ticket = 0; block = 0; out = false; copy = [] }) there
 
-pub starts : (sets : List Gate) (L : LinkedLists) (count size : ℕ) → sets ≡ replicate count (record { ticket = 0; block = 0; out = false; copy = replicate size 0 }) → count ≤ 64 →
+pub starts : (sets : List Gate) (L : LinkedLists) (count size : ℕ) → sets ≡ replicate count (record { ticket = 0; block = 0; out = false; copy = replicate size 0 }) → 0 < count → count ≤ 64 →
     L.nodes ≡ count → length L.lists ≡ 3 → length (list_at L 0) ≡ count → list_at L 1 ≡ [] → list_at L 2 ≡ [] → AreApart L → TurnsSo sets L size (idle_gates count size)
 unfolding idle_gates gates_of gates_in tickets_in
-starts sets L count size is few nodes lists free held gone apart =
+starts sets L count size is one few nodes lists free held gone apart =
     let long : length sets ≡ count = ap length is ∙ length-replicate count (record { ticket = 0; block = 0; out = false; copy = replicate size 0 }) in
     let blank : (n : ℕ) → n < count → gate_at sets n ≡ record { ticket = 0; block = 0; out = false; copy = replicate size 0 } = λ n there. ap (λ ss. gate_at ss n) is ∙ blank-at count n size there in
     let empty : (l x : ℕ) → 0 < l → is_among (list_at L l) x ≡ true → ⊥ = λ l x some among.
@@ -270,6 +291,7 @@ starts sets L count size is few nodes lists free held gone apart =
         nodes = nodes ∙ sym long;
         lists = lists;
         few = omega arith;
+        some = (0, omega (arith, free));
         apart = apart;
         long = λ n there. ap (λ (g : Gate). length g.copy) (blank n (omega arith)) ∙ length-replicate size 0;
         free_in = λ n among. ap (λ (g : Gate). g.out) (blank n (subst (λ k. n < k) nodes (apart.within 0 n among)));

@@ -1,7 +1,8 @@
 -- What callers need of the gates: the gate of a ticket, and whether its work is out, after each call.
-use Rattle.std.proofs.Common.{◌≡◌, ℕ, Bool, true, false, cond, List, [], ◌∷◌, ◌++◌, Option, None, Some, option_map, eqb, inl, inr, eq-eqb, refl, sym, ◌∙◌, ap}
+use Rattle.std.proofs.Common.{◌≡◌, ℕ, Bool, true, false, cond, List, [], ◌∷◌, ◌++◌, ◌<◌, ◌≤◌, min, Option, None, Some, option_map, eqb, inl, inr, eq-eqb, refl, sym, ◌∙◌, ap, arith}
 use Rattle.std.specs.List.{list_any}
-use Rattle.std.proofs.lemmas.Bool.{cases_Bool, ne_eqb, eqb-true, or_left, or_right}
+use Rattle.std.proofs.lemmas.Bool.{cases_Bool, cases_lt, ne_eqb, eqb-true, or_left, or_right}
+use Rattle.std.proofs.Math.Nat.{min_comm, min-eq_left}
 use Rattle.block_gate.specs.Gates.{Gate, gate_of, is_block_held, lesser, least_ticket, without_ticket, with_out}
 
 pub gate-new : (held : List Gate) (t : ℕ) (g : Gate) → gate_of held t ≡ None → g.ticket ≡ t → gate_of (held ++ g ∷ []) t ≡ Some g
@@ -73,6 +74,31 @@ pub least-none : (held : List Gate) → least_ticket held ≡ None → held ≡ 
 unfolding least_ticket
 least-none [] is = refl
 least-none (h ∷ held) is = absurd (some-lesser h.ticket (least_ticket held) is)
+
+lesser-else : (t u : ℕ) (o : Option ℕ) → lesser u o ≡ Some t → (t ≡ u → ⊥) → o ≡ Some t
+unfolding lesser
+lesser-else t u None is other = absurd (other (let same : Some u ≡ Some t = is in cc))
+lesser-else t u (Some v) is other =
+    let least : min u v ≡ t = (let same : Some (min u v) ≡ Some t = is in cc) in
+    elim (cases_lt u v) [
+      | inl below ↦ absurd (other (sym least ∙ min-eq_left (omega arith)))
+      | inr above ↦ ap Some (sym (min_comm u v ∙ min-eq_left above) ∙ least)
+    ]
+
+apart-of : (t u : ℕ) → eqb t u ≡ false → t ≡ u → ⊥
+apart-of t u other same = let never : true ≡ false = sym (eq-eqb t u same) ∙ other in cc
+
+found-later : (h : Gate) (held : List Gate) (t : ℕ) → eqb t h.ticket ≡ false → (g : Gate) × (gate_of held t ≡ Some g) → (g : Gate) × (gate_of (h ∷ held) t ≡ Some g)
+unfolding gate_of
+found-later h held t other (g, later) = (g, rw other later)
+
+pub least-some : (held : List Gate) (t : ℕ) → least_ticket held ≡ Some t → (g : Gate) × (gate_of held t ≡ Some g)
+unfolding least_ticket gate_of
+least-some [] t is = cc
+least-some (h ∷ held) t is = elim (cases_Bool (eqb t h.ticket)) [
+  | inl here ↦ (h, rw here refl)
+  | inr other ↦ found-later h held t other (least-some held t (lesser-else t h.ticket (least_ticket held) is (apart-of t h.ticket other)))
+]
 
 none-of : (u : ℕ) → gate_of [] u ≡ None
 unfolding gate_of

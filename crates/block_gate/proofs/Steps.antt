@@ -1,7 +1,7 @@
 -- The gates after each step, and that they stay in order.
 use Rattle.std.proofs.Common.{◌≡◌, ℕ, ◌<◌, Bool, true, false, ◌||◌, List, [], ◌∷◌, ◌++◌, length, set, Option, None, Some, eqb, inl, inr, ◌⊎◌, refl, sym, ◌∙◌, ap, subst, arith}
 use Rattle.std.proofs.lemmas.Bool.{cases_eq, or_cases, eqb-true, false_from_ne_true}
-use Rattle.std.proofs.lemmas.List.{length-set}
+use Rattle.std.proofs.lemmas.List.{length-set, length-append}
 use Rattle.index_links.specs.Lists.{LinkedLists, list_at, is_among, is_listed, without, with_node_at_end, without_node, AreApart}
 use Rattle.index_links.proofs.LinkedListsLemmas.{pushed-here, pushed-other, unlinked-at, long-unlinked, long-pushed, nodes-unlinked, nodes-pushed, among-append, listed-in}
 use Rattle.block_gate.specs.Gates.{Gate, gate_of, AreSound}
@@ -93,6 +93,7 @@ sets-moved sets after L M size n a b old among differ move kept fits =
       nodes = move.nodes ∙ old.nodes ∙ sym kept.long;
       lists = move.lists ∙ old.lists;
       few = omega (arith, kept.long, old.few);
+      some = (b, omega (arith, ap length move.there ∙ length-append (list_at L b) (n ∷ [])));
       apart = move.apart;
       long = λ m inside. elim (cases_eq m n) [
         | inl same ↦ ap (λ x. length (gate_at after x).copy) same ∙ fits.long
@@ -160,6 +161,7 @@ sets-turned sets L size n out old among =
       nodes = old.nodes ∙ sym kept.long;
       lists = old.lists;
       few = omega (arith, kept.long, old.few);
+      some = old.some;
       apart = old.apart;
       long = λ m there. ap length (copy m) ∙ old.long m (omega (arith, kept.long));
       free_in = λ m there. ap (λ (g : Gate). g.out) (kept.same m (apart-from 0 m (λ is. omega arith) there)) ∙ old.free_in m there;

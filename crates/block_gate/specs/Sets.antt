@@ -37,12 +37,13 @@ unfoldable pub is_so : Bool → Gate → Bool
 is_so true g = g.out
 is_so false g = not g.out
 
--- each set is a node, has a copy of a whole block, and its work is in while it is free and out while its ticket is revoked;
+-- there is a set; each is a node, has a copy of a whole block, and its work is in while it is free and out while its ticket is revoked;
 -- no two sets that are held or out have one ticket, and no two that are held one block
 pub record AreSets (sets : List Gate) (links : LinkedLists) (size : ℕ) : Type 0 where
   pub nodes : links.nodes ≡ length sets
   pub lists : length links.lists ≡ 3
   pub few : length sets ≤ 64
+  pub some : (l : ℕ) × (0 < length (list_at links l))
   pub apart : AreApart links
   pub long : (n : ℕ) → n < length sets → length (gate_at sets n).copy ≡ size
   pub free_in : (n : ℕ) → is_among (list_at links 0) n ≡ true → (gate_at sets n).out ≡ false

@@ -1,4 +1,4 @@
-ghost use Rattle.std.specs.Prelude.{◌≡◌, ℕ, ◌+◌, ◌-◌, ◌<◌, ◌≤◌, true, false, None, Some, length, is_some, option_map, option_copied, IfOk, OnErr};
+ghost use Rattle.std.specs.Prelude.{◌≡◌, ℕ, ◌+◌, ◌-◌, ◌<◌, ◌≤◌, true, false, [], None, Some, length, is_some, option_map, option_copied, IfOk, OnErr};
 ghost use Rattle.std.specs.List.{refill};
 ghost use Rattle.std.specs.Borrow.{Lends, Array, sem, u8 as byte};
 ghost use Rattle.index_links.specs.Lists.{is_among};
@@ -192,11 +192,14 @@ impl Gates {
     }
 
     /// Makes new buffers for the sets that are out under a revoked ticket, forgets these tickets, and answers their
-    /// number. The error is want of memory, and some of them were then refitted, the first ones first.
+    /// number. Where no gate is held, a set is free then. The error is want of memory, and some of them were then refitted,
+    /// the first ones first.
     pub fn refit(&mut self) -> Result<u32, AllocError>
         ensures all { IfOk result (λ count. count ≡ length self.old.gone) }
         ensures ok { IfOk result (λ count. self.new ≡ with_new_sets self.old count) }
         ensures err { OnErr result (self.new ≡ with_new_sets self.old (length self.old.gone - length self.new.gone)) }
+        ensures some { IfOk result (λ _. self.new.held ≡ [] → 0 < self.new.free) }
+        ensures left { OnErr result (0 < length self.new.gone) }
         ensures sound { AreSound self.new }
     {
         let mut count: u32 = 0;

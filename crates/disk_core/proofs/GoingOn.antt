@@ -156,9 +156,11 @@ held_store_goes_on old new k held_stored.Did (g, t, q, outcome, stores) = makes-
 pub refit_goes_on : RefitGoesOn
 unfolding RefitSays
 refit_goes_on old new (Ok count) says =
-    let same = says.1 in
+    let (all, same, some) = says in
     still-on old new (ap (λ (s : State). s.setup) same) (ap (λ (s : State). s.entries) same) (ap (λ (s : State). s.kept) same)
-refit_goes_on old new (Err e) says = still-on old new (ap (λ (s : State). s.setup) says) (ap (λ (s : State). s.entries) says) (ap (λ (s : State). s.kept) says)
+refit_goes_on old new (Err e) says =
+    let (same, left) = says in
+    still-on old new (ap (λ (s : State). s.setup) same) (ap (λ (s : State). s.entries) same) (ap (λ (s : State). s.kept) same)
 
 no-kept : (was : Kept) → None ≡ Some was → ⊥
 no-kept was e = cc

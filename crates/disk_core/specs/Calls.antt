@@ -261,10 +261,13 @@ unfoldable pub HeldStoreSays : State → ℕ → HeldStored → State → Type 0
 HeldStoreSays old k held_stored.Stale new = (gate_of old.gates.held k ≡ None) × (new ≡ old)
 HeldStoreSays old k held_stored.Did new = (g : Gate) × (t : ℕ) × (q : Request) × (outcome : Outcome) × Stores old old.gates k g t q outcome new
 
--- new buffers for all sets that are out under a revoked ticket, or for some where memory ran out
+-- new buffers for all sets that are out under a revoked ticket, so that one is free where no gate is held; or for some of them,
+-- where memory ran out
 unfoldable pub RefitSays : {E : Type 0} → State → Result ℕ E → State → Type 0
-RefitSays old (Ok count) new = (count ≡ length old.gates.gone) × (new ≡ record old { gates = with_new_sets old.gates count })
-RefitSays old (Err e) new = new ≡ record old { gates = with_new_sets old.gates (length old.gates.gone - length new.gates.gone) }
+RefitSays old (Ok count) new =
+    (count ≡ length old.gates.gone) × (new ≡ record old { gates = with_new_sets old.gates count }) × (new.gates.held ≡ [] → 0 < new.gates.free)
+RefitSays old (Err e) new =
+    (new ≡ record old { gates = with_new_sets old.gates (length old.gates.gone - length new.gates.gone) }) × (0 < length new.gates.gone)
 
 -- the ended token is handed back: a write's bytes as they came, a read's with the bytes that it got
 pub record Collects (old : State) (tag number : ℕ) (status : Status) (buffer : List ℕ) (new : State) (q : Request) (was : Kept) : Type 0 where

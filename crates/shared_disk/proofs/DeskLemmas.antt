@@ -134,8 +134,12 @@ held-moves old new ticket held_stored.Did says = inr (_, _, _, says.4.makes)
 
 pub refit-moves : {E : Type 0} (old new : State) (result : Result ℕ E) → RefitSays old result new → Moves old new
 unfolding RefitSays
-refit-moves old new (Ok count) says = inl (ap (λ (s : State). s.setup) says.1, ap (λ (s : State). s.entries) says.1)
-refit-moves old new (Err e) says = inl (ap (λ (s : State). s.setup) says, ap (λ (s : State). s.entries) says)
+refit-moves old new (Ok count) says =
+    let (all, same, some) = says in
+    inl (ap (λ (s : State). s.setup) same, ap (λ (s : State). s.entries) same)
+refit-moves old new (Err e) says =
+    let (same, left) = says in
+    inl (ap (λ (s : State). s.setup) same, ap (λ (s : State). s.entries) same)
 
 made-accept : (t : ℕ) (c : Command) (outcome : Outcome) → is_accept (entry_of (record { token = t; command = c }) outcome) ≡ false
 made-accept t c Made = refl

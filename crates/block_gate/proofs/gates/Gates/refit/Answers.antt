@@ -5,7 +5,7 @@ use Rattle.block_gate.specs.Gates.{Gates, with_new_sets, AreSound}
 use Rattle.block_gate.specs.Sets.{gates_of}
 use Rattle.block_gate.proofs.Steps.{sound-of}
 use Rattle.block_gate.proofs.Views.{inside-of}
-use Rattle.block_gate.proofs.Calls.{TurnsSo, refits-so, refitted-none, refitted-more, gone-left, gone-few, left-after, none-first, some-first, kept-get}
+use Rattle.block_gate.proofs.Calls.{TurnsSo, some-free, refits-so, refitted-none, refitted-more, gone-left, gone-few, gone-some, left-after, none-first, some-first, kept-get}
 use Rattle.std.proofs.lemmas.List.{length-set}
 use Rattle.block_gate.proofs.Calls.{on-err}
 use Rattle.block_gate.proofs.gates.Gates.refit.Goals as goal
@@ -58,3 +58,18 @@ loop-preserved c =
       omega (arith, gone-left c.loop.self-inside.sets.items c.loop.self-inside.links c.loop.self-inside.size c.loop.count c.args.self.now shown, some-first (list_at c.loop.self-inside.links 2) c.in-Some.node (sym c.first_gone.ensures ∙ c.in-Some.is)),
       omega (arith, length-set c.loop.self-inside.sets.items c.in-Some.node c.refit.new.self),
     )
+
+pub returns-in_default-clause-some : goal.returns-in_default-clause-some
+returns-in_default-clause-some c =
+    let (ordered, shown, counted, fits, few) = c.loop.invariant in
+    some-free c.loop.self-inside.sets.items c.loop.self-inside.links c.loop.self-inside.size ordered (none-first (list_at c.loop.self-inside.links 2) (sym c.first_gone.ensures ∙ c.in_default.is))
+
+pub returns-clause-some : goal.returns-clause-some
+returns-clause-some c =
+    let (ordered, shown, counted, fits, few) = c.loop.invariant in
+    some-free c.loop.self-inside.sets.items c.loop.self-inside.links c.loop.self-inside.size ordered (omega (arith, gone-left c.loop.self-inside.sets.items c.loop.self-inside.links c.loop.self-inside.size c.loop.count c.args.self.now shown, counted, c.loop-test.false, gone-few c.self.inside.sets.items c.self.inside.links c.self.inside.size c.args.self.now c.self.invariant c.self.view_is))
+
+pub returns-in_err-refit-clause-left : goal.returns-in_err-refit-clause-left
+returns-in_err-refit-clause-left c =
+    let (ordered, shown, counted, fits, few) = c.loop.invariant in
+    on-err c.from_residual.result _ (gone-some _ c.loop.self-inside.links _ c.in-Some.node (sym c.first_gone.ensures ∙ c.in-Some.is))
