@@ -5,6 +5,7 @@ mod Costs
 mod Ending
 mod Enough
 mod Faultless
+mod Finished
 pub mod FreshLemmas
 mod Fronts
 mod Gathering

@@ -1,5 +1,5 @@
 -- Clients take their lines one after the other, rounds follow on rounds, and what is left is collected.
-use Rattle.std.proofs.Common.{◌≡◌, ℕ, ◌+◌, ◌-◌, ◌<◌, ◌≤◌, Bool, true, false, [], length, Option, None, Some, IsSome, Result, Ok, Err, OnErr, refl, sym, subst, arith}
+use Rattle.std.proofs.Common.{◌≡◌, ℕ, ◌+◌, ◌-◌, ◌<◌, ◌≤◌, Bool, true, false, [], length, Option, None, Some, IsSome, Result, Ok, Err, OnOk, OnErr, refl, sym, subst, arith}
 use Rattle.history.specs.declared.order.Order.{Order}
 use Rattle.history.specs.Setup.{IsSetup}
 use Rattle.disk_core.specs.Turns.{IsIdle}
@@ -143,3 +143,8 @@ some-left d (i, line) over = by (next_of d i) (over i) line
 pub on-err : {T E : Type 0} {P : Type 0} (result : Result T E) → P → OnErr result P
 on-err (Ok value) holds = tt
 on-err (Err error) holds = holds
+
+-- and of a value
+pub on-ok : {T E : Type 0} {P : Type 0} (result : Result T E) → P → OnOk result P
+on-ok (Ok value) holds = holds
+on-ok (Err error) holds = tt

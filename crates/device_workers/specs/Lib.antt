@@ -1,3 +1,4 @@
+pub mod Finishing
 pub mod Laws
 pub mod Leading
 pub mod Plain

@@ -35,7 +35,7 @@ fn take_line<M: Medium>(desk: &mut Desk<M>, client: u32) -> Result<(), AllocErro
 }
 
 // Takes the next line of each client that has one left, in order of number. The error is want of memory.
-fn take_lines<M: Medium>(desk: &mut Desk<M>) -> Result<(), AllocError>
+pub(crate) fn take_lines<M: Medium>(desk: &mut Desk<M>) -> Result<(), AllocError>
     requires keeps { Keeps desk.old }
     requires idle { IsIdle desk.old.disk.gates }
     ensures stays { KeepsScriptAndGates desk.old desk.new }

@@ -3,8 +3,9 @@ ghost use Rattle.medium.specs.Device.{IsFresh};
 ghost use Rattle.disk_core.specs.Turns.{IsIdle};
 ghost use Rattle.shared_disk.specs.Desk.{AreDeskClients, IsDeskOrder, Keeps};
 
-use crate::plain;
-use disk_core::Disk;
+use crate::plain_run::take_lines;
+use crate::{finish, plain};
+use disk_core::{Disk, Step};
 use drive::Drive;
 use efi_status::Status;
 use history::{Asked, Command, Entry, Kind, Order, Payload, UnitKind};
@@ -24,6 +25,7 @@ enum Act {
 }
 
 // The lines of three clients, and what a plain run makes of them.
+#[derive(Drop)]
 struct Case {
     clients: [&'static [Act]; 3],
     entries: &'static [Seen],
@@ -168,17 +170,44 @@ fn clients_of(alloc: Global, case: &Case) -> Result<Vec<Client>, AllocError>
     Ok(vec![in alloc; first, second, third]?)
 }
 
-// What the entries of a plain run are, oldest first.
-fn run(alloc: Global, clients: Vec<Client>) -> Result<Vec<Seen>, AllocError>
-    requires clients { AreDeskClients clients.items }
-{
-    let mut desk = desk_of(alloc, clients)?;
-    plain(&mut desk)?;
+// What the entries of a desk are, oldest first.
+fn seen_on(alloc: Global, desk: &Desk<MemMedium>) -> Result<Vec<Seen>, AllocError> {
     let mut all = Vec::new(alloc);
     for entry in desk.disk().history().entries() {
         all.push(summary(entry))?;
     }
     Ok(all)
+}
+
+// What a plain run enters.
+fn run(alloc: Global, clients: Vec<Client>) -> Result<Vec<Seen>, AllocError>
+    requires clients { AreDeskClients clients.items }
+{
+    let mut desk = desk_of(alloc, clients)?;
+    plain(&mut desk)?;
+    seen_on(alloc, &desk)
+}
+
+// Makes a command, and loses its work.
+fn step_away(desk: &mut Desk<MemMedium>)
+    requires keeps { Keeps desk.old }
+    ensures keeps { Keeps desk.new }
+{
+    match desk.step() {
+        Step::Lent(work) => work.discard(),
+        Step::Did | Step::Idle | Step::Drained => {}
+    }
+}
+
+// What is entered where each client has done a line, a work was lost, and the desk is finished then.
+fn finish_rest(alloc: Global, clients: Vec<Client>) -> Result<Vec<Seen>, AllocError>
+    requires clients { AreDeskClients clients.items }
+{
+    let mut desk = desk_of(alloc, clients)?;
+    take_lines(&mut desk)?;
+    step_away(&mut desk);
+    finish(&mut desk)?;
+    seen_on(alloc, &desk)
 }
 
 // Three clients with a protection; a medium that is ejected under a read; collects of the last round in order of number.
@@ -236,5 +265,27 @@ fn serves_clients(rt: HostRuntime) -> Result<(), Fail> {
         let ran = run(alloc, clients_of(alloc, case)?)?;
         assert_eq!(rt; ran.as_slice(), case.entries);
     }
+    Ok(())
+}
+
+// A group whose work was lost is stored from its kept copy, and the rest is served.
+const LOST: Case = Case {
+    clients: [&[Act::Write(0, 17)], &[Act::Read(0)], &[]],
+    entries: &[
+        Seen::Accept(1),
+        Seen::Accept(2),
+        Seen::Did(0, Command::Fetch { block: 0 }),
+        Seen::Did(0, Command::Store { block: 0 }),
+        Seen::Did(1, Command::Get { block: 0, count: 1 }),
+        Seen::Collect(1, 0),
+        Seen::Collect(2, 1),
+    ],
+};
+
+#[test]
+fn finishes_what_is_held(rt: HostRuntime) -> Result<(), Fail> {
+    let alloc = rt.alloc();
+    let seen = finish_rest(alloc, clients_of(alloc, &LOST)?)?;
+    assert_eq!(rt; seen.as_slice(), LOST.entries);
     Ok(())
 }
