@@ -20,7 +20,7 @@ keeps-enters S d places H e keeps may = record {
   at = λ i. keeps.at i;
 }
 
-place-more : (places : List (List ℕ)) (i k n : ℕ) → i < length places → places_at (slice_set places i (places_at places i ++ n ∷ [])) k ≡ with_place (nat_eq i k) n (places_at places k)
+pub place-more : (places : List (List ℕ)) (i k n : ℕ) → i < length places → places_at (slice_set places i (places_at places i ++ n ∷ [])) k ≡ with_place (nat_eq i k) n (places_at places k)
 place-more places i k n lt = elim (cases_eq i k) [
   | inl same ↦ rw (eq-eqb i k same, ← same) (get_or-set_same places i (places_at places i ++ n ∷ []) [] lt)
   | inr other ↦ rw (ne_eqb i k other) (get_or-set_other places i k (places_at places i ++ n ∷ []) [] (λ e. other (sym e)))

@@ -15,3 +15,7 @@ pub mod DeskLemmas
 pub mod LogKeeps
 pub mod PlateLemmas
 pub mod PlacesLemmas
+pub mod HoldLemmas
+pub mod LineLogLemmas
+pub mod SeatLemmas
+pub mod AsideLemmas

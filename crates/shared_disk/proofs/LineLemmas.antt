@@ -45,7 +45,7 @@ same-twice a b c one other = record {
 }
 
 -- the opening history stays
-opening-same : (n : ℕ) (H : List Entry) (e : Option Entry) → n ≤ length H → first_entries n (with_line_entry e H) ≡ first_entries n H
+pub opening-same : (n : ℕ) (H : List Entry) (e : Option Entry) → n ≤ length H → first_entries n (with_line_entry e H) ≡ first_entries n H
 opening-same n H None le = refl
 opening-same n H (Some e) le = first-entries-more n H e le
 

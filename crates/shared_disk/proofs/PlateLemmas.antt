@@ -1,10 +1,13 @@
 -- The log of a desk has its entries, and the lines done of each client.
-use Rattle.std.proofs.Common.{◌≡◌, ℕ, zero, suc, ◌+◌, ◌<◌, List, [], ◌∷◌, ◌++◌, length, map, replicate, refl, ap, Bool, true, false, arith}
+use Rattle.std.proofs.Common.{◌≡◌, ℕ, zero, suc, ◌+◌, ◌<◌, List, [], ◌∷◌, ◌++◌, ◌^◌, length, map, replicate, refl, ap, Bool, true, false, arith}
 use Rattle.std.specs.Prelude.{sum_by, nat_eq, if◌then◌else◌, slice_get, Some, ◌≤◌, vec_len}
 use Rattle.std.proofs.lemmas.List.{length-append, length-map, length-replicate}
 use Rattle.std.proofs.lemmas.Bool.{eq-eqb, ne_eqb}
 use Rattle.std.proofs.lemmas.List.Sums.{sum_by-cons}
 use Rattle.history.specs.declared.entry.Entry.{Entry}
+use Rattle.history.specs.Setup.{Setup}
+use Rattle.shared_disk.specs.declared.books.Books.{Books}
+use Rattle.shared_disk.specs.Inside.{AreBooksSound}
 use Rattle.shared_disk.specs.declared.log_rule.Item.{Item}
 use Rattle.shared_disk.specs.declared.log_rule.Item.TheVariants.{Happened, LineOf}
 use Rattle.shared_disk.specs.declared.books.Course.{Course}
@@ -103,7 +106,7 @@ log-of s = record {
 }
 
 -- the clients have done no more lines than they have
-pub few-lines : (clients : List Client) (courses : List Course) → length courses ≡ length clients
+few-lines : (clients : List Client) (courses : List Course) → length courses ≡ length clients
     → ((i : ℕ) (client : Client) (c : Course) → slice_get clients i ≡ Some client → slice_get courses i ≡ Some c → length c.places.items ≤ length client.orders.items)
     → sum_by (λ (course : Course). vec_len course.places) courses ≤ sum_by (λ (client : Client). length client.orders.items) clients
 few-lines clients [] same few = omega arith
@@ -113,6 +116,10 @@ few-lines (client ∷ clients) (c ∷ courses) same few =
     let one : vec_len c.places ≤ length client.orders.items = let own = few 0 client c refl refl in let long = c.places.ok.0 in omega (arith, own, long) in
     let done = sum_by-cons (λ (course : Course). vec_len course.places) c courses in
     let all = sum_by-cons (λ (client : Client). length client.orders.items) client clients in omega (arith, rest, one, done, all)
+
+-- so at most as many as a desk may have
+pub few-places : (S : Setup) (H : List Entry) (b : Books) → AreBooksSound S H b → sum_by (λ (course : Course). vec_len course.places) b.courses.items ≤ 2 ^ 32
+few-places S H b sound = let done = few-lines b.clients.items b.courses.items sound.paired (λ i client c at there. (sound.courses i client c at there).few) in omega (arith, done, sound.lines)
 
 pub done-places : (courses : List Course) → sum_by (λ (course : Course). vec_len course.places) courses ≡ sum_by length (map (λ (course : Course). course.places.items) courses)
 done-places [] = refl

@@ -24,7 +24,7 @@ use Rattle.shared_disk.specs.declared.books.Slot.{Slot}
 use Rattle.shared_disk.specs.Lines.{has_tag, own_before}
 use Rattle.token_table.specs.declared.record.Done.{Done}
 use Rattle.shared_disk.specs.Desk.{IsHandedBack}
-use Rattle.shared_disk.specs.Inside.{first_entries, IsCourse, IsBufferOf, IsSlot, AreBooksSound, HasToken, ChangesCourse, AddsToken, KeepsBuffer}
+use Rattle.shared_disk.specs.Inside.{first_entries, IsCourse, IsBufferOf, IsSlot, AreBooksSound, HasToken, ChangesCourse, AddsToken, PutsBuffer}
 use Rattle.shared_disk.proofs.OwnLemmas.{get-push, own-more, own-same, IsOwnAt, own-at, own-before-same}
 use Rattle.history_laws.proofs.ClosedLemmas.{closed-stays}
 use Rattle.history_laws.proofs.TokenLemmas.{collected-stays}
@@ -183,10 +183,10 @@ sound-token S H place tag view asked bytes b b' legal may tagged sound adds = re
           buffer = collected-same H (Accept tag view asked bytes) (token_count H) refl ∙ untold-collected S H (token_count H) (unaccepted S H (token_count H) legal (omega arith));
         })
 
--- the books after a token was handed back, whose buffer they keep
-pub sound-keep : (S : Setup) (H : List Entry) (tag t : ℕ) (done : Done) (q : Request) (b b' : Books) → MayFollow S H (Collect tag t) → AreBooksSound S H b → KeepsBuffer b t done b' → IsHandedBack S (Collect tag t ∷ H) t done.buffer q done.status
+-- the books after a token was handed back
+pub sound-keep : (S : Setup) (H : List Entry) (tag t : ℕ) (buffer : Buffer) (b b' : Books) → MayFollow S H (Collect tag t) → AreBooksSound S H b → PutsBuffer b t buffer b' → IsBufferOf S (Collect tag t ∷ H) t buffer
     → AreBooksSound S (Collect tag t ∷ H) b'
-sound-keep S H tag t done q b b' may sound keeps given = record {
+sound-keep S H tag t buffer b b' may sound keeps given = record {
   opened = omega (arith, keeps.opened, sound.opened);
   opening = rw (keeps.opened, first-entries-more b.opened H (Collect tag t) sound.opened) (sound.opening);
   few = rw keeps.clients (sound.few);
@@ -204,9 +204,9 @@ sound-keep S H tag t done q b b' may sound keeps given = record {
   where
     slot : (u : ℕ) (s : Slot) → slice_get b'.slots.items u ≡ Some s → (u ≡ t) ⊎ (u ≢ t) → IsSlot S (Collect tag t ∷ H) u s
     slot u s at (inl same) =
-        let is : record keeps.was { buffer = Kept done } ≡ s = some-same (record keeps.was { buffer = Kept done }) s (sym keeps.here ∙ rw same at at) in
+        let is : record keeps.was { buffer = buffer } ≡ s = some-same (record keeps.was { buffer = buffer }) s (sym keeps.here ∙ rw same at at) in
         let was : IsSlot S H t keeps.was = sound.slots t keeps.was keeps.there in
-        rw (← is, same) (record { tagged = rw (request-same H (Collect tag t) t refl) (was.tagged); buffer = (q, given) })
+        rw (← is, same) (record { tagged = rw (request-same H (Collect tag t) t refl) (was.tagged); buffer = given })
     slot u s at (inr other) =
         let was : IsSlot S H u s = sound.slots u s (sym (keeps.others u other) ∙ at) in
         record { tagged = rw (request-same H (Collect tag t) u refl) (was.tagged); buffer = buffer-entry S H (Collect tag t) u s.buffer may (ne_eqb t u (λ e. other (sym e))) was.buffer }

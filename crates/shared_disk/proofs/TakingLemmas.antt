@@ -19,9 +19,12 @@ use Rattle.history.specs.Marks.{is_outstanding}
 use Rattle.history_laws.proofs.NextLemmas.{outstanding-test}
 use Rattle.shared_disk.specs.declared.books.Books.{Books}
 use Rattle.shared_disk.specs.declared.books.Slot.{Slot}
+use Rattle.shared_disk.specs.declared.books.Buffer.{Buffer}
+use Rattle.shared_disk.specs.Seats.{BesideLines}
+use Rattle.std.proofs.lemmas.Bool.{cases_eq}
 use Rattle.shared_disk.specs.declared.books.Buffer.TheVariants as slot
 use Rattle.shared_disk.specs.Desk.{IsHandedBack, TakesBack, given_at}
-use Rattle.shared_disk.specs.Inside.{buffer_in, desk_state, AreBooksSound, KeepsBuffer, AreBooksOf}
+use Rattle.shared_disk.specs.Inside.{buffer_in, desk_state, AreBooksSound, IsBufferOf, PutsBuffer, KeepsBuffer, AreBooksOf}
 use Rattle.shared_disk.proofs.SoundLemmas.{first-entries-more, sound-keep}
 use Rattle.history_laws.proofs.SuccessLemmas.{success-moved}
 
@@ -68,7 +71,7 @@ module _ (old new : State) (tag t : ℕ) (status : Status) (buffer : List ℕ) (
   }
 
   pub takes-sound : (b b' : Books) → AreBooksOf old b → KeepsBuffer b t (record { status = status; buffer = buffer }) b' → AreBooksOf new b'
-  takes-sound b b' sound keeps = subst (λ (s : State). AreBooksSound s.setup s.entries b') (sym collects.new_is) (sound-keep old.setup old.entries tag t (record { status = status; buffer = buffer }) q b b' may sound keeps given)
+  takes-sound b b' sound keeps = subst (λ (s : State). AreBooksSound s.setup s.entries b') (sym collects.new_is) (sound-keep old.setup old.entries tag t (slot.Kept (record { status = status; buffer = buffer })) b b' may sound keeps (q, given))
 
   entries-is : new.entries ≡ Collect tag t ∷ old.entries
   entries-is = ap (λ (s : State). s.entries) collects.new_is
@@ -85,6 +88,31 @@ module _ (old new : State) (tag t : ℕ) (status : Status) (buffer : List ℕ) (
     places = rw keeps.courses refl;
     kept = given-at b'.slots.items t (record keeps.was { buffer = slot.Kept (record { status = status; buffer = buffer }) }) keeps.here;
     others = λ u other. given-same b'.slots.items b.slots.items u (keeps.others u other);
+  }
+
+  -- where another caller has its buffer
+  pub lets-sound : (b b' : Books) → AreBooksOf old b → PutsBuffer b t slot.Gone b' → AreBooksOf new b'
+  lets-sound b b' sound puts = subst (λ (s : State). AreBooksSound s.setup s.entries b') (sym collects.new_is) (sound-keep old.setup old.entries tag t slot.Gone b b' may sound puts (collected-collect old.entries tag t))
+
+  -- the desk gave no buffer of it before, since it was not collected
+  ungiven : (b : Books) (s : Slot) → AreBooksOf old b → slice_get b.slots.items t ≡ Some s → buffer_in s.buffer ≡ None
+  ungiven b s sound at = by s.buffer (sound.slots t s at).buffer
+    where
+      by : (x : Buffer) → IsBufferOf old.setup old.entries t x → buffer_in x ≡ None
+      by slot.Awaited is = refl
+      by (slot.Kept done) is = let bad : true ≡ false = sym is.1.collected ∙ collects.uncollected in cc
+      by slot.Gone is = refl
+
+  pub lets-token : (b b' : Books) → AreBooksOf old b → PutsBuffer b t slot.Gone b' → (Says : State → State → Type 0) → Says old new → BesideLines (desk_state old b) (desk_state new b') Says
+  unfolding desk_state
+  lets-token b b' sound puts Says says = record {
+    says = says;
+    script = rw (entries-is, puts.opened, puts.clients, first-entries-more b.opened old.entries (Collect tag t) sound.opened) refl;
+    places = rw puts.courses refl;
+    given = λ u. elim (cases_eq u t) [
+      | inl same ↦ rw same (given-at b'.slots.items t (record puts.was { buffer = slot.Gone }) puts.here ∙ sym (given-at b.slots.items t puts.was puts.there ∙ ungiven b puts.was sound puts.there))
+      | inr other ↦ given-same b'.slots.items b.slots.items u (puts.others u other)
+    ];
   }
 
 -- a token that has ended and was not collected can be

@@ -191,8 +191,8 @@ pub record AddsToken (b : Books) (place tag number : ℕ) (b' : Books) : Type 0 
   pub changes : HasToken number was now
   pub others : (i : ℕ) → i ≢ place → slice_get b'.courses.items i ≡ slice_get b.courses.items i
 
--- the buffer of a token is here
-pub record KeepsBuffer (b : Books) (number : ℕ) (done : Done) (b' : Books) : Type 0 where
+-- where the buffer of a token is has changed
+pub record PutsBuffer (b : Books) (number : ℕ) (buffer : Buffer) (b' : Books) : Type 0 where
   pub opened : b'.opened ≡ b.opened
   pub clients : b'.clients ≡ b.clients
   pub courses : b'.courses ≡ b.courses
@@ -201,8 +201,12 @@ pub record KeepsBuffer (b : Books) (number : ℕ) (done : Done) (b' : Books) : T
   pub count : length b'.slots.items ≡ length b.slots.items
   pub was : Slot
   pub there : slice_get b.slots.items number ≡ Some was
-  pub here : slice_get b'.slots.items number ≡ Some (record was { buffer = Kept done })
+  pub here : slice_get b'.slots.items number ≡ Some (record was { buffer = buffer })
   pub others : (t : ℕ) → t ≢ number → slice_get b'.slots.items t ≡ slice_get b.slots.items t
+
+-- the buffer of a token is here
+abbrev pub KeepsBuffer : Books → ℕ → Done → Books → Type 0
+KeepsBuffer b number done b' = PutsBuffer b number (Kept done) b'
 
 -- a line may want memory
 abbrev pub MayWantMemory : Option Order → Type 0

@@ -1,9 +1,11 @@
 pub mod Desk
+pub mod Holding
 pub mod Inside
 pub mod Lines
 pub mod Log
 pub mod Pens
 pub mod Plate
+pub mod Seats
 pub mod Script
 pub mod Laws
 pub mod Slots

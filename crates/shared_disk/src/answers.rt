@@ -1,5 +1,5 @@
-use crate::Client;
-use disk_core::{Disk, Token};
+use crate::{Client, Desk};
+use disk_core::{Disk, Step, Token};
 use medium::Medium;
 
 /// What a client's next line did.
@@ -17,9 +17,22 @@ pub enum Line {
     Memory,
 }
 
+/// What a worker's step did.
+pub struct Turn {
+    pub step: Step,
+    /// Whether no client had a line left.
+    pub over: bool,
+}
+
 /// A disk that could not be made a desk for want of memory, with its clients.
 #[derive(Drop)]
 pub struct DeskRefused<M: Medium> {
     pub disk: Disk<M>,
     pub clients: Vec<Client>,
+}
+
+/// A desk that could not be shared for want of memory.
+#[derive(Drop)]
+pub struct ShareRefused<M: Medium> {
+    pub desk: Desk<M>,
 }

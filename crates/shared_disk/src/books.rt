@@ -1,7 +1,8 @@
 ghost use Rattle.std.specs.Prelude.{◌≡◌, ℕ, ◌<◌, ◌^◌, sum_by, true, false, IsSome, Some, option_copied, slice_get, OnOk, length, vec_len, vec_capacity};
+ghost use Rattle.shared_disk.specs.declared.books.Buffer.{Buffer};
 ghost use Rattle.shared_disk.specs.declared.books.Course.{Course};
 ghost use Rattle.shared_disk.specs.Script.{AreOver};
-ghost use Rattle.shared_disk.specs.Inside.{end_at, order_in, done_in, roles_in, given_in, ChangesCourse, IsRoomy, HasTokenRoom, HasToken, HasLineMore, AddsToken, KeepsBuffer};
+ghost use Rattle.shared_disk.specs.Inside.{end_at, order_in, done_in, roles_in, given_in, ChangesCourse, IsRoomy, HasTokenRoom, HasToken, HasLineMore, AddsToken, KeepsBuffer, PutsBuffer};
 ghost use Rattle.shared_disk.specs.Desk.{given_at};
 
 use crate::clients::Client;
@@ -185,6 +186,14 @@ impl Books {
             buffer: Buffer::Awaited,
         });
         self.courses[place].add_token(number);
+    }
+
+    /// Notes that another caller has the buffer of a token.
+    pub fn let_go(&mut self, number: usize)
+        requires { number < length self.old.slots.items }
+        ensures { PutsBuffer self.old number Buffer.Gone self.new }
+    {
+        self.slots[number].buffer = Buffer::Gone;
     }
 
     /// Keeps the buffer of a token, and its status.

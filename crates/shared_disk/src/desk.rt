@@ -1,25 +1,30 @@
 ghost use Rattle.std.specs.Prelude.{◌≡◌, ℕ, ◌+◌, ◌-◌, ◌<◌, ◌≤◌, ◌^◌, true, false, length, sum_by, IfOk, IfErr, option_copied, is_some, Some, IfSome};
 ghost use Rattle.block_gate.specs.Gates.{least_ticket};
-ghost use Rattle.disk_core.specs.Calls.{StepSays, StoreSays, HeldStoreSays, RefitSays};
+ghost use Rattle.disk_core.specs.Calls.{asked_of, SubmitSays, StepSays, StoreSays, HeldStoreSays, RefitSays, CollectSays, EndSays};
+ghost use Rattle.history.specs.declared.entry.Entry.{Entry};
 ghost use Rattle.disk_core.specs.Facts.{AreFacts};
 ghost use Rattle.history.specs.Marks.{mark_of};
 ghost use Rattle.history.specs.Setup.{IsSetup};
 ghost use Rattle.shared_disk.specs.Lines.{roles_of};
 ghost use Rattle.shared_disk.specs.Script.{IsOpening};
 ghost use Rattle.shared_disk.specs.Desk.{AreDeskClients, desk_over};
+ghost use Rattle.shared_disk.specs.Seats.{BesideLines};
 
 use crate::answers::{DeskRefused, Line};
+use crate::aside::{cancel_aside, collect_aside, submit_aside};
 use crate::books::{Books, Slot};
 use crate::clients::Client;
 use crate::collecting::collect_least;
 use crate::making::new_books;
 use crate::taking::take_line;
 use block_gate::Work;
-use disk_core::{Disk, HeldStored, Step, Stored};
+use disk_core::{Ask, Disk, HeldStored, Refused, Step, Stored, Token};
 use efi_status::Status;
+use history::View;
 use medium::Medium;
 use std::alloc::{AllocError, Global};
 use std::marker::Model;
+use token_table::{Done, NotThere};
 
 /// A disk and its clients, who take their lines in order; and the buffers of the requests that they collected (own
 /// profile).
@@ -117,6 +122,46 @@ impl<M: Medium> Desk<M> {
         self.disk.refit()
     }
 
+    /// Submits a request of a client, from 1, beside its lines.
+    pub(crate) fn submit(
+        &mut self,
+        client: u32,
+        view: &View,
+        media_id: u32,
+        ask: Ask,
+    ) -> Result<Token, Refused>
+        requires some { 1 ≤ client }
+        requires there { client ≤ length self.old.script.roles }
+        requires most { (asked_of ask).length ≤ 2 ^ 24 }
+        ensures { BesideLines self.old self.new
+            (λ old new. SubmitSays old client view.now media_id ask result new) }
+    {
+        submit_aside(
+            self.alloc,
+            &mut self.disk,
+            &mut self.books,
+            client,
+            view,
+            media_id,
+            ask,
+        )
+    }
+
+    /// Collects a token beside the lines, for a caller who gets its buffer.
+    pub(crate) fn collect(&mut self, tag: u32, number: u64) -> Result<Done, NotThere>
+        ensures { BesideLines self.old self.new (λ old new. CollectSays old tag number result new) }
+    {
+        collect_aside(&mut self.disk, &mut self.books, tag, number)
+    }
+
+    /// Ends the outstanding requests of a view beside the lines, and answers their number.
+    pub(crate) fn cancel(&mut self, tag: u32, view: &View) -> u64
+        ensures { BesideLines self.old self.new
+            (λ old new. EndSays old (Entry.Cancel tag view.now) result new) }
+    {
+        cancel_aside(&mut self.disk, &self.books, tag, view)
+    }
+
     /// Collects the least uncollected token with the tag of its client, and answers its number. None exactly where a
     /// client has a line left, a token is outstanding, or every token was collected.
     pub fn collect_last(&mut self) -> Option<u64>
@@ -139,6 +184,14 @@ impl<M: Medium> Desk<M> {
         ensures few { result ≤ 2 ^ 32 }
     {
         self.books.done_lines()
+    }
+
+    /// Its places are few, and there is a list of them for each client. It does nothing else than to carry these facts.
+    pub(crate) fn place_bounds(&self)
+        ensures few { sum_by length self.now.places ≤ 2 ^ 32 }
+        ensures paired { length self.now.places ≡ length self.now.script.roles }
+    {
+        let _opened = self.books.opened;
     }
 
     /// Whether no client has a line left.

@@ -3,27 +3,39 @@
 #![tactic(auto)]
 
 mod answers;
+mod aside;
 mod asking;
 mod books;
 mod clients;
 mod collecting;
 mod desk;
+mod hands;
+mod held;
+mod holding;
 mod laws;
 mod log_rule;
 mod making;
+mod name;
 mod pens;
 mod plate;
 mod requesting;
+mod seating;
+mod seats;
 mod sends;
+mod shared;
 mod taking;
 mod waiting;
 
-pub use answers::{DeskRefused, Line};
+pub use answers::{DeskRefused, Line, ShareRefused, Turn};
 pub use books::{Buffer, Slot};
 pub use clients::{Client, Stand};
 pub use desk::Desk;
+pub use hands::Hand;
 pub use laws::lines_stand_at_places;
+pub use name::DiskName;
 pub use plate::Plate;
+pub use seats::Seat;
+pub use shared::SharedDisk;
 
 #[cfg(test)]
 mod tests;

@@ -12,8 +12,8 @@ use std::sync::ledger::Blank;
 /// The pen of a desk's log, and a ledger that is not yet opened (own profile).
 #[derive(Drop)]
 pub struct Plate {
-    pen: Pen,
-    blank: Blank,
+    pub(crate) pen: Pen,
+    pub(crate) blank: Blank,
 }
 
 impl Model for Plate {

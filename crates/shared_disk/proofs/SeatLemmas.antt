@@ -1,0 +1,19 @@
+-- The seats of a new shared disk.
+use Rattle.std.proofs.Common.{◌≡◌, ℕ, suc, ◌+◌, ◌<◌, inl, inr, List, [], ◌∷◌, ◌++◌, length, None, Some, refl, sym, ◌∙◌, arith}
+use Rattle.std.specs.Prelude.{slice_get}
+use Rattle.std.proofs.lemmas.List.{length-append}
+use Rattle.shared_disk.specs.declared.log_rule.Item.{Item}
+use Rattle.shared_disk.specs.Seats.{SeatState, AreNewSeats}
+use Rattle.shared_disk.proofs.OwnLemmas.{get-push}
+
+pub no_seats : (log : List Item) → AreNewSeats 0 log []
+no_seats log = record { count = refl; each = λ i s at. cc }
+
+pub one_seat_more : (n : ℕ) (log : List Item) (seats : List SeatState) → AreNewSeats n log seats → AreNewSeats (n + 1) log (seats ++ record { client = n + 1; count = 0; seen = log } ∷ [])
+one_seat_more n log seats new = record {
+  count = length-append seats _ ∙ (let count = new.count in omega (arith, count));
+  each = λ i s at. elim (get-push seats (record { client = n + 1; count = 0; seen = log }) s i at) [
+    | inl old ↦ new.each i s old
+    | inr last ↦ rw (last.0, new.count) (sym last.1)
+  ];
+}

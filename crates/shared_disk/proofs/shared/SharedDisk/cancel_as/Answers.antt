@@ -1,0 +1,5 @@
+use Rattle.shared_disk.proofs.HoldLemmas.{sees-older}
+use Rattle.shared_disk.proofs.shared.SharedDisk.cancel_as.Goals as goal
+
+pub returns-clause-older : goal.returns-clause-older
+returns-clause-older g c = sees-older _ _ _ _ _ _ c.cancel.ensures.sees
