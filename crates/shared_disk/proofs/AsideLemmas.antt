@@ -1,8 +1,6 @@
 -- Calls of the disk that are no line's.
-use Rattle.std.proofs.Common.{◌≡◌, ℕ, zero, suc, ◌+◌, ◌-◌, ◌≤◌, ◌∷◌, true, List, length, Option, None, Some, IsSome, Result, Ok, Err, refl, sym, ap, subst, ◌∙◌, arith}
-use Rattle.efi_status.specs.declared.Status.{Status}
+use Rattle.std.proofs.Common.{◌≡◌, ℕ, zero, suc, ◌+◌, ◌≤◌, ◌∷◌, true, List, length, Option, None, Some, IsSome, Result, Ok, Err, refl, sym, ap, subst, ◌∙◌, arith}
 use Rattle.history.specs.declared.entry.View.{View}
-use Rattle.history.specs.declared.entry.Asked.{Asked}
 use Rattle.history.specs.declared.entry.Entry.{Entry}
 use Rattle.history.specs.declared.entry.Entry.TheVariants.{Accept, Refuse, Collect, Cancel}
 use Rattle.token_table.specs.declared.record.NotThere.{NotThere}
@@ -13,7 +11,7 @@ use Rattle.disk_core.specs.declared.answers.Why.{Why}
 use Rattle.disk_core.specs.declared.answers.Why.TheVariants as why
 use Rattle.disk_core.specs.declared.answers.Token.{Token}
 use Rattle.disk_core.specs.State.{State}
-use Rattle.disk_core.specs.Calls.{asked_of, bytes_of, buffer_of, Accepts, RefusesFor, SubmitSays, CollectSays, EndSays}
+use Rattle.disk_core.specs.Calls.{asked_of, bytes_of, buffer_of, RefusesFor, SubmitSays, CollectSays, EndSays}
 use Rattle.disk_core.specs.GoingOn.{GoesOn}
 use Rattle.disk_core.proofs.GoingOn.{submit_goes_on, end_goes_on}
 use Rattle.shared_disk.specs.declared.books.Books.{Books}
@@ -30,7 +28,7 @@ use Rattle.shared_disk.specs.Desk.{DeskState, Keeps}
 use Rattle.shared_disk.specs.Seats.{BesideLines, submit_count, refusal_count, collect_count, cancel_count}
 use Rattle.shared_disk.specs.Inside.{AreBooksOf, AreBooksSound, AreSame, IsRoomy, ChangesCourse, AddsToken, DoesOn, desk_state}
 use Rattle.shared_disk.proofs.DoneLemmas.{roomy-sound, roomy-same, does-accept, does-refuse, does-nothing, does-entry}
-use Rattle.shared_disk.proofs.LineLemmas.{opening-same, state-same}
+use Rattle.shared_disk.proofs.LineLemmas.{opening-same}
 
 beside-does : (old new : State) (b b' : Books) (e : Option Entry) (token : Option Token) (Says : State → State → Type 0) → AreBooksOf old b → DoesOn old b new b' e token → Says old new → BesideLines (desk_state old b) (desk_state new b') Says
 unfolding desk_state

@@ -15,10 +15,9 @@ use Rattle.history.specs.Setup.{Setup}
 use Rattle.disk_core.specs.declared.answers.Token.{Token}
 use Rattle.history.specs.Marks.{mark_of}
 use Rattle.history.specs.Tokens.{Request, token_count, is_accept, is_collect_of, was_collected}
-use Rattle.history.specs.Marks.{IsOutstanding}
 use Rattle.history.specs.Next.{Outcome, Made, Failed, entry_of}
 use Rattle.history.specs.Rules.{MayFollow, IsLegal}
-use Rattle.history_laws.proofs.EndLemmas.{command-open, unaccepted, untold-collected}
+use Rattle.history_laws.proofs.EndLemmas.{unaccepted, untold-collected}
 use Rattle.history_laws.proofs.QuietLemmas.{other-collect}
 use Rattle.history_laws.proofs.TokenLemmas.{collected-same}
 use Rattle.block_gate.specs.Works.{Lent}

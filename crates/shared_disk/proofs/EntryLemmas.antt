@@ -1,20 +1,16 @@
 -- Which entry a line gives, by what the disk's calls answer.
-use Rattle.std.proofs.Common.{◌≡◌, ◌∙◌, ℕ, zero, suc, ◌+◌, ◌<◌, ◌≤◌, Bool, true, false, ◌&&◌, List, length, slice_get, Option, None, Some, is_some, Result, Ok, Err, option_map, refl, ap, subst, arith}
+use Rattle.std.proofs.Common.{◌≡◌, ◌∙◌, ℕ, zero, suc, ◌+◌, ◌<◌, ◌≤◌, Bool, false, ◌&&◌, List, length, slice_get, Option, None, Some, is_some, Result, Ok, Err, option_map, refl, ap, subst, arith}
 use Rattle.std.proofs.lemmas.Bool.{lt-ltb, le-ltb}
-use Rattle.efi_status.specs.declared.Status.{Status}
 use Rattle.history.specs.declared.entry.View.{View}
 use Rattle.history.specs.declared.entry.Entry.{Entry}
 use Rattle.history.specs.declared.entry.Entry.TheVariants.{Cancel, Reset, Eject, Insert, Protect}
 use Rattle.history.specs.Setup.{Setup}
 use Rattle.history.specs.Eras.{is_present, media_id_of}
 use Rattle.history.specs.Tokens.{token_count, request, is_accept, is_collect_of}
-use Rattle.history.specs.Marks.{first_from, has_view, is_outstanding, IsOutstanding, ending}
+use Rattle.history.specs.Marks.{first_from, has_view, is_outstanding}
 use Rattle.history.specs.Next.{first_open}
 use Rattle.history_laws.proofs.ClosedLemmas.{cancel-some, cancel-none, reset-some, reset-none}
 use Rattle.history_laws.specs.Left.{ended_by}
-use Rattle.history_laws.proofs.EndedLemmas.{ended-some, ended-no}
-use Rattle.history_laws.proofs.NextLemmas.{outstanding-test, outstanding-from, first-open-some, first-open-fails}
-use Rattle.history_laws.proofs.ScanLemmas.{first_from-some, first_from-fails}
 use Rattle.drive.specs.declared.answers.InsertFault.{InsertFault}
 use Rattle.disk_core.specs.declared.answers.EjectRefused.{EjectRefused}
 use Rattle.disk_core.specs.State.{State}

@@ -1,6 +1,6 @@
 -- What a token gave back, and what is over of it, stays so.
-use Rattle.std.proofs.Common.{◌≡◌, ℕ, ◌<◌, inl, inr, Bool, true, false, ◌&&◌, nat_lt, List, ◌∷◌, Option, None, Some, refl, sym, ◌∙◌}
-use Rattle.std.proofs.lemmas.Bool.{lt-ltb, le-ltb}
+use Rattle.std.proofs.Common.{◌≡◌, ℕ, inl, inr, Bool, true, false, List, ◌∷◌, None, Some, refl, sym, ◌∙◌}
+use Rattle.std.proofs.lemmas.Bool.{le-ltb}
 use Rattle.efi_status.specs.declared.Status.{Status}
 use Rattle.history.specs.declared.entry.Entry.{Entry}
 use Rattle.history.specs.Setup.{Setup}
@@ -14,7 +14,7 @@ use Rattle.shared_disk.specs.declared.books.Buffer.TheVariants.{Awaited, Kept, G
 use Rattle.shared_disk.specs.Inside.{is_awaited}
 use Rattle.history.specs.Tokens.{Request, token_count}
 use Rattle.history.specs.Commands.{moves}
-use Rattle.history.specs.Marks.{mark_of, is_outstanding}
+use Rattle.history.specs.Marks.{is_outstanding}
 use Rattle.history.specs.Rules.{MayFollow, IsLegal}
 use Rattle.history_laws.proofs.EndLemmas.{mark-stays, ended-read}
 use Rattle.history_laws.proofs.TokenLemmas.{request-stays, has_done-stays}

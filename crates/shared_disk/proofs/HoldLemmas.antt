@@ -1,7 +1,7 @@
 -- What a hold of the lock of a shared disk adds to its log.
-use Rattle.std.proofs.Common.{◌≡◌, ℕ, zero, suc, ◌+◌, ◌-◌, ◌≤◌, ◌<◌, ◌^◌, inl, inr, Bool, true, false, List, [], ◌∷◌, ◌++◌, length, reverse, Option, None, Some, refl, sym, ap, subst, ◌∙◌, arith}
+use Rattle.std.proofs.Common.{◌≡◌, ℕ, ◌+◌, ◌≤◌, ◌<◌, ◌^◌, inl, inr, Bool, true, false, List, [], ◌∷◌, ◌++◌, length, reverse, Option, None, Some, refl, sym, ap, subst, ◌∙◌, arith}
 use Rattle.std.specs.Prelude.{sum_by, slice_get, IsSome}
-use Rattle.std.proofs.lemmas.List.{length-append, length-reverse}
+use Rattle.std.proofs.lemmas.List.{length-reverse}
 use Rattle.std.proofs.lemmas.Option.{slice_get_past}
 use mathlib.Core.List.{reverse-cons}
 use Rattle.history.specs.declared.entry.Entry.{Entry}
@@ -11,15 +11,15 @@ use Rattle.history.specs.Next.{entry_of}
 use Rattle.disk_core.specs.State.{State}
 use Rattle.disk_core.specs.Facts.{AreFacts}
 use Rattle.shared_disk.specs.declared.log_rule.Item.{Item}
-use Rattle.shared_disk.specs.declared.log_rule.Item.TheVariants.{Happened, LineOf}
+use Rattle.shared_disk.specs.declared.log_rule.Item.TheVariants.{Happened}
 use Rattle.shared_disk.specs.Lines.{with_line_entry}
 use Rattle.shared_disk.specs.Script.{Script, places_at, next_order}
-use Rattle.shared_disk.specs.Desk.{DeskState, Keeps, OnDisk, HasNoLine, HasLine}
+use Rattle.shared_disk.specs.Desk.{DeskState, Keeps, HasNoLine, HasLine}
 use Rattle.shared_disk.specs.Log.{logged_entries, line_count_of, IsOld}
 use Rattle.atomic_table.specs.Seated.{TableId}
 use Rattle.shared_disk.specs.Pens.{PenEnd}
 use Rattle.shared_disk.specs.Plate.{IsLogOf}
-use Rattle.shared_disk.specs.Seats.{LockState, IsShared, IsDeskAt, Sees, entry_items, own_items, with_line, lines_logged, IsOverBy, IsLeftBy}
+use Rattle.shared_disk.specs.Seats.{LockState, IsShared, IsDeskAt, Sees, entry_items, own_items, IsOverBy, IsLeftBy}
 use Rattle.shared_disk.specs.Holding.{Grows, HasLogged, Logs, IsCounted}
 use Rattle.shared_disk.proofs.DeskLemmas.{Moves}
 

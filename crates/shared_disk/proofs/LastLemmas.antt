@@ -1,12 +1,11 @@
 -- The last collects: the least uncollected token of all.
-use Rattle.std.proofs.Common.{◌≡◌, ℕ, ◌<◌, ◌≤◌, inl, inr, true, false, not, List, length, slice_get, get_or, Option, None, Some, IsSome, refl, ap, subst, arith}
+use Rattle.std.proofs.Common.{◌≡◌, ℕ, ◌<◌, ◌≤◌, inl, inr, true, false, not, List, length, slice_get, get_or, None, Some, IsSome, ap, subst, arith}
 use Rattle.std.proofs.lemmas.Bool.{cases_lt}
 use Rattle.history.specs.declared.entry.Entry.{Entry}
 use Rattle.history.specs.Setup.{Setup}
 use Rattle.history.specs.Tokens.{token_count, request, was_collected}
 use Rattle.history.specs.Marks.{is_outstanding}
 use Rattle.history.specs.Next.{first_open}
-use Rattle.history_laws.proofs.NextLemmas.{outstanding-from, first-open-fails}
 use Rattle.history_laws.proofs.ScanLemmas.{first_from-none}
 use Rattle.disk_core.specs.State.{State}
 use Rattle.shared_disk.specs.declared.books.Books.{Books}

@@ -1,6 +1,6 @@
 -- What a line adds to the log of a shared disk.
-use Rattle.std.proofs.Common.{◌≡◌, ℕ, suc, ◌+◌, ◌-◌, ◌≤◌, ◌<◌, ◌⊎◌, ◌≢◌, inl, inr, List, [], ◌∷◌, ◌++◌, length, Option, None, Some, refl, sym, ap, subst, ◌∙◌, arith}
-use Rattle.std.specs.Prelude.{sum_by, slice_set, nat_eq}
+use Rattle.std.proofs.Common.{◌≡◌, ℕ, ◌+◌, ◌-◌, ◌≤◌, ◌<◌, ◌⊎◌, ◌≢◌, inl, inr, List, [], ◌∷◌, ◌++◌, length, Option, None, Some, refl, sym, ap, subst, ◌∙◌, arith}
+use Rattle.std.specs.Prelude.{slice_set, nat_eq}
 use Rattle.std.proofs.lemmas.Bool.{eq-eqb, ne_eqb, cases_eq}
 use Rattle.std.proofs.lemmas.List.{length-append}
 use Rattle.std.proofs.lemmas.List.Sums.{sum_by-set}
@@ -15,10 +15,10 @@ use Rattle.shared_disk.specs.declared.answers.Line.{Line}
 use Rattle.shared_disk.specs.declared.answers.Line.TheVariants as line
 use Rattle.shared_disk.specs.Lines.{with_line_entry}
 use Rattle.shared_disk.specs.Script.{places_at, with_place}
-use Rattle.shared_disk.specs.Desk.{DeskState, LineSays, DoesLine}
+use Rattle.shared_disk.specs.Desk.{DeskState, LineSays}
 use Rattle.shared_disk.specs.Log.{logged_entries, line_count_of}
 use Rattle.shared_disk.specs.Plate.{IsLogOf}
-use Rattle.shared_disk.specs.Seats.{entry_items, own_items, with_line, line_done}
+use Rattle.shared_disk.specs.Seats.{entry_items, with_line, line_done}
 use Rattle.shared_disk.specs.Holding.{Grows, HasLogged, Logs}
 use Rattle.shared_disk.proofs.KeptLemmas.{place-more}
 use Rattle.shared_disk.proofs.HoldLemmas.{log-of-entry}

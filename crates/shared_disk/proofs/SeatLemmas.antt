@@ -1,7 +1,7 @@
 -- The seats of a new shared disk.
-use Rattle.std.proofs.Common.{◌≡◌, ℕ, suc, ◌+◌, ◌<◌, inl, inr, List, [], ◌∷◌, ◌++◌, length, None, Some, refl, sym, ◌∙◌, arith}
-use Rattle.std.specs.Prelude.{slice_get}
-use Rattle.std.proofs.lemmas.List.{length-append}
+use Rattle.std.proofs.Common.{◌≡◌, ℕ, ◌+◌, inl, inr, List, [], ◌∷◌, ◌++◌, length, refl, sym, ap, ◌∙◌, arith}
+use Rattle.std.specs.Prelude.{take, drop}
+use Rattle.std.proofs.lemmas.List.{length-append, append-nil, drop_all, take_all}
 use Rattle.shared_disk.specs.declared.log_rule.Item.{Item}
 use Rattle.shared_disk.specs.Seats.{SeatState, AreNewSeats}
 use Rattle.shared_disk.proofs.OwnLemmas.{get-push}
@@ -17,3 +17,7 @@ one_seat_more n log seats new = record {
     | inr last ↦ rw (last.0, new.count) (sym last.1)
   ];
 }
+
+-- a list that was lent whole and came back the same
+pub lent-same : {X : Type 0} (xs ys : List X) (n : ℕ) → ys ≡ xs → n ≡ length xs → take n (ys ++ drop (length ys) xs) ≡ xs
+lent-same xs ys n same long = rw (same, long) (ap (λ l. take (length xs) (xs ++ l)) (drop_all (length xs) xs (omega arith)) ∙ (ap (λ l. take (length xs) l) (append-nil xs) ∙ take_all (length xs) xs (omega arith)))

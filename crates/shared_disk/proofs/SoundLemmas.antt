@@ -4,13 +4,12 @@ use Rattle.std.proofs.lemmas.Bool.{eq-eqb, ne_eqb, cases_eq}
 use Rattle.std.proofs.lemmas.List.{length-append}
 use Rattle.std.proofs.lemmas.Option.{slice_get_within}
 use Rattle.std.specs.Global.{Vec}
-use Rattle.efi_status.specs.declared.Status.{Status}
 use Rattle.history.specs.declared.entry.Entry.{Entry}
 use Rattle.history.specs.declared.entry.Entry.TheVariants.{Accept, Collect}
 use Rattle.history.specs.declared.entry.View.{View}
 use Rattle.history.specs.declared.entry.Asked.{Asked}
 use Rattle.history.specs.Setup.{Setup}
-use Rattle.history.specs.Tokens.{Request, is_accept, token_count, request, is_collect_of}
+use Rattle.history.specs.Tokens.{is_accept, token_count, request, is_collect_of}
 use Rattle.history.specs.Rules.{MayFollow, IsLegal}
 use Rattle.history_laws.proofs.CountLemmas.{accepted-same, accepted-more}
 use Rattle.history_laws.proofs.TokenLemmas.{request-same, request-kept, request-accept, collected-same}
@@ -22,8 +21,6 @@ use Rattle.shared_disk.specs.declared.books.Buffer.TheVariants.{Awaited, Kept, G
 use Rattle.shared_disk.specs.declared.books.Course.{Course}
 use Rattle.shared_disk.specs.declared.books.Slot.{Slot}
 use Rattle.shared_disk.specs.Lines.{has_tag, own_before}
-use Rattle.token_table.specs.declared.record.Done.{Done}
-use Rattle.shared_disk.specs.Desk.{IsHandedBack}
 use Rattle.shared_disk.specs.Inside.{first_entries, IsCourse, IsBufferOf, IsSlot, AreBooksSound, HasToken, ChangesCourse, AddsToken, PutsBuffer}
 use Rattle.shared_disk.proofs.OwnLemmas.{get-push, own-more, own-same, IsOwnAt, own-at, own-before-same}
 use Rattle.history_laws.proofs.ClosedLemmas.{closed-stays}

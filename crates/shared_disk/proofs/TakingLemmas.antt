@@ -3,9 +3,7 @@ use Rattle.std.proofs.Common.{◌≡◌, ◌∙◌, ℕ, zero, suc, ◌<◌, inl
 use Rattle.efi_status.specs.declared.Status.{Status}
 use Rattle.history.specs.declared.entry.Kind.{Kind}
 use Rattle.history.specs.declared.entry.Kind.TheVariants.{Read, Write, Flush, Erase}
-use Rattle.history.specs.declared.entry.Entry.{Entry}
 use Rattle.history.specs.declared.entry.Entry.TheVariants.{Collect}
-use Rattle.history.specs.Setup.{Setup}
 use Rattle.history.specs.Tokens.{Request, token_count, was_collected, is_flush}
 use Rattle.history.specs.Commands.{moves}
 use Rattle.history.specs.Rules.{MayFollow, IsLegal}

@@ -4,7 +4,7 @@ use Rattle.efi_status.specs.declared.Status.{Status}
 use Rattle.history.specs.declared.entry.Entry.{Entry}
 use Rattle.history.specs.declared.order.Order.{Order}
 use Rattle.history.specs.Setup.{Setup}
-use Rattle.history.specs.Tokens.{Request, token_count, request, was_collected}
+use Rattle.history.specs.Tokens.{token_count, was_collected}
 use Rattle.history.specs.Marks.{is_outstanding}
 use Rattle.token_table.specs.declared.record.Done.{Done}
 use Rattle.disk_core.specs.declared.answers.Token.{Token}
@@ -17,10 +17,10 @@ use Rattle.shared_disk.specs.declared.books.Buffer.{Buffer}
 use Rattle.shared_disk.specs.declared.books.Buffer.TheVariants.{Awaited, Kept, Gone}
 use Rattle.shared_disk.specs.declared.books.Course.{Course}
 use Rattle.shared_disk.specs.declared.books.Slot.{Slot}
-use Rattle.shared_disk.specs.Lines.{Role, roles_of, with_line_entry, has_tag, own_before}
+use Rattle.shared_disk.specs.Lines.{Role, roles_of, with_line_entry, own_before}
 use Rattle.shared_disk.specs.Script.{IsOpening, next_order, places_at, DoesNext}
 pub use Rattle.shared_disk.specs.Slots.{buffer_in, IsBufferOf, IsSlot}
-use Rattle.shared_disk.specs.Desk.{DeskState, IsDeskOrder, IsHandedBack, given_at, is_accept_of, IsNewToken, wants_memory}
+use Rattle.shared_disk.specs.Desk.{DeskState, IsDeskOrder, given_at, is_accept_of, IsNewToken, wants_memory}
 
 -- the oldest n entries
 unfoldable pub first_entries : ℕ → List Entry → List Entry

@@ -1,4 +1,4 @@
-use crate::{Client, Desk};
+use crate::{Client, Desk, DiskName, Seat, SharedDisk};
 use disk_core::{Disk, Step, Token};
 use medium::Medium;
 
@@ -35,4 +35,12 @@ pub struct DeskRefused<M: Medium> {
 #[derive(Drop)]
 pub struct ShareRefused<M: Medium> {
     pub desk: Desk<M>,
+}
+
+/// How a shared disk was closed.
+pub enum Closed<M: Medium, N: DiskName> {
+    /// The count of the lock is the sum of the seats' counts, which are spent.
+    Whole(Desk<M>, u64),
+    /// It differs: the lock's count comes first, and then the sum. Nothing has changed.
+    Short(SharedDisk<M, N>, Vec<Seat<N>>, u64, u64),
 }

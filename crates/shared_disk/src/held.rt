@@ -1,5 +1,5 @@
 //! What lies behind the lock of a shared disk.
-ghost use Rattle.std.specs.Prelude.{◌≡◌, ◌+◌, ◌-◌, ◌≤◌, ◌^◌, true, false, None};
+ghost use Rattle.std.specs.Prelude.{◌≡◌, ◌+◌, ◌-◌, ◌≤◌, ◌^◌, true, false, None, length, sum_by};
 ghost use Rattle.history.specs.declared.entry.Entry.{Entry};
 ghost use Rattle.disk_core.specs.Calls.{asked_of, SubmitSays, StepSays, StoreSays, HeldStoreSays, CollectSays, EndSays};
 ghost use Rattle.shared_disk.specs.Desk.{OnDisk, LineSays};
@@ -14,7 +14,7 @@ use crate::holding::{
 };
 use crate::name::DiskName;
 use crate::pens::Pen;
-use crate::seats::Seat;
+use crate::seats::{Seat, sum_seats};
 use block_gate::Work;
 use disk_core::{Ask, HeldStored, Refused, Stored, Token};
 use history::View;
@@ -163,5 +163,16 @@ impl<M: Medium, N: DiskName> Held<M, N> {
         self.count += added;
         seat.renew(&mut self.pen);
         answer
+    }
+
+    /// The sum of what was counted through these seats. With the seats of all clients it is the count.
+    pub fn sum(&mut self, seats: &mut [Seat<N>]) -> u64
+        requires one_each { N.parts ≡ length N.script.roles + 1 }
+        ensures same { self.new ≡ self.old }
+        ensures seats { seats.new ≡ seats.old }
+        ensures sum { result ≡ sum_by (λ s. s.count) seats.old }
+        ensures whole { length seats.old ≡ length N.script.roles → result ≡ self.old.count }
+    {
+        sum_seats(&mut self.book, &mut self.rest, seats, 0)
     }
 }

@@ -26,7 +26,7 @@ mod shared;
 mod taking;
 mod waiting;
 
-pub use answers::{DeskRefused, Line, ShareRefused, Turn};
+pub use answers::{Closed, DeskRefused, Line, ShareRefused, Turn};
 pub use books::{Buffer, Slot};
 pub use clients::{Client, Stand};
 pub use desk::Desk;

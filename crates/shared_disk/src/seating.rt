@@ -3,15 +3,16 @@ ghost use Rattle.std.specs.Prelude.{◌≡◌, ◌≢◌, ◌+◌, ◌≤◌, �
 ghost use Rattle.shared_disk.specs.Desk.{Keeps};
 ghost use Rattle.shared_disk.specs.Plate.{IsLogOf};
 ghost use Rattle.shared_disk.specs.Seats.{AreNewSeats};
+ghost use Rattle.shared_disk.specs.Closing.{ClosesAs, IsWhole};
 
-use crate::answers::ShareRefused;
+use crate::answers::{Closed, ShareRefused};
 use crate::desk::Desk;
 use crate::hands::Hand;
 use crate::held::Held;
 use crate::name::DiskName;
 use crate::pens::Pen;
 use crate::plate::Plate;
-use crate::seats::{Seat, sum_seats};
+use crate::seats::Seat;
 use crate::shared::SharedDisk;
 use medium::Medium;
 use std::alloc::{AllocError, Global};
@@ -104,4 +105,33 @@ impl<M: Medium, N: DiskName> SharedDisk<M, N> {
         let lock = Mutex::new(held);
         Ok((SharedDisk { lock }, seats, hands))
     }
+
+    /// Takes the lock apart where the sum of the seats' counts is the lock's, as it is with the seats of all clients.
+    pub fn close(self, seats: Vec<Seat<N>>) -> Closed<M, N>
+        requires one_each { N.parts ≡ length N.script.roles + 1 }
+        ensures says { ClosesAs N.setup N.script seats.items result }
+        ensures whole { length seats.items ≡ length N.script.roles → IsWhole result }
+    {
+        let SharedDisk { lock } = self;
+        let mut held = lock.into_inner();
+        let mut seats = seats;
+        let sum = held.sum(&mut seats);
+        if sum == held.count {
+            spend_all(seats);
+            let Held { desk, .. } = held;
+            return Closed::Whole(desk, sum);
+        }
+        let count = held.count;
+        let lock = Mutex::new(held);
+        Closed::Short(SharedDisk { lock }, seats, count, sum)
+    }
+}
+
+// Spends the seats.
+fn spend_all<N: DiskName>(seats: Vec<Seat<N>>) {
+    let mut seats = seats;
+    while let Some(seat) = seats.pop() {
+        seat.spend();
+    }
+    seats.destroy_empty();
 }

@@ -1,4 +1,4 @@
-use Rattle.std.proofs.Common.{ap, sym, subst, ◌∙◌, length}
+use Rattle.std.proofs.Common.{ap, subst, ◌∙◌}
 use Rattle.disk_core.specs.Facts.{AreFacts}
 use Rattle.disk_core.specs.State.{State}
 use Rattle.shared_disk.specs.Pens.{PenEnd}

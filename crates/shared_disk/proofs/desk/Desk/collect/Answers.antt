@@ -1,9 +1,7 @@
-use Rattle.std.proofs.Common.{◌≡◌, length, subst, arith}
-use Rattle.history.specs.declared.entry.Entry.TheVariants.{Cancel}
+use Rattle.std.proofs.Common.{subst}
 use Rattle.disk_core.specs.Calls.{CollectSays}
 use Rattle.shared_disk.specs.Seats.{BesideLines}
 use Rattle.shared_disk.specs.Inside.{desk_state}
-use Rattle.shared_disk.proofs.DeskLemmas.{roles-count}
 use Rattle.shared_disk.proofs.desk.Desk.collect.Goals as goal
 
 pub returns : goal.returns

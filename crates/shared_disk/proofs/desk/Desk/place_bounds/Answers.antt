@@ -1,4 +1,4 @@
-use Rattle.std.proofs.Common.{◌≡◌, ◌≤◌, ◌^◌, ap, sym, subst, ◌∙◌, arith, length, sum_by, vec_len}
+use Rattle.std.proofs.Common.{◌≡◌, ap, sym, subst, ◌∙◌, arith, length, sum_by}
 use Rattle.std.proofs.lemmas.List.{length-map}
 use Rattle.shared_disk.specs.Desk.{DeskState}
 use Rattle.shared_disk.specs.Inside.{desk_state}

@@ -1,5 +1,4 @@
 use Rattle.std.proofs.Common.{◌≡◌, length, subst, arith}
-use Rattle.history.specs.declared.entry.Entry.TheVariants.{Cancel}
 use Rattle.disk_core.specs.Calls.{SubmitSays}
 use Rattle.shared_disk.specs.Seats.{BesideLines}
 use Rattle.shared_disk.specs.Inside.{desk_state}

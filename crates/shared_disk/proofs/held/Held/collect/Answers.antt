@@ -1,5 +1,4 @@
-use Rattle.std.proofs.Common.{◌≡◌, ◌+◌, ◌-◌, ◌<◌, ◌^◌, length, None, ap, subst, ◌∙◌, arith}
-use Rattle.history.specs.declared.entry.Entry.TheVariants.{Cancel}
+use Rattle.std.proofs.Common.{◌≡◌, ◌+◌, ◌-◌, length, None, ap, subst, ◌∙◌, arith}
 use Rattle.disk_core.specs.State.{State}
 use Rattle.disk_core.specs.Calls.{CollectSays}
 use Rattle.shared_disk.specs.Seats.{SeatState, Sees, BesideLines}
