@@ -1,5 +1,5 @@
 -- A read inside the medium is not refused, and what its blocking call says.
-use Rattle.std.proofs.Common.{◌≡◌, ◌⊎◌, inl, inr, ℕ, ◌+◌, ◌-◌, ◌*◌, ◌<◌, ◌≤◌, Bool, true, false, nat_eq, nat_lt, List, [], None, Some, Option, Result, Ok, Err, IfErr, refl, sym, ◌∙◌, ap, subst, arith, length}
+use Rattle.std.proofs.Common.{◌≡◌, inl, inr, ℕ, ◌+◌, ◌-◌, ◌*◌, ◌≤◌, true, false, List, [], None, Some, Result, Ok, Err, IfErr, refl, sym, ◌∙◌, ap, subst, arith, length}
 use Rattle.std.specs.Global.{Vec}
 use Rattle.std.specs.Result.{IsErrAnd}
 use Rattle.std.proofs.lemmas.Bool.{eq-eqb, le-ltb}
@@ -9,8 +9,6 @@ use Rattle.history.specs.declared.entry.View.{View}
 use Rattle.history.specs.declared.entry.Entry.{Entry}
 use Rattle.history.specs.Setup.{Setup, IsSetup, blocks_of, size_of}
 use Rattle.history.specs.Eras.{is_present, media_id_of}
-use Rattle.history.specs.Contents.{contents}
-use Rattle.history.specs.Next.{first_open}
 use Rattle.history.specs.Rules.{IsLegal, refusal_of}
 use Rattle.history_laws.specs.Ranges.{AreToldWhole}
 use Rattle.history_laws.proofs.RangeLemmas.{contents-long}
@@ -25,7 +23,7 @@ use Rattle.disk_io2.specs.Views.{whole_view}
 use Rattle.partition_children.specs.declared.reading.ReadFault.{ReadFault}
 use Rattle.partition_children.specs.declared.reading.ReadFault.TheVariants.{Device, Memory}
 use Rattle.partition_children.specs.Entries.{read_asked}
-use Rattle.partition_children.specs.Probing.{EndsRead, FailsToRead, IsIn, IsQuiet, Reads, AddsEntriesAlone, read_failures}
+use Rattle.partition_children.specs.Probing.{AreUntagged, EndsRead, FailsToRead, IsIn, IsQuiet, Reads, AddsEntriesAlone, read_failures}
 use Rattle.partition_children.proofs.Served.{Served, served}
 use Rattle.partition_children.proofs.ReadAnswers.{fails-so, failed-stays, reads-so, stays-so}
 
@@ -33,6 +31,9 @@ unrefused : (S : Setup) (H : List Entry) (k at n : ℕ) → is_present H ≡ tru
 unfolding refusal_of
 unrefused S H k at n present in_ fits =
     rw (present, in_, eq-eqb k k refl, le-ltb (blocks_of S k * size_of S) (0 + blocks_of S k * size_of S) (omega arith), le-ltb (blocks_of S k * size_of S) at (omega arith), le-ltb (blocks_of S k * size_of S - at) n (omega arith)) refl
+
+none-untagged : AreUntagged []
+none-untagged = tt
 
 pub stays-same : (s : State) → IsQuiet s → AddsEntriesAlone s 0 s
 stays-same s quiet = record {
@@ -46,6 +47,8 @@ stays-same s quiet = record {
   kept = λ k. refl;
   collected = λ t from below. absurd (omega arith);
   failures = omega arith;
+  untagged = none-untagged;
+  succeeded = λ none t from below. absurd (omega arith);
 }
 
 -- no buffer was made

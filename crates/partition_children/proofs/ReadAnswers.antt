@@ -1,5 +1,5 @@
 -- What a read answers.
-use Rattle.std.proofs.Common.{◌≡◌, ◌⊎◌, inl, inr, ℕ, zero, suc, ◌+◌, ◌*◌, ◌<◌, ◌≤◌, Bool, true, false, List, [], ◌∷◌, ◌++◌, length, map, take, drop, Option, None, Some, refl, sym, ◌∙◌, ap, subst, arith}
+use Rattle.std.proofs.Common.{◌≡◌, inl, inr, ℕ, ◌+◌, ◌≤◌, true, false, List, [], ◌∷◌, ◌++◌, length, map, Option, None, Some, refl, sym, ◌∙◌, ap, subst, arith}
 use Rattle.std.specs.Prelude.{reverse}
 use Rattle.std.proofs.lemmas.Bool.{both_ways}
 use Rattle.std.proofs.lemmas.List.{append-nil}
@@ -11,7 +11,7 @@ use Rattle.history.specs.declared.entry.View.{View}
 use Rattle.history.specs.declared.entry.Command.TheVariants.{Get}
 use Rattle.history.specs.declared.entry.Entry.{Entry}
 use Rattle.history.specs.declared.entry.Entry.TheVariants.{Accept, Collect, Fault}
-use Rattle.history.specs.Setup.{Setup, IsSetup}
+use Rattle.history.specs.Setup.{IsSetup}
 use Rattle.history.specs.Eras.{is_fault, media_id_of}
 use Rattle.history.specs.Tokens.{token_count}
 use Rattle.history.specs.Contents.{contents}
@@ -19,14 +19,14 @@ use Rattle.history.specs.Next.{first_open, Turn, Outcome, Made, Failed, entry_of
 use Rattle.history.specs.Rules.{IsLegal, MayFollow}
 use Rattle.disk_core.specs.State.{State}
 use Rattle.disk_core.specs.Turns.{IsIdle}
-use Rattle.history_laws.specs.Serving.{AreWhileOpen, AreOwnInOrder, Continues, ends_in_fault}
+use Rattle.history_laws.specs.Serving.{AreWhileOpen, AreOwnInOrder, ends_in_fault}
 use Rattle.disk_io2.specs.Views.{whole_view}
 use Rattle.history_laws.proofs.ClosedLemmas.{legal-tail}
-use Rattle.partition_children.specs.Entries.{after_read, get_of, gets_of, read_asked}
+use Rattle.partition_children.specs.Entries.{get_of, read_asked}
 use Rattle.partition_children.specs.Probing.{FailsToRead, Reads, AddsEntriesAlone}
-use Rattle.partition_children.proofs.Gets.{AreGets, Got, got-all, next-unit, open-sound}
+use Rattle.partition_children.proofs.Gets.{Got, got-all, next-unit, open-sound}
 use Rattle.partition_children.proofs.Served.{Served}
-use Rattle.partition_children.proofs.Staying.{Commands, LastFails, read-stays}
+use Rattle.partition_children.proofs.Staying.{read-stays}
 use Rattle.partition_children.proofs.ReadBack.{first-left, named, told-back, units-are, whole}
 
 module _ (old new : State) (k : ℕ) (read : ℕ × ℕ) (is : IsSetup old.setup) (drained : first_open old.setup old.entries ≡ None) where
@@ -59,7 +59,7 @@ module _ (old new : State) (k : ℕ) (read : ℕ × ℕ) (is : IsSetup old.setup
         by (Some told) holds = told-back old.setup old.entries k read is drained s.cs s.legal s.open_ s.own bytes in_ all-got.gets s.marked s.got s.long told holds (fits told holds)
 
     pub stays-so : IsIdle new.gates → AddsEntriesAlone old 0 new
-    stays-so idle = read-stays old new view read Success false bytes 0 s (inl (refl, all-got.gets)) idle
+    stays-so idle = read-stays old new view read Success false bytes 0 s (inl (refl, all-got.gets)) (λ none. refl) idle
 
   -- a read of which a command failed
   module _ (bytes : List ℕ) (s : Served old.setup old.entries view read DeviceError true bytes new) where
@@ -107,4 +107,4 @@ module _ (old new : State) (k : ℕ) (read : ℕ × ℕ) (is : IsSetup old.setup
 
     pub failed-stays : IsIdle new.gates → AddsEntriesAlone old 1 new
     failed-stays idle =
-        read-stays old new view read DeviceError true bytes 1 s (inr (refl, record { earlier = breaks.earlier; unit = breaks.failed; is = breaks.is_last; gets = breaks.got.gets })) idle
+        read-stays old new view read DeviceError true bytes 1 s (inr (refl, record { earlier = breaks.earlier; unit = breaks.failed; is = breaks.is_last; gets = breaks.got.gets })) (λ none. absurd (omega (arith, none))) idle

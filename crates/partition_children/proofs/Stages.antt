@@ -1,24 +1,27 @@
 -- Reads that are made one after the other.
-use Rattle.std.proofs.Common.{◌≡◌, inl, inr, true, ℕ, zero, suc, ◌+◌, ◌-◌, ◌*◌, ◌<◌, ◌≤◌, List, [], ◌∷◌, ◌++◌, length, take, take_all, drop, None, Some, Option, Result, Ok, Err, IfOk, refl, sym, ◌∙◌, ap, subst, arith}
+use Rattle.std.proofs.Common.{◌≡◌, inl, inr, true, ℕ, ◌+◌, ◌-◌, ◌*◌, List, [], ◌∷◌, ◌++◌, length, take, take_all, drop, Some, Option, Result, Ok, Err, IfOk, refl, sym, ◌∙◌, ap, subst, arith}
 use Rattle.std.specs.Prelude.{slice_range}
 use Rattle.std.specs.Global.{Vec}
 use Rattle.medium.specs.Device.{AreToldAt}
 use Rattle.history.specs.declared.entry.Entry.{Entry}
 use Rattle.history.specs.Setup.{Setup, blocks_of, size_of}
 use Rattle.disk_io2.specs.Views.{whole_view}
-use Rattle.std.proofs.lemmas.Bool.{cases_lt, or_right}
+use Rattle.std.proofs.lemmas.Bool.{cases_lt}
 use Rattle.std.proofs.lemmas.List.{append_assoc}
-use Rattle.history.specs.Eras.{is_present, media_id_of}
-use Rattle.history.specs.Tokens.{token_count, is_collect_of, was_collected}
+use Rattle.history.specs.Tokens.{token_count, was_collected}
 use Rattle.history.specs.Contents.{contents, kept_contents}
 use Rattle.disk_core.specs.State.{State}
+use Rattle.efi_status.specs.declared.Status.TheVariants.{Success}
+use Rattle.history.specs.Marks.{mark_of}
+use Rattle.history_laws.proofs.EndLemmas.{mark-stays}
 use Rattle.history_laws.proofs.TokenLemmas.{collected-stays}
 use Rattle.partition_children.specs.declared.reading.ReadFault.{ReadFault}
 use Rattle.partition_children.specs.declared.reading.Target.{Target}
 use Rattle.partition_children.specs.Entries.{after_read, after_reads}
 use Rattle.partition_children.specs.Reads.{record_read}
 use Rattle.partition_tables.specs.Blocks.{boot_record_at}
-use Rattle.partition_children.specs.Probing.{IsQuiet, IsTargetOf, AreReadsMade, Reads, AddsEntriesAlone}
+use Rattle.partition_children.specs.Probing.{IsTargetOf, AreReadsMade, Reads, AddsEntriesAlone}
+use Rattle.partition_children.proofs.Staying.{untagged-both}
 
 -- one read
 pub made-one : (old new : State) (k : ℕ) (read : ℕ × ℕ) (b : List ℕ) → Reads old k read b new → AreReadsMade old k (read ∷ []) new
@@ -69,8 +72,20 @@ stays-on a b c f g one two = record {
     | inr late ↦ two.collected t late below
   ];
   failures = omega (arith, one.failures, two.failures);
+  untagged = untagged-both two.more one.more two.untagged one.untagged;
+  succeeded = λ none t from below. elim (cases_lt t (token_count b.entries)) [
+    | inl early ↦
+        (let none_first : f ≡ 0 = omega (arith, none) in
+        let marked : mark_of c.setup b.entries t ≡ Some Success = ap (λ (S : Setup). mark_of S b.entries t) two.setup ∙ one.succeeded none_first t from early in
+        subst (λ (E : List Entry). mark_of c.setup E t ≡ Some Success) (sym two.entries) (marked-later c.setup two.more b.entries t marked))
+    | inr late ↦ two.succeeded (omega (arith, none)) t late below
+  ];
 }
   where
+    marked-later : (S : Setup) (more H : List Entry) (t : ℕ) → mark_of S H t ≡ Some Success → mark_of S (more ++ H) t ≡ Some Success
+    marked-later S [] H t was = was
+    marked-later S (e ∷ more) H t was = mark-stays S (more ++ H) e t Success (marked-later S more H t was)
+
     collected-later : (more H : List Entry) (t : ℕ) → was_collected H t ≡ true → was_collected (more ++ H) t ≡ true
     collected-later [] H t was = was
     collected-later (e ∷ more) H t was = collected-stays (more ++ H) e t (collected-later more H t was)

@@ -1,26 +1,24 @@
 -- What the entries of a read leave as it was.
-use Rattle.std.proofs.Common.{◌≡◌, ◌⊎◌, inl, inr, ℕ, zero, suc, ◌+◌, ◌*◌, ◌<◌, ◌≤◌, Bool, true, false, nat_eq, ◌||◌, List, [], ◌∷◌, ◌++◌, length, map, Option, None, Some, refl, sym, ◌∙◌, ap, subst, arith}
-use Rattle.std.proofs.lemmas.Bool.{eq-eqb}
+use Rattle.std.proofs.Common.{◌≡◌, ◌⊎◌, inl, inr, ℕ, ◌+◌, Bool, List, [], ◌∷◌, ◌++◌, Some, refl, sym, ◌∙◌, ap, subst, arith}
 use Rattle.std.proofs.lemmas.List.{append_assoc}
 use Rattle.disk_split.specs.declared.span.Span.{Span}
 use Rattle.efi_status.specs.declared.Status.{Status}
+use Rattle.efi_status.specs.declared.Status.TheVariants.{Success}
 use Rattle.history.specs.declared.entry.View.{View}
 use Rattle.history.specs.declared.entry.Command.TheVariants.{Get}
 use Rattle.history.specs.declared.entry.Entry.{Entry}
-use Rattle.history.specs.declared.entry.Entry.TheVariants.{Accept, Collect, Done, Fault}
+use Rattle.history.specs.declared.entry.Entry.TheVariants.{Accept, Collect, Fault}
 use Rattle.history.specs.Setup.{Setup}
-use Rattle.history.specs.Eras.{is_eject, is_insert, is_present, media_id_of}
-use Rattle.history.specs.Tokens.{token_count, was_collected}
-use Rattle.history.specs.Contents.{contents, kept_contents, piece_of}
+use Rattle.history.specs.Tokens.{token_count}
 use Rattle.history.specs.Room.{faults}
-use Rattle.history_laws.proofs.ContentLemmas.{contents-same, is_flush_entry, kept-same, piece-none, piece-unchanged, piece-unchanged-fault}
+use Rattle.history_laws.proofs.ContentLemmas.{piece-none, piece-unchanged}
 use Rattle.history_laws.proofs.CountLemmas.{accepted-more, accepted-same, faults-more, faults-same}
-use Rattle.history_laws.proofs.MediaLemmas.{media-id-same, present-same}
+use Rattle.history_laws.proofs.EndLemmas.{mark-stays}
 use Rattle.disk_core.specs.State.{State}
 use Rattle.disk_core.specs.Turns.{IsIdle}
 use Rattle.history_laws.proofs.SameMediaLemmas.{SameMedia, same-media, same-on, same-entry, same-collect, same-fault, collected-now}
 use Rattle.partition_children.specs.Entries.{get_of, read_asked}
-use Rattle.partition_children.specs.Probing.{IsQuiet, AddsEntriesAlone}
+use Rattle.partition_children.specs.Probing.{IsUntagged, AreUntagged, AddsEntriesAlone}
 use Rattle.partition_children.proofs.Gets.{AreGets}
 use Rattle.partition_children.proofs.Served.{Served}
 
@@ -73,10 +71,26 @@ commands-faults G t f cs (inr (one, last)) =
     ap (λ (xs : List Entry). faults (xs ++ G)) last.is ∙ faults-more (last.earlier ++ G) (Fault t (Get last.unit.block last.unit.count) 0) refl in
     omega (arith, more, gets-faults G t last.earlier last.gets)
 
+-- none of these entries is a client's
+gets-untagged : (t : ℕ) (cs : List Entry) → AreGets t cs → AreUntagged cs
+gets-untagged t [] all = tt
+gets-untagged t (e ∷ cs) ((u, same), all) = (subst IsUntagged (sym same) tt, gets-untagged t cs all)
+
+pub untagged-both : (more cs : List Entry) → AreUntagged more → AreUntagged cs → AreUntagged (more ++ cs)
+untagged-both [] cs first second = second
+untagged-both (e ∷ more) cs first second = (first.0, untagged-both more cs first.1 second)
+
+commands-untagged : (t f : ℕ) (cs : List Entry) → Commands t f cs → AreUntagged cs
+commands-untagged t f cs (inl (none, all)) = gets-untagged t cs all
+commands-untagged t f cs (inr (one, last)) = subst AreUntagged (sym last.is) (tt, gets-untagged t last.earlier last.gets)
+
+read-untagged : (view : View) (read : ℕ × ℕ) (t f : ℕ) (cs : List Entry) → Commands t f cs → AreUntagged (Collect 0 t ∷ (cs ++ Accept 0 view (read_asked read) [] ∷ []))
+read-untagged view read t f cs all = (refl, untagged-both cs (Accept 0 view (read_asked read) [] ∷ []) (commands-untagged t f cs all) (refl, tt))
+
 -- what a served read leaves of the disk
 pub read-stays : (old new : State) (view : View) (read : ℕ × ℕ) (status : Status) (failed : Bool) (bytes : List ℕ) (f : ℕ) (s : Served old.setup old.entries view read status failed bytes new)
-    → Commands (token_count old.entries) f s.cs → IsIdle new.gates → AddsEntriesAlone old f new
-read-stays old new view read status failed bytes f s all idle =
+    → Commands (token_count old.entries) f s.cs → (f ≡ 0 → status ≡ Success) → IsIdle new.gates → AddsEntriesAlone old f new
+read-stays old new view read status failed bytes f s all success idle =
     let accept : Entry = Accept 0 view (read_asked read) [] in
     let t = token_count old.entries in
     let H = accept ∷ old.entries in
@@ -97,4 +111,7 @@ read-stays old new view read status failed bytes f s all idle =
       kept = same_new.kept;
       collected = λ u from below. (let is : u ≡ t = omega (arith, count) in rw (is, s.entries) (collected-now t (s.cs ++ H)));
       failures = ap faults s.entries ∙ (faults-same (s.cs ++ H) (Collect 0 t) refl ∙ (commands-faults H t f s.cs all ∙ ap (λ n. n + f) (faults-same old.entries accept refl)));
+      untagged = read-untagged view read t f s.cs all;
+      succeeded = λ none u from below. (let is : u ≡ t = omega (arith, count) in
+          rw (is, s.entries, s.setup) (mark-stays old.setup (s.cs ++ H) (Collect 0 t) t Success (s.marked ∙ ap Some (success none))));
     }

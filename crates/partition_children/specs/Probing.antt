@@ -1,16 +1,19 @@
 -- What a probe leaves of a disk: its reads are made one after the other, each is collected before the next, and no byte changes (UEFI 2.10,
 -- 13.7; own profile). Histories stand newest entry first.
-use Rattle.std.specs.Prelude.{◌≡◌, ℕ, ◌+◌, ◌*◌, ◌^◌, ◌<◌, ◌≤◌, ◌==◌, if◌then◌else◌, true, IfOk, IfErr, List, [], ◌∷◌, ◌++◌, length, map, reverse, Option, None, Some, Result, Ok, Err}
+use Rattle.std.specs.Prelude.{◌≡◌, ℕ, ◌+◌, ◌*◌, ◌^◌, ◌<◌, ◌≤◌, ◌==◌, if◌then◌else◌, true, IfOk, IfErr, List, [], ◌∷◌, ◌++◌, length, map, reverse, None, Some, Result, Ok, Err}
+use Rattle.std.specs.List.{AllByRecursion}
+use Rattle.efi_status.specs.declared.Status.TheVariants.{Success}
 use Rattle.medium.specs.Device.{AreToldAt, IsBlockSize}
 use Rattle.disk_split.specs.declared.span.Span.{Span}
 use Rattle.disk_split.specs.Units.{units_of}
 use Rattle.history.specs.declared.entry.Command.TheVariants.{Get}
 use Rattle.history.specs.declared.entry.Entry.{Entry}
-use Rattle.history.specs.declared.entry.Entry.TheVariants.{Accept, Fault, Collect}
+use Rattle.history.specs.declared.entry.Entry.TheVariants.{Accept, Refuse, Done, Fault, Collect, Cancel, Reset, Eject, Insert, Protect}
 use Rattle.history.specs.Setup.{Setup, size_of, blocks_of}
 use Rattle.history.specs.Eras.{media_id_of, is_present}
 use Rattle.history.specs.Tokens.{token_count, was_collected}
 use Rattle.history.specs.Contents.{contents, kept_contents}
+use Rattle.history.specs.Marks.{mark_of}
 use Rattle.history.specs.Next.{first_open}
 use Rattle.history.specs.Room.{faults}
 use Rattle.partition_tables.specs.declared.table.Table.{Table}
@@ -38,8 +41,24 @@ pub record IsIn (s : State) (k : ℕ) : Type 0 where
   pub present : is_present s.entries ≡ true
   pub named : media_id_of s.entries ≡ k
 
--- Entries were added, and every other thing stays: the setup, which medium is in, its bytes and those that are kept. Each new token was
--- handed back, and so many commands failed.
+-- an entry of no client: a request or a collect with tag 0, or a command
+abbrev pub IsUntagged : Entry → Type 0
+IsUntagged (Accept tag view asked bytes) = tag ≡ 0
+IsUntagged (Refuse tag view asked media_id status) = ⊥
+IsUntagged (Done t c) = Unit {0}
+IsUntagged (Fault t c done) = Unit {0}
+IsUntagged (Collect tag t) = tag ≡ 0
+IsUntagged (Cancel tag view) = ⊥
+IsUntagged (Reset tag) = ⊥
+IsUntagged (Eject tag) = ⊥
+IsUntagged (Insert tag media_id) = ⊥
+IsUntagged (Protect tag on) = ⊥
+
+abbrev pub AreUntagged : List Entry → Type 0
+AreUntagged entries = AllByRecursion IsUntagged entries
+
+-- Entries of no client were added, and every other thing stays: the setup, which medium is in, its bytes and those that are kept. Each new
+-- token was handed back, with success where no command failed, and so many commands failed.
 pub record AddsEntriesAlone (old : State) (failed : ℕ) (new : State) : Type 0 where
   pub setup : new.setup ≡ old.setup
   pub more : List Entry
@@ -51,6 +70,8 @@ pub record AddsEntriesAlone (old : State) (failed : ℕ) (new : State) : Type 0 
   pub kept : (k : ℕ) → kept_contents old.setup k new.entries ≡ kept_contents old.setup k old.entries
   pub collected : (t : ℕ) → token_count old.entries ≤ t → t < token_count new.entries → was_collected new.entries t ≡ true
   pub failures : faults new.entries ≡ faults old.entries + failed
+  pub untagged : AreUntagged more
+  pub succeeded : failed ≡ 0 → (t : ℕ) → token_count old.entries ≤ t → t < token_count new.entries → mark_of new.setup new.entries t ≡ Some Success
 
 -- a read that succeeded: its entries, and its bytes, which are those of the medium
 pub record Reads (old : State) (k : ℕ) (read : ℕ × ℕ) (bytes : List ℕ) (new : State) : Type 0 where

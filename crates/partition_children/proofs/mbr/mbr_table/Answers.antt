@@ -2,7 +2,7 @@ use Rattle.std.proofs.Common.{ap, sym, ◌∙◌, subst, List}
 use Rattle.partition_tables.specs.declared.table.Child.{Child}
 use Rattle.disk_core.specs.State.{State}
 use Rattle.partition_children.specs.Probing.{AddsEntriesAlone}
-use Rattle.partition_children.proofs.Headers.{blocks-told, size-some}
+use Rattle.partition_children.proofs.Headers.{blocks-told, size-some, stays-wanting}
 use Rattle.partition_children.proofs.ReadAllowed.{stays-same}
 use Rattle.partition_children.proofs.Tables.{IsMbrTable, mbr-alone, mbr-chain}
 use Rattle.partition_children.proofs.mbr.mbr_table.Goals.{in-Some+in_ok-add_logicals, in_default}
@@ -14,6 +14,9 @@ use Rattle.partition_children.specs.Probing.{EndsReads}
 use Rattle.partition_children.specs.Reads.{chain_reads}
 use Rattle.partition_children.proofs.Endings.{chain-ends, handed-on, wants-before}
 use Rattle.partition_children.proofs.mbr.mbr_table.Goals as goal
+
+pub returns-in_err-children-clause-stays : goal.returns-in_err-children-clause-stays
+returns-in_err-children-clause-stays g c = stays-wanting c.args.disk.now c.args.disk.now c.from_residual.result (stays-same c.args.disk.now c.requires.quiet) c.from_residual.ensures.1
 
 pub returns-clause-stays : goal.returns-clause-stays
 returns-clause-stays g c =
