@@ -11,5 +11,5 @@ pub record Lent : Type 0 where
   pub patch : List ℕ
 
 -- the work, with its bytes written anew
-unfoldable pub rewritten : Lent → List ℕ → Lent
-rewritten w bytes = record { ticket = w.ticket; block = w.block; from = w.from; bytes = refill (length w.bytes) w.bytes bytes; patch = w.patch }
+unfoldable pub with_new_bytes : Lent → List ℕ → Lent
+with_new_bytes w bytes = record { ticket = w.ticket; block = w.block; from = w.from; bytes = refill (length w.bytes) w.bytes bytes; patch = w.patch }

@@ -1,7 +1,7 @@
 ghost use Rattle.std.specs.Prelude.{◌≡◌, ◌+◌, ◌≤◌, length};
 ghost use Rattle.std.specs.Borrow.{Lends, Array, sem, u8 as byte};
 ghost use Rattle.byte_lists.specs.Patching.{patch};
-ghost use Rattle.block_gate.specs.Works.{rewritten};
+ghost use Rattle.block_gate.specs.Works.{with_new_bytes};
 
 use byte_lists::patch_into;
 use std::marker::Model;
@@ -109,7 +109,7 @@ impl Work {
 
     /// The bytes of the block, to be changed.
     pub fn bytes_mut(&mut self) -> &mut [u8]
-        ensures* writes_back { sem 𝓛 (Lends the_row (Array byte 0) self.entry result (rewritten self.entry.now)) }
+        ensures* writes_back { sem 𝓛 (Lends the_row (Array byte 0) self.entry result (with_new_bytes self.entry.now)) }
         ensures value { result.now ≡ self.old.bytes }
     {
         &mut self.bytes

@@ -7,7 +7,7 @@ use Rattle.std.proofs.Math.Nat.{pow-suc, zero-add, suc-add}
 use Rattle.std.proofs.lemmas.Nat.{xor_shr, xor_mod, xor_lt, field_of}
 use Rattle.crc_table.specs.Division.{add, plus, multiple_of, zero_bits, rest_of_division, HasOneRest}
 use Rattle.crc_table.specs.Crc32.{bits_of, bits_number, message_bits, dividend, polynomial, divisor_tail, divisor, remainder_of, crc32_of, HasTaken}
-use Rattle.crc_table.specs.Registers.{next_register, shifted_by, register_after}
+use Rattle.crc_table.specs.Registers.{next_register, after_shifts, register_after}
 use Rattle.crc_table.proofs.Rests.{plus_comm, plus_assoc, plus-zeros, length-plus, divided-HasOneRest}
 
 -- ---- the bits of a number
@@ -105,8 +105,8 @@ shifted_lt c small = xor_lt 32 (c / 2) (if c % 2 == 1 then polynomial else 0) (o
     at_most true = omega arith
     at_most false = omega arith
 
-pub shifted_by_lt : (k c : ℕ) → c < 2 ^ 32 → shifted_by k c < 2 ^ 32
-unfolding shifted_by
+pub shifted_by_lt : (k c : ℕ) → c < 2 ^ 32 → after_shifts k c < 2 ^ 32
+unfolding after_shifts
 shifted_by_lt zero c small = small
 shifted_by_lt (suc k) c small = shifted_by_lt k (next_register c) (shifted_lt c small)
 
@@ -114,8 +114,8 @@ length-wide : (k : ℕ) (l : List Bool) → length l ≤ length (zero_bits k ++ 
 length-wide k l = omega (arith, length-append (zero_bits k) l)
 
 divided_shifts : (k n c : ℕ) (l : List Bool) → c < 2 ^ 32 → 32 ≤ length l
-    → rest_of_division (k + n) divisor_tail (plus (bits_of 32 c) (zero_bits k ++ l)) ≡ rest_of_division n divisor_tail (plus (bits_of 32 (shifted_by k c)) l)
-unfolding divisor_tail shifted_by
+    → rest_of_division (k + n) divisor_tail (plus (bits_of 32 c) (zero_bits k ++ l)) ≡ rest_of_division n divisor_tail (plus (bits_of 32 (after_shifts k c)) l)
+unfolding divisor_tail after_shifts
 divided_shifts zero n c l small within = ap (λ j. rest_of_division j divisor_tail (plus (bits_of 32 c) l)) (zero-add n)
 divided_shifts (suc k) n c l small within =
     ap (λ j. rest_of_division j divisor_tail (plus (bits_of 32 c) (false ∷ (zero_bits k ++ l)))) (suc-add k n)
@@ -163,7 +163,7 @@ divided_message (byte ∷ bytes) c small =
     ap (λ k. rest_of_division k divisor_tail (plus (bits_of 32 c) ((bits_of 8 byte ++ later) ++ zero_bits 32))) count
     ∙ ap (rest_of_division (8 + length later) divisor_tail) left
     ∙ divided_shifts 8 (length later) next (later ++ zero_bits 32) (xor-byte_lt c byte small) within
-    ∙ divided_message bytes (shifted_by 8 next) (shifted_by_lt 8 next (xor-byte_lt c byte small))
+    ∙ divided_message bytes (after_shifts 8 next) (shifted_by_lt 8 next (xor-byte_lt c byte small))
 
 -- ---- the first 32 bits inverted, and the rest inverted
 
@@ -220,7 +220,7 @@ crc32_of-after bytes =
 pub after-append : (a b : List ℕ) (c : ℕ) → register_after c (a ++ b) ≡ register_after (register_after c a) b
 unfolding register_after
 after-append [] b c = refl
-after-append (byte ∷ bytes) b c = after-append bytes b (shifted_by 8 (bit_xor c (byte % 256)))
+after-append (byte ∷ bytes) b c = after-append bytes b (after_shifts 8 (bit_xor c (byte % 256)))
 
 -- the register inverted, after more bytes
 pub Holds-append : (crc register : ℕ) (before bytes : List ℕ) → register ≡ register_after (2 ^ 32 - 1 - crc) bytes → HasTaken crc before

@@ -8,11 +8,11 @@ abbrev pub next_register : ℕ → ℕ
 next_register register = bit_xor (register / 2) (if register % 2 == 1 then polynomial else 0)
 
 -- after `count` coefficients of the quotient
-unfoldable pub shifted_by : ℕ → ℕ → ℕ
-shifted_by zero register = register
-shifted_by (suc count) register = shifted_by count (next_register register)
+unfoldable pub after_shifts : ℕ → ℕ → ℕ
+after_shifts zero register = register
+after_shifts (suc count) register = after_shifts count (next_register register)
 
 -- after these bytes, of each of which the eight lowest bits count
 unfoldable pub register_after : ℕ → List ℕ → ℕ
 register_after register [] = register
-register_after register (byte ∷ bytes) = register_after (shifted_by 8 (bit_xor register (byte % 256))) bytes
+register_after register (byte ∷ bytes) = register_after (after_shifts 8 (bit_xor register (byte % 256))) bytes

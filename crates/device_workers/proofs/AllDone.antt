@@ -12,7 +12,7 @@ use Rattle.history.specs.Setup.{Setup, IsSetup}
 use Rattle.history.specs.Tokens.{Request, is_accept, token_count, request, was_collected}
 use Rattle.history.specs.Rules.{IsLegal, refusal_of}
 use Rattle.history.specs.Next.{first_open, Turn, next_turn, Outcome, entry_of}
-use Rattle.history_laws.specs.Told.{is_done}
+use Rattle.history_laws.specs.TokenFacts.{is_done}
 use Rattle.history_laws.proofs.CountLemmas.{accepted-same}
 use Rattle.history_laws.proofs.PlainLemmas.{first-open-collect, turn-request, turn-collected}
 use Rattle.history_laws.proofs.TokenLemmas.{request-same, request-some, collected-collect}
@@ -21,7 +21,7 @@ use Rattle.shared_disk.specs.declared.clients.Stand.{Stand}
 use Rattle.history_laws.proofs.TokenLemmas.{collected-stays, uncollected-before}
 use Rattle.shared_disk.specs.Lines.{Role, view_of, payload_bytes, answer_of, is_view_open, is_insertable, entry_if, line_entry, with_line_entry, first_own_open}
 use Rattle.shared_disk.specs.Script.{IsOpening}
-use Rattle.device_workers.specs.Plain.{Progress, progress, collect_one, with_collect, collects, with_last_collects, is_wait, after_wait, after_lines, taken_of, taken_by, taken_by_first, next_outcome, after_turn, after_turn_if, after_command, after_follow, after_step_if, after_step, a_round, has_no_order as is_role_done, is_over, after_rounds, rounds, plain_history}
+use Rattle.device_workers.specs.Plain.{Progress, progress, collect_one, with_collect, collects, with_last_collects, is_wait, after_wait, after_lines, after_line_if, after_line_of, after_lines_of_first, next_outcome, after_turn, after_turn_if, after_command, after_follow, after_step_if, after_step, a_round, has_no_order as is_role_done, is_over, after_rounds, rounds, plain_history}
 use Rattle.device_workers.specs.Laws.{IsAllDone}
 use Rattle.device_workers.proofs.Clients.{IsClients, clients-none, clients-same, clients-line, opening-open}
 use Rattle.device_workers.proofs.Collecting.{own-keep, last-keep, collects-keep}
@@ -70,18 +70,18 @@ sound-lines S H i stand (line ∷ rest) sound = by (is_wait line)
     by true = waits (first_own_open S H (i + 1))
     by false = record { tidy = tidy-line S H (i + 1) stand line sound.tidy; clients = clients-line S H i stand line sound.clients }
 
-sound-by : (S : Setup) (i : ℕ) (s : Progress) → IsSound S s.history → IsSound S (taken_by S i s).history
-unfolding taken_by
+sound-by : (S : Setup) (i : ℕ) (s : Progress) → IsSound S s.history → IsSound S (after_line_of S i s).history
+unfolding after_line_of
 sound-by S i s sound = by (slice_get s.lefts i)
   where
-    by : (o : Option Role) → IsSound S (taken_of S i s o).history
+    by : (o : Option Role) → IsSound S (after_line_if S i s o).history
     by None = sound
     by (Some role) = sound-lines S s.history i role.stand role.orders sound
 
-sound-first : (S : Setup) (n : ℕ) (s : Progress) → IsSound S s.history → IsSound S (taken_by_first S n s).history
-unfolding taken_by_first
+sound-first : (S : Setup) (n : ℕ) (s : Progress) → IsSound S s.history → IsSound S (after_lines_of_first S n s).history
+unfolding after_lines_of_first
 sound-first S zero s sound = sound
-sound-first S (suc n) s sound = sound-by S n (taken_by_first S n s) (sound-first S n s sound)
+sound-first S (suc n) s sound = sound-by S n (after_lines_of_first S n s) (sound-first S n s sound)
 
 -- after a command
 clients-turn : (H : List Entry) (turn : Turn) (outcome : Outcome) → IsClients H → IsClients (entry_of turn outcome ∷ H)
@@ -111,7 +111,7 @@ sound-step S is s sound = by (next_turn S s.history) refl
     by (Some turn) next = follow turn (sound-turn S is s turn next sound) (is_fetched turn.command (next_outcome s.outcomes))
 
 sound-round : (S : Setup) → IsSetup S → (s : Progress) → IsSound S s.history → IsSound S (a_round S s).history
-sound-round S is s sound = sound-step S is (taken_by_first S (length s.lefts) s) (sound-first S (length s.lefts) s sound)
+sound-round S is s sound = sound-step S is (after_lines_of_first S (length s.lefts) s) (sound-first S (length s.lefts) s sound)
 
 sound-rounds : (S : Setup) → IsSetup S → (n : ℕ) (s : Progress) → IsSound S s.history → IsSound S (after_rounds n S s).history
 unfolding after_rounds
@@ -134,7 +134,7 @@ progresses : (S : Setup) → IsSetup S → (s : Progress) → IsSound S s.histor
 progresses S is s sound over = by (next_turn S lined.history) refl (first-lightens S (length s.lefts) s)
   where
     lined : Progress
-    lined = taken_by_first S (length s.lefts) s
+    lined = after_lines_of_first S (length s.lefts) s
 
     drained : (o : Option ℕ) → first_open S lined.history ≡ o → next_turn S lined.history ≡ None → first_open S lined.history ≡ None
     drained None first none = first

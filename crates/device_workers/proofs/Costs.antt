@@ -14,7 +14,7 @@ use Rattle.history_laws.proofs.WeightLemmas.{weight, weight-accept, weight-later
 use Rattle.disk_core.specs.Calls.{is_fetched}
 use Rattle.shared_disk.specs.declared.clients.Stand.{Stand}
 use Rattle.shared_disk.specs.Lines.{Role, view_of, payload_bytes, answer_of, is_view_open, is_insertable, entry_if, line_entry, with_line_entry, first_own_open}
-use Rattle.device_workers.specs.Plain.{Progress, Taken, after_taking, with_own_collects, is_wait, after_wait, after_line, after_lines, put_left, taken_of, taken_by, taken_by_first, next_outcome, after_turn, after_turn_if, after_command, after_follow, after_step, a_round, line_rounds, lines_rounds, rounds}
+use Rattle.device_workers.specs.Plain.{Progress, Taken, after_taking, with_own_collects, is_wait, after_wait, after_line, after_lines, put_left, after_line_if, after_line_of, after_lines_of_first, next_outcome, after_turn, after_turn_if, after_command, after_follow, after_step, a_round, line_rounds, lines_rounds, rounds}
 use Rattle.device_workers.proofs.Collecting.{own-weight}
 
 -- what a stand can still need
@@ -141,23 +141,23 @@ put-same s i role there = ap (λ (lefts : List Role). record s { lefts = lefts }
 pub put-falls : (S : Setup) (i : ℕ) (s : Progress) (role : Role) (made : Taken) → slice_get s.lefts i ≡ Some role → lines_cost S made.history made.left + 1 ≤ lines_cost S s.history role.orders → cost S (put_left s i role made) + 1 ≤ cost S s
 put-falls S i s role made there falls = omega (arith, falls, rounds-set s.lefts i role (record role { orders = made.left }) there)
 
-pub taken_by-lightens : (S : Setup) (i : ℕ) (s : Progress) → Lightens S s (taken_by S i s)
-unfolding taken_by
-taken_by-lightens S i s = by (slice_get s.lefts i) refl
+pub after_line_of-lightens : (S : Setup) (i : ℕ) (s : Progress) → Lightens S s (after_line_of S i s)
+unfolding after_line_of
+after_line_of-lightens S i s = by (slice_get s.lefts i) refl
   where
     lighter : (role : Role) → slice_get s.lefts i ≡ Some role → (made : Taken) → LightensLines S s.history role.orders made → Lightens S s (put_left s i role made)
     lighter role there made (inl same) = inl (ap (put_left s i role) same ∙ put-same s i role there)
     lighter role there made (inr falls) = inr (put-falls S i s role made there falls)
 
-    by : (o : Option Role) → slice_get s.lefts i ≡ o → Lightens S s (taken_of S i s o)
+    by : (o : Option Role) → slice_get s.lefts i ≡ o → Lightens S s (after_line_if S i s o)
     by None there = inl refl
     by (Some role) there = lighter role there (after_lines S s.history (i + 1) role.stand role.orders) (after_lines-lightens S s.history (i + 1) role.stand role.orders)
 
-pub first-lightens : (S : Setup) (n : ℕ) (s : Progress) → Lightens S s (taken_by_first S n s)
-unfolding taken_by_first
+pub first-lightens : (S : Setup) (n : ℕ) (s : Progress) → Lightens S s (after_lines_of_first S n s)
+unfolding after_lines_of_first
 first-lightens S zero s = inl refl
-first-lightens S (suc n) s = lightens-on S s (taken_by_first S n s) (taken_by S n (taken_by_first S n s)) (first-lightens S n s) (taken_by-lightens S n (taken_by_first S n s))
+first-lightens S (suc n) s = lightens-on S s (after_lines_of_first S n s) (after_line_of S n (after_lines_of_first S n s)) (first-lightens S n s) (after_line_of-lightens S n (after_lines_of_first S n s))
 
 pub round-lightens : (S : Setup) → IsSetup S → (s : Progress) → Lightens S s (a_round S s)
 round-lightens S some s =
-    lightens-on S s (taken_by_first S (length s.lefts) s) (a_round S s) (first-lightens S (length s.lefts) s) (after_step-lightens S some (taken_by_first S (length s.lefts) s))
+    lightens-on S s (after_lines_of_first S (length s.lefts) s) (a_round S s) (first-lightens S (length s.lefts) s) (after_step-lightens S some (after_lines_of_first S (length s.lefts) s))

@@ -9,7 +9,7 @@ use Rattle.history.specs.Room.{faults}
 use Rattle.history_laws.proofs.CountLemmas.{faults-more, faults-same, faults-both}
 use Rattle.disk_core.specs.Calls.{is_fetched}
 use Rattle.shared_disk.specs.Lines.{Role}
-use Rattle.device_workers.specs.Plain.{outcomes_onto, outcomes_after, Progress, progress, with_last_collects, taken_of, taken_by, taken_by_first, next_outcome, later_outcomes, after_turn, after_turn_if, after_command, after_follow, after_step_if, after_step, a_round, is_over, after_rounds, rounds, plain_history}
+use Rattle.device_workers.specs.Plain.{outcomes_onto, outcomes_after, Progress, progress, with_last_collects, after_line_if, after_line_of, after_lines_of_first, next_outcome, later_outcomes, after_turn, after_turn_if, after_command, after_follow, after_step_if, after_step, a_round, is_over, after_rounds, rounds, plain_history}
 
 AreMade : List Outcome → Type 0
 AreMade [] = Unit {0}
@@ -37,21 +37,21 @@ made-later [] made = tt
 made-later (Made ∷ more) made = made
 made-later (Failed done ∷ more) made = absurd made
 
-taken_by-alike : (S : Setup) (i : ℕ) (s : Progress) → AreMade s.outcomes → IsAlike (taken_by S i s) (taken_by S i (bare s))
-unfolding taken_by
-taken_by-alike S i s made = by (slice_get s.lefts i)
+after_line_of-alike : (S : Setup) (i : ℕ) (s : Progress) → AreMade s.outcomes → IsAlike (after_line_of S i s) (after_line_of S i (bare s))
+unfolding after_line_of
+after_line_of-alike S i s made = by (slice_get s.lefts i)
   where
-    by : (o : Option Role) → IsAlike (taken_of S i s o) (taken_of S i (bare s) o)
+    by : (o : Option Role) → IsAlike (after_line_if S i s o) (after_line_if S i (bare s) o)
     by None = record { same = refl; made = made }
     by (Some role) = record { same = refl; made = made }
 
-first-alike : (S : Setup) (n : ℕ) (s : Progress) → AreMade s.outcomes → IsAlike (taken_by_first S n s) (taken_by_first S n (bare s))
-unfolding taken_by_first
+first-alike : (S : Setup) (n : ℕ) (s : Progress) → AreMade s.outcomes → IsAlike (after_lines_of_first S n s) (after_lines_of_first S n (bare s))
+unfolding after_lines_of_first
 first-alike S zero s made = record { same = refl; made = made }
 first-alike S (suc n) s made =
-    let first : IsAlike (taken_by_first S n s) (taken_by_first S n (bare s)) = first-alike S n s made in
-    let second : IsAlike (taken_by S n (taken_by_first S n s)) (taken_by S n (bare (taken_by_first S n s))) = taken_by-alike S n (taken_by_first S n s) first.made in
-    record { same = ap (taken_by S n) first.same ∙ second.same; made = second.made }
+    let first : IsAlike (after_lines_of_first S n s) (after_lines_of_first S n (bare s)) = first-alike S n s made in
+    let second : IsAlike (after_line_of S n (after_lines_of_first S n s)) (after_line_of S n (bare (after_lines_of_first S n s))) = after_line_of-alike S n (after_lines_of_first S n s) first.made in
+    record { same = ap (after_line_of S n) first.same ∙ second.same; made = second.made }
 
 after_turn-alike : (s : Progress) (turn : Turn) → AreMade s.outcomes → IsAlike (after_turn s turn) (after_turn (bare s) turn)
 after_turn-alike s turn made = record {
@@ -86,8 +86,8 @@ after_step-alike S s made = by (next_turn S s.history)
 
 round-alike : (S : Setup) (s : Progress) → AreMade s.outcomes → IsAlike (a_round S s) (a_round S (bare s))
 round-alike S s made =
-    let first : IsAlike (taken_by_first S (length s.lefts) s) (taken_by_first S (length s.lefts) (bare s)) = first-alike S (length s.lefts) s made in
-    let second : IsAlike (a_round S s) (after_step S (bare (taken_by_first S (length s.lefts) s))) = after_step-alike S (taken_by_first S (length s.lefts) s) first.made in
+    let first : IsAlike (after_lines_of_first S (length s.lefts) s) (after_lines_of_first S (length s.lefts) (bare s)) = first-alike S (length s.lefts) s made in
+    let second : IsAlike (a_round S s) (after_step S (bare (after_lines_of_first S (length s.lefts) s))) = after_step-alike S (after_lines_of_first S (length s.lefts) s) first.made in
     record { same = ap (after_step S) first.same ∙ second.same; made = second.made }
 
 -- after any number of rounds

@@ -10,7 +10,7 @@ use Rattle.disk_core.specs.Calls.{is_fetched}
 use Rattle.shared_disk.specs.declared.clients.Stand.{Stand}
 use Rattle.shared_disk.specs.Lines.{Role, line_entry, with_line_entry, first_own_open}
 use Rattle.shared_disk.specs.Script.{Script}
-use Rattle.device_workers.specs.Plain.{Progress, progress, with_own_collects, with_last_collects, is_wait, after_wait, after_lines, after_taking, taken_of, taken_by, taken_by_first, next_outcome, after_turn, after_turn_if, after_command, after_follow, after_step_if, after_step, a_round, is_over, after_rounds, rounds, plain_history}
+use Rattle.device_workers.specs.Plain.{Progress, progress, with_own_collects, with_last_collects, is_wait, after_wait, after_lines, after_taking, after_line_if, after_line_of, after_lines_of_first, next_outcome, after_turn, after_turn_if, after_command, after_follow, after_step_if, after_step, a_round, is_over, after_rounds, rounds, plain_history}
 use Rattle.device_workers.specs.Leading.{TakesFirst, LeadsFor, Leads}
 use Rattle.device_workers.specs.Serving.{IsPlainFront}
 use Rattle.device_workers.proofs.Collecting.{own-keep, last-keep}
@@ -52,23 +52,23 @@ on-lines S H tag stand (line ∷ rest) = by (is_wait line)
     by true = waits (first_own_open S H tag)
     by false = on-line H (line_entry S H tag stand line)
 
-on-by : (S : Setup) (i : ℕ) (s : Progress) → Extends s.history (taken_by S i s).history
-unfolding taken_by
+on-by : (S : Setup) (i : ℕ) (s : Progress) → Extends s.history (after_line_of S i s).history
+unfolding after_line_of
 on-by S i s = by (slice_get s.lefts i)
   where
-    by : (o : Option Role) → Extends s.history (taken_of S i s o).history
+    by : (o : Option Role) → Extends s.history (after_line_if S i s o).history
     by None = on-same s.history
     by (Some role) = on-lines S s.history (i + 1) role.stand role.orders
 
-on-first : (S : Setup) (n m : ℕ) (s : Progress) → Extends (taken_by_first S n s).history (taken_by_first S (n + m) s).history
-unfolding taken_by_first
-on-first S n zero s = let e : n + 0 ≡ n = omega arith in rw e (on-same (taken_by_first S n s).history)
+on-first : (S : Setup) (n m : ℕ) (s : Progress) → Extends (after_lines_of_first S n s).history (after_lines_of_first S (n + m) s).history
+unfolding after_lines_of_first
+on-first S n zero s = let e : n + 0 ≡ n = omega arith in rw e (on-same (after_lines_of_first S n s).history)
 on-first S n (suc m) s =
     let e : n + suc m ≡ suc (n + m) = omega arith in
-    rw e (on-on (taken_by_first S n s).history (taken_by_first S (n + m) s).history (taken_by S (n + m) (taken_by_first S (n + m) s)).history (on-first S n m s) (on-by S (n + m) (taken_by_first S (n + m) s)))
+    rw e (on-on (after_lines_of_first S n s).history (after_lines_of_first S (n + m) s).history (after_line_of S (n + m) (after_lines_of_first S (n + m) s)).history (on-first S n m s) (on-by S (n + m) (after_lines_of_first S (n + m) s)))
 
-first-zero : (S : Setup) (s : Progress) → taken_by_first S 0 s ≡ s
-unfolding taken_by_first
+first-zero : (S : Setup) (s : Progress) → after_lines_of_first S 0 s ≡ s
+unfolding after_lines_of_first
 first-zero S s = refl
 
 on-command : (S : Setup) (s : Progress) → Extends s.history (after_command S s).history
@@ -94,10 +94,10 @@ on-step S s = by (next_turn S s.history)
     by None = on-same s.history
     by (Some turn) = follow turn (is_fetched turn.command (next_outcome s.outcomes))
 
-on-round : (S : Setup) (n : ℕ) (s : Progress) → n ≤ length s.lefts → Extends (taken_by_first S n s).history (a_round S s).history
+on-round : (S : Setup) (n : ℕ) (s : Progress) → n ≤ length s.lefts → Extends (after_lines_of_first S n s).history (a_round S s).history
 on-round S n s within =
     let e : n + (length s.lefts - n) ≡ length s.lefts = omega (arith, within) in
-    on-on (taken_by_first S n s).history (taken_by_first S (length s.lefts) s).history (a_round S s).history (rw e at (on-first S n (length s.lefts - n) s)) (on-step S (taken_by_first S (length s.lefts) s))
+    on-on (after_lines_of_first S n s).history (after_lines_of_first S (length s.lefts) s).history (a_round S s).history (rw e at (on-first S n (length s.lefts - n) s)) (on-step S (after_lines_of_first S (length s.lefts) s))
 
 on-rounds : (S : Setup) (n : ℕ) (s : Progress) → Extends s.history (after_rounds n S s).history
 unfolding after_rounds
@@ -108,7 +108,7 @@ on-rounds S (suc n) s = by (is_over S s) (on-rounds S n (a_round S s))
     by true rest = on-same s.history
     by false rest = on-on s.history (a_round S s).history (after_rounds n S (a_round S s)).history (whole (on-round S 0 s (omega arith))) rest
       where
-        whole : Extends (taken_by_first S 0 s).history (a_round S s).history → Extends s.history (a_round S s).history
+        whole : Extends (after_lines_of_first S 0 s).history (a_round S s).history → Extends s.history (a_round S s).history
         whole on = subst (λ (p : Progress). Extends p.history (a_round S s).history) (first-zero S s) on
 
 -- rounds from the opening, and then some clients' lines

@@ -8,7 +8,7 @@ use Rattle.history.specs.Next.{first_open, Turn, next_turn, Outcome, Made, Faile
 use Rattle.history_laws.proofs.TurnNoneLemmas.{drained-turn}
 use Rattle.std.specs.List.{list_all}
 use Rattle.shared_disk.specs.Lines.{Role, line_entry, with_line_entry, first_own_open}
-use Rattle.device_workers.specs.Plain.{Progress, progress, outcomes_onto, with_own_collects, is_wait, after_taking, put_left, taken_by, taken_by_first, after_step, after_command, a_round, has_none, has_no_order, is_over, after_rounds}
+use Rattle.device_workers.specs.Plain.{Progress, progress, outcomes_onto, with_own_collects, is_wait, after_taking, put_left, after_line_of, after_lines_of_first, after_step, after_command, a_round, has_none, has_no_order, is_over, after_rounds}
 use Rattle.device_workers.specs.Leading.{TakesBy, TakesFirst, StepsOn, IsStep, IsTurned, LeadsFor, Leads}
 use Rattle.device_workers.proofs.Collecting.{own-outcomes}
 use Rattle.device_workers.proofs.Costs.{put-same, step-none}
@@ -45,7 +45,7 @@ step-fetched S H G H' fetched t u lefts more =
 
 -- a client with no line left
 pub takes-none : (S : Setup) (i : ℕ) (H : List Entry) (lefts : List Role) (role : Role) → slice_get lefts i ≡ Some role → role.orders ≡ [] → TakesBy S i H lefts H lefts
-unfolding taken_by
+unfolding after_line_of
 takes-none S i H lefts role there none = record {
   goes = λ outcomes. rw (there, none) (ap (λ left. put_left (progress H lefts outcomes) i role (after_taking H left)) (sym none) ∙ put-same (progress H lefts outcomes) i role there);
   same = λ more. refl;
@@ -54,7 +54,7 @@ takes-none S i H lefts role there none = record {
 -- a wait while a token of its client is outstanding
 pub takes-stay : (S : Setup) (i : ℕ) (H : List Entry) (lefts : List Role) (role : Role) (line : Order) (rest : List Order) (t : ℕ) → slice_get lefts i ≡ Some role → role.orders ≡ line ∷ rest → is_wait line ≡ true
     → first_own_open S H (i + 1) ≡ Some t → TakesBy S i H lefts H lefts
-unfolding taken_by
+unfolding after_line_of
 takes-stay S i H lefts role line rest t there next wait open_ = record {
   goes = λ outcomes. rw (there, next, wait, open_) (ap (λ left. put_left (progress H lefts outcomes) i role (after_taking H left)) (sym next) ∙ put-same (progress H lefts outcomes) i role there);
   same = λ more. refl;
@@ -63,7 +63,7 @@ takes-stay S i H lefts role line rest t there next wait open_ = record {
 -- a wait with none
 pub takes-wait : (S : Setup) (i : ℕ) (H : List Entry) (lefts : List Role) (role : Role) (line : Order) (rest : List Order) → slice_get lefts i ≡ Some role → role.orders ≡ line ∷ rest → is_wait line ≡ true
     → first_own_open S H (i + 1) ≡ None → TakesBy S i H lefts (with_own_collects H (i + 1)) (slice_set lefts i (record role { orders = rest }))
-unfolding taken_by
+unfolding after_line_of
 takes-wait S i H lefts role line rest there next wait none = record {
   goes = λ outcomes. rw (there, next, wait, none) refl;
   same = λ more. own-outcomes H (i + 1) more;
@@ -73,22 +73,22 @@ takes-wait S i H lefts role line rest there next wait none = record {
 pub takes-line : (S : Setup) (i : ℕ) (H : List Entry) (lefts : List Role) (role : Role) (line : Order) (rest : List Order) → slice_get lefts i ≡ Some role → role.orders ≡ line ∷ rest → is_wait line ≡ false
     → ((more : List Outcome) → outcomes_onto (with_line_entry (line_entry S H (i + 1) role.stand line) H) more ≡ outcomes_onto H more)
     → TakesBy S i H lefts (with_line_entry (line_entry S H (i + 1) role.stand line) H) (slice_set lefts i (record role { orders = rest }))
-unfolding taken_by
+unfolding after_line_of
 takes-line S i H lefts role line rest there next other quiet = record {
   goes = λ outcomes. rw (there, next, other) refl;
   same = quiet;
 }
 
 pub first-none : (S : Setup) (H : List Entry) (lefts : List Role) → TakesFirst S 0 H lefts H lefts
-unfolding taken_by_first
+unfolding after_lines_of_first
 first-none S H lefts = record { goes = λ outcomes. refl; same = λ more. refl }
 
 -- one more client
 pub first-more : (S : Setup) (n : ℕ) (H : List Entry) (lefts : List Role) (G : List Entry) (between : List Role) (H' : List Entry) (lefts' : List Role)
     → TakesFirst S n H lefts G between → TakesBy S n G between H' lefts' → TakesFirst S (n + 1) H lefts H' lefts'
-unfolding taken_by_first
+unfolding after_lines_of_first
 first-more S n H lefts G between H' lefts' first after = record {
-  goes = λ outcomes. let e : n + 1 ≡ suc n = omega arith in rw e (ap (taken_by S n) (first.goes outcomes) ∙ after.goes outcomes);
+  goes = λ outcomes. let e : n + 1 ≡ suc n = omega arith in rw e (ap (after_line_of S n) (first.goes outcomes) ∙ after.goes outcomes);
   same = λ more. after.same more ∙ first.same more;
 }
 
@@ -102,12 +102,12 @@ all-at [] i role all there = cc
 all-at (r ∷ lefts) zero role all there = let same : r ≡ role = cc in rw (← same) (none-left r.orders (and_parts (has_no_order r) (list_all has_no_order lefts) all).0)
 all-at (r ∷ lefts) (suc i) role all there = all-at lefts i role (and_parts (has_no_order r) (list_all has_no_order lefts) all).1 there
 
-over-first : (S : Setup) (n : ℕ) (H : List Entry) (lefts : List Role) (outcomes : List Outcome) → list_all has_no_order lefts ≡ true → taken_by_first S n (progress H lefts outcomes) ≡ progress H lefts outcomes
-unfolding taken_by_first taken_by
+over-first : (S : Setup) (n : ℕ) (H : List Entry) (lefts : List Role) (outcomes : List Outcome) → list_all has_no_order lefts ≡ true → after_lines_of_first S n (progress H lefts outcomes) ≡ progress H lefts outcomes
+unfolding after_lines_of_first after_line_of
 over-first S zero H lefts outcomes all = refl
 over-first S (suc n) H lefts outcomes all = rw (over-first S n H lefts outcomes all) (by (slice_get lefts n) refl)
   where
-    by : (o : Option Role) → slice_get lefts n ≡ o → taken_by S n (progress H lefts outcomes) ≡ progress H lefts outcomes
+    by : (o : Option Role) → slice_get lefts n ≡ o → after_line_of S n (progress H lefts outcomes) ≡ progress H lefts outcomes
     by None there = rw there refl
     by (Some role) there = let none : TakesBy S n H lefts H lefts = takes-none S n H lefts role there (all-at lefts n role all there) in none.goes outcomes
 

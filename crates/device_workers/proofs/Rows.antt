@@ -19,7 +19,7 @@ use Rattle.shared_disk.specs.declared.clients.Stand.TheVariants.{Whole}
 use Rattle.shared_disk.specs.Lines.{Role, line_entry, first_own_open}
 use Rattle.disk_io2.specs.Views.{whole_view}
 use Rattle.disk_split.specs.Units.{runs_from, units_of}
-use Rattle.device_workers.specs.Plain.{collects, with_own_collects, with_last_collects, taken_by, taken_by_first, after_command, after_step, after_rounds, lines_rounds, rounds, plain_history}
+use Rattle.device_workers.specs.Plain.{collects, with_own_collects, with_last_collects, after_line_of, after_lines_of_first, after_command, after_step, after_rounds, lines_rounds, rounds, plain_history}
 
 -- a disk of one medium of two blocks, and one with a spare of one block
 disk : List Opening → Setup
@@ -46,7 +46,7 @@ three-clients : plain_history (disk (medium 2 ∷ [])) [] (on_whole (write_line 
     ∷ entry.Accept 2 (whole_view (disk (medium 2 ∷ [])) 1) (record { kind = Read; unit = Bytes; at = 1; length = 1 }) []
     ∷ entry.Accept 1 (whole_view (disk (medium 2 ∷ [])) 1) (record { kind = Write; unit = Bytes; at = 0; length = 1 }) (17 ∷ [])
     ∷ []
-unfolding disk medium token_count request was_collected is_protected ejects inserts done_commands has_done first_from all_from is_complete ending mark_of first_open next_task next_turn runs_from units_of refusal_of line_entry first_own_open collects with_own_collects with_last_collects taken_by taken_by_first after_command after_step after_rounds lines_rounds rounds plain_history
+unfolding disk medium token_count request was_collected is_protected ejects inserts done_commands has_done first_from all_from is_complete ending mark_of first_open next_task next_turn runs_from units_of refusal_of line_entry first_own_open collects with_own_collects with_last_collects after_line_of after_lines_of_first after_command after_step after_rounds lines_rounds rounds plain_history
 three-clients = refl
 
 -- a wait asks for the tokens of its own client
@@ -59,7 +59,7 @@ own-waits : plain_history (disk (medium 2 ∷ [])) [] (on_whole (write_line 0 17
     ∷ entry.Accept 2 (whole_view (disk (medium 2 ∷ [])) 1) (record { kind = Read; unit = Bytes; at = 1; length = 1 }) ([])
     ∷ entry.Accept 1 (whole_view (disk (medium 2 ∷ [])) 1) (record { kind = Write; unit = Bytes; at = 0; length = 1 }) (17 ∷ [])
     ∷ []
-unfolding disk medium token_count request was_collected is_protected ejects inserts done_commands has_done first_from all_from is_complete ending mark_of first_open next_task next_turn runs_from units_of refusal_of line_entry first_own_open collects with_own_collects with_last_collects taken_by taken_by_first after_command after_step after_rounds lines_rounds rounds plain_history
+unfolding disk medium token_count request was_collected is_protected ejects inserts done_commands has_done first_from all_from is_complete ending mark_of first_open next_task next_turn runs_from units_of refusal_of line_entry first_own_open collects with_own_collects with_last_collects after_line_of after_lines_of_first after_command after_step after_rounds lines_rounds rounds plain_history
 own-waits = refl
 
 -- the medium is ejected under a read, and the spare is another
@@ -70,7 +70,7 @@ spare-in : plain_history (disk (medium 2 ∷ medium 1 ∷ [])) [] (on_whole (rea
     ∷ entry.Eject 2
     ∷ entry.Accept 1 (whole_view (disk (medium 2 ∷ medium 1 ∷ [])) 1) (record { kind = Read; unit = Bytes; at = 0; length = 1 }) ([])
     ∷ []
-unfolding disk medium token_count request was_collected is_protected ejects inserts done_commands has_done first_from all_from is_complete ending mark_of first_open next_task next_turn runs_from units_of refusal_of line_entry first_own_open collects with_own_collects with_last_collects taken_by taken_by_first after_command after_step after_rounds lines_rounds rounds plain_history
+unfolding disk medium token_count request was_collected is_protected ejects inserts done_commands has_done first_from all_from is_complete ending mark_of first_open next_task next_turn runs_from units_of refusal_of line_entry first_own_open collects with_own_collects with_last_collects after_line_of after_lines_of_first after_command after_step after_rounds lines_rounds rounds plain_history
 spare-in = refl
 
 -- a fetch that fails ends its token
@@ -79,5 +79,5 @@ failed-fetch : plain_history (disk (medium 2 ∷ [])) [] (on_whole (write_line 0
     ∷ entry.Fault 0 (Fetch 0) 0
     ∷ entry.Accept 1 (whole_view (disk (medium 2 ∷ [])) 1) (record { kind = Write; unit = Bytes; at = 0; length = 1 }) (17 ∷ [])
     ∷ []
-unfolding disk medium token_count request was_collected is_protected ejects inserts done_commands has_done first_from all_from is_complete ending mark_of first_open next_task next_turn runs_from units_of refusal_of line_entry first_own_open collects with_own_collects with_last_collects taken_by taken_by_first after_command after_step after_rounds lines_rounds rounds plain_history
+unfolding disk medium token_count request was_collected is_protected ejects inserts done_commands has_done first_from all_from is_complete ending mark_of first_open next_task next_turn runs_from units_of refusal_of line_entry first_own_open collects with_own_collects with_last_collects after_line_of after_lines_of_first after_command after_step after_rounds lines_rounds rounds plain_history
 failed-fetch = refl

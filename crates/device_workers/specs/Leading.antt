@@ -5,16 +5,16 @@ use Rattle.history.specs.Setup.{Setup}
 use Rattle.history.specs.Next.{Turn, next_turn, Outcome, entry_of}
 use Rattle.disk_core.specs.Calls.{is_fetched}
 use Rattle.shared_disk.specs.Lines.{Role}
-use Rattle.device_workers.specs.Plain.{outcomes_onto, progress, taken_by, taken_by_first, after_step, after_rounds}
+use Rattle.device_workers.specs.Plain.{outcomes_onto, progress, after_line_of, after_lines_of_first, after_step, after_rounds}
 
 -- client i took its line, and no command was made
 pub record TakesBy (S : Setup) (i : ℕ) (H : List Entry) (lefts : List Role) (H' : List Entry) (lefts' : List Role) : Type 0 where
-  pub goes : (outcomes : List Outcome) → taken_by S i (progress H lefts outcomes) ≡ progress H' lefts' outcomes
+  pub goes : (outcomes : List Outcome) → after_line_of S i (progress H lefts outcomes) ≡ progress H' lefts' outcomes
   pub same : (more : List Outcome) → outcomes_onto H' more ≡ outcomes_onto H more
 
 -- the first n clients took their lines
 pub record TakesFirst (S : Setup) (n : ℕ) (H : List Entry) (lefts : List Role) (H' : List Entry) (lefts' : List Role) : Type 0 where
-  pub goes : (outcomes : List Outcome) → taken_by_first S n (progress H lefts outcomes) ≡ progress H' lefts' outcomes
+  pub goes : (outcomes : List Outcome) → after_lines_of_first S n (progress H lefts outcomes) ≡ progress H' lefts' outcomes
   pub same : (more : List Outcome) → outcomes_onto H' more ≡ outcomes_onto H more
 
 -- one step of the schedule, whatever lines are left and whatever outcomes are still to come

@@ -86,18 +86,18 @@ after_lines S H tag stand (line ∷ rest) = after_line S H tag stand line rest
 abbrev pub put_left : Progress → ℕ → Role → Taken → Progress
 put_left s i role made = progress made.history (slice_set s.lefts i (record role { orders = made.left })) s.outcomes
 
-abbrev pub taken_of : Setup → ℕ → Progress → Option Role → Progress
-taken_of S i s None = s
-taken_of S i s (Some role) = put_left s i role (after_lines S s.history (i + 1) role.stand role.orders)
+abbrev pub after_line_if : Setup → ℕ → Progress → Option Role → Progress
+after_line_if S i s None = s
+after_line_if S i s (Some role) = put_left s i role (after_lines S s.history (i + 1) role.stand role.orders)
 
 -- client i takes its next line, where it has one left
-unfoldable pub taken_by : Setup → ℕ → Progress → Progress
-taken_by S i s = taken_of S i s (slice_get s.lefts i)
+unfoldable pub after_line_of : Setup → ℕ → Progress → Progress
+after_line_of S i s = after_line_if S i s (slice_get s.lefts i)
 
 -- the first half of a round: so do the first n clients, in order of number
-unfoldable pub taken_by_first : Setup → ℕ → Progress → Progress
-taken_by_first S zero s = s
-taken_by_first S (suc n) s = taken_by S n (taken_by_first S n s)
+unfoldable pub after_lines_of_first : Setup → ℕ → Progress → Progress
+after_lines_of_first S zero s = s
+after_lines_of_first S (suc n) s = after_line_of S n (after_lines_of_first S n s)
 
 -- how the next command ends: a missing outcome is done
 abbrev pub next_outcome : List Outcome → Outcome
@@ -133,7 +133,7 @@ unfoldable pub after_step : Setup → Progress → Progress
 after_step S s = after_step_if S s (next_turn S s.history)
 
 abbrev pub a_round : Setup → Progress → Progress
-a_round S s = after_step S (taken_by_first S (length s.lefts) s)
+a_round S s = after_step S (after_lines_of_first S (length s.lefts) s)
 
 abbrev pub has_none : List Order → Bool
 has_none [] = true

@@ -14,7 +14,7 @@ use Rattle.history.specs.Tokens.{Request, is_accept, token_count, request, is_co
 use Rattle.history.specs.Marks.{ending, status_if, mark_of, IsOutstanding}
 use Rattle.history.specs.Rules.{MayFollow}
 use Rattle.history.specs.Room.{owed_entries}
-use Rattle.history_laws.specs.Told.{is_done}
+use Rattle.history_laws.specs.TokenFacts.{is_done}
 use Rattle.history_laws.specs.Gates.{is_store_of}
 use Rattle.history_laws.specs.Ranges.{AreToldWhole}
 use Rattle.history_laws.proofs.EraLemmas.{is_protect, protected-same}
@@ -29,7 +29,7 @@ use Rattle.disk_core.specs.Parts.{state_of}
 use Rattle.disk_core.specs.Inside.{DriveFollows}
 use Rattle.disk_core.specs.Moves.{IsDisk, Reaches, HasPlace, with_entry, with_spare}
 use Rattle.disk_core.specs.Calls.{EndsBy, EndSays}
-use Rattle.disk_core.specs.Closing.{meant_in, is_some_meant, is_queued, IsNextMeant, IsAbort, AreSorted, HasToEnd, IsToEnd, EndsMeant, NoneMeantBefore, RoomSoFar}
+use Rattle.disk_core.specs.Closing.{is_meant_in, is_some_meant, is_queued, IsNextMeant, IsAbort, AreSorted, HasToEnd, IsToEnd, EndsMeant, NoneMeantBefore, RoomSoFar}
 use Rattle.subtask_queue.specs.Subs.{AreBelow}
 use Rattle.disk_core.proofs.Links.{AreClosed, disk-closed}
 use Rattle.history_laws.proofs.OwedSoFarLemmas.{owed-before}
@@ -42,8 +42,8 @@ use Rattle.history_laws.proofs.RequestLemmas.{view-same}
 
 -- an entry that ends the meant tokens with Aborted, which it may where there is one
 record IsAborting (S : Setup) (H : List Entry) (meant : Meant) (e : Entry) : Type 0 where
-  means : (t : ℕ) (q : Request) → IsOutstanding S H t → request H t ≡ Some q → ending S H e t ≡ status_if (meant_in meant q.view q.asked.kind) Aborted
-  may : (t : ℕ) (q : Request) → IsOutstanding S H t → request H t ≡ Some q → meant_in meant q.view q.asked.kind ≡ true → MayFollow S H e
+  means : (t : ℕ) (q : Request) → IsOutstanding S H t → request H t ≡ Some q → ending S H e t ≡ status_if (is_meant_in meant q.view q.asked.kind) Aborted
+  may : (t : ℕ) (q : Request) → IsOutstanding S H t → request H t ≡ Some q → is_meant_in meant q.view q.asked.kind ≡ true → MayFollow S H e
   adds_none : is_accept e ≡ false
   unmoving : is_done e ≡ false
   quiet : is_command e ≡ false
@@ -149,7 +149,7 @@ module _ {M : Type 0} (device : M → Device) (prepared : M → ℕ → Type 0) 
         let of = open-record Begin Before Before (mark_of Begin Before) c tells t abort-open.token abort-open.unmarked in
         let r = of.0 in let q = of.1 in let is = of.2 in
         aborting.may t q abort-open is.named
-        (ap (λ v. meant_in meant v q.asked.kind) (sym is.viewed) ∙ (ap (λ a. meant_in meant r.request.view a.kind) (sym is.asked) ∙ (sym (ap (λ m. is_some_meant meant (option_map (λ x. x.request) m)) is.there) ∙ both.1)))
+        (ap (λ v. is_meant_in meant v q.asked.kind) (sym is.viewed) ∙ (ap (λ a. is_meant_in meant r.request.view a.kind) (sym is.asked) ∙ (sym (ap (λ m. is_some_meant meant (option_map (λ x. x.request) m)) is.there) ∙ both.1)))
 
     is_ending : IsEnding Begin Before e
     is_ending = record {

@@ -23,7 +23,7 @@ use Rattle.disk_core.specs.declared.answers.Stored.{Stored}
 use Rattle.disk_core.specs.declared.answers.Stored.TheVariants as stored
 use Rattle.disk_core.specs.State.{State}
 use Rattle.disk_core.specs.Facts.{AreFacts}
-use Rattle.disk_core.specs.Calls.{Revokes, LendsFirst, StepSays, IsHeldBy, expected_of, GatesStored, StoreSays}
+use Rattle.disk_core.specs.Calls.{Revokes, LendsFirst, StepSays, IsHeldBy, expected_copy, GatesStored, StoreSays}
 use Rattle.history_laws.specs.Ranges.{low_in, high_in}
 use Rattle.disk_core.specs.Turns.{IsIdle, merge_of, StoresAtOnce}
 use Rattle.disk_core.proofs.TurnLemmas.{none-held, steps-turn}
@@ -100,9 +100,9 @@ module _ (old mid : State) (w : Lent) (todo : Todo) (q : Request) (is : IsSetup 
       record { gate = gate; token = token; request_is = same_Some _ _ (sym lends.work.named ∙ named) }
 
   -- the merged work is what is expected
-  expected : (g : Gate) (t : ℕ) (r : Request) → IsItsGate g t r → expected_of mid.setup r g ≡ (merge_of w).bytes
+  expected : (g : Gate) (t : ℕ) (r : Request) → IsItsGate g t r → expected_copy mid.setup r g ≡ (merge_of w).bytes
   expected g t r its =
-      ap (λ S. expected_of S r g) lends.makes.makes.setup ∙ (ap (λ v. expected_of old.setup v g) (sym its.request_is) ∙ (ap (expected_of old.setup q) its.gate
+      ap (λ S. expected_copy S r g) lends.makes.makes.setup ∙ (ap (λ v. expected_copy old.setup v g) (sym its.request_is) ∙ (ap (expected_copy old.setup q) its.gate
       ∙ (ap (λ n. patch w.bytes n (bytes_between old.setup q (low_in old.setup q w.block) (high_in old.setup q w.block (per_of old.setup)))) from-is
       ∙ ap (patch w.bytes w.from) (sym lends.work.patch))))
     where

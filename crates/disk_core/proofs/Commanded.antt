@@ -2,7 +2,7 @@
 use Rattle.std.proofs.Common.{◌≡◌, ℕ, ◌+◌, ◌*◌, ◌^◌, ◌<◌, ◌≤◌, Bool, true, false, List, ◌∷◌, length, take, Option, None, Some, refl, sym, ◌∙◌, ap, arith, Result, Ok, Err, IfErr}
 use Rattle.std.specs.Prelude.{if◌then◌else◌, option_map}
 use Rattle.byte_lists.specs.Patching.{patch}
-use Rattle.medium.specs.Device.{Device, IsSame, IsCommand, IsRead, IsWrite, IsSync, patch_told, written}
+use Rattle.medium.specs.Device.{Device, IsSame, IsCommand, IsRead, IsWrite, IsSync, patch_told, written_bytes}
 use Rattle.medium.specs.declared.block_failed.BlockFailed.{BlockFailed}
 use Rattle.disk_split.specs.declared.span.Span.{Span}
 use Rattle.history.specs.declared.entry.Command.{Command}
@@ -130,7 +130,7 @@ module _ (S : Setup) (H : List Entry) (t : ℕ) (d d' : Device) (few : length H 
 
   -- a write, whose bytes on the medium are those of the history, done or failed
   pub write-era : (command : Command) (lba : ℕ) (bytes : List ℕ) (result : Result (Unit {0}) BlockFailed) → is_sync command ≡ false → IsWrite d lba bytes result d'
-      → patch_told (contents S (media_id_of H) H) (lba * size_of S) (written result (size_of S) bytes) ≡ contents S (media_id_of H) (entry_for t command result ∷ H)
+      → patch_told (contents S (media_id_of H) H) (lba * size_of S) (written_bytes result (size_of S) bytes) ≡ contents S (media_id_of H) (entry_for t command result ∷ H)
       → MeetsEra S (entry_for t command result ∷ H) (media_id_of H) d'
   write-era command lba bytes result unsynced is holds =
       let e = entry_for t command result in
@@ -140,7 +140,7 @@ module _ (S : Setup) (H : List Entry) (t : ℕ) (d d' : Device) (few : length H 
   -- the whole groups of a unit: a put or a wipe
   pub run-written : (command : Command) (r : Request) (u : Span) (result : Result (Unit {0}) BlockFailed) → IsSetup S → request H t ≡ Some r → IsUnitCommand S r command u → is_change command ≡ true → u.whole ≡ true
       → IfErr result (λ fault. fault.done ≤ u.count)
-      → patch_told (contents S (media_id_of H) H) (u.block * size_of S) (written result (size_of S) (bytes_between S r u.low u.high)) ≡ contents S (media_id_of H) (entry_for t command result ∷ H)
+      → patch_told (contents S (media_id_of H) H) (u.block * size_of S) (written_bytes result (size_of S) (bytes_between S r u.low u.high)) ≡ contents S (media_id_of H) (entry_for t command result ∷ H)
   run-written command r u (Ok done) is named of change whole few =
       let low : u.low ≡ u.block * size_of S = run-low S.geometry (from_of S r) (until_of S r) u is.geometry of.unit whole in
       told-map (contents S (media_id_of H) H) (u.block * size_of S) (bytes_between S r u.low u.high)

@@ -27,7 +27,7 @@ use Rattle.disk_core.specs.State.{setup_of}
 use Rattle.disk_core.specs.Facts.{IsBuffer, buffer_length}
 use Rattle.disk_core.specs.Parts.{kept_from, state_of}
 use Rattle.disk_core.specs.Pieces.{bytes_in}
-use Rattle.disk_core.specs.Calls.{expected_of}
+use Rattle.disk_core.specs.Calls.{expected_copy}
 use Rattle.history_laws.specs.Ranges.{low_in, high_in}
 use Rattle.disk_core.specs.Moves.{IsDisk}
 use Rattle.disk_core.specs.Storage.{IsHeldPart}
@@ -149,7 +149,7 @@ module _ {M : Type 0} (device : M → Device) (prepared : M → ℕ → Type 0) 
 
     -- the copy with these bytes put in is what the group has to be
     pub composed : (recorded : Recorded) (place : ℕ) (bytes : List ℕ) → Some recorded ≡ request_at c.tokens part.token → place ≡ part.range.low - part.block * c.blocks.size → bytes ≡ bytes_in recorded part.range.low part.range.high
-        → patch g.copy place bytes ≡ expected_of S q g
+        → patch g.copy place bytes ≡ expected_copy S q g
     composed recorded place bytes found at is =
         let fits = part-in-record recorded found in
         λ i. patch g.copy ((at ∙ (λ j. held.low j - held.block j * size-same j)) i) ((is ∙ fits.bytes ∙ (λ j. bytes_between S q (held.low j) (held.high j))) i)
@@ -158,7 +158,7 @@ module _ {M : Type 0} (device : M → Device) (prepared : M → ℕ → Type 0) 
     unfolding request_at
     found-here r is = sym (ap (option_map (λ x. x.request)) is.there)
 
-    pub expected-long : length (expected_of S q g) ≡ group_size S.geometry
+    pub expected-long : length (expected_copy S q g) ≡ group_size S.geometry
     expected-long =
         let (r, is) = part-record in
         let fits = part-in-record r.request (found-here r is) in
@@ -181,10 +181,10 @@ module _ {M : Type 0} (device : M → Device) (prepared : M → ℕ → Type 0) 
     -- the buffer once the copy and the bytes were put in
     pub buffer-composed : (copy old bytes items : List ℕ) (recorded : Recorded) (place n : ℕ) → Some copy ≡ option_map (λ g. g.copy) (gate_of c.gates.held part.ticket) → items ≡ copy → old ≡ items → n ≡ length items
         → Some recorded ≡ request_at c.tokens part.token → place ≡ part.range.low - part.block * c.blocks.size → bytes ≡ bytes_in recorded part.range.low part.range.high
-        → take n (patch old place bytes ++ drop (length (patch old place bytes)) items) ≡ expected_of S q g
+        → take n (patch old place bytes ++ drop (length (patch old place bytes)) items) ≡ expected_copy S q g
     buffer-composed copy old bytes items recorded place n found items_is old_is long request at is =
         let same : old ≡ g.copy = old_is ∙ items_is ∙ copy-found copy found in
-        let all : patch old place bytes ≡ expected_of S q g = ap (λ xs. patch xs place bytes) same ∙ composed recorded place bytes request at is in
+        let all : patch old place bytes ≡ expected_copy S q g = ap (λ xs. patch xs place bytes) same ∙ composed recorded place bytes request at is in
         let count : length (patch old place bytes) ≡ group_size S.geometry = ap length all ∙ expected-long in
         let group = copy-long in
         let copied : length items ≡ length g.copy = ap length (items_is ∙ copy-found copy found) in

@@ -2,7 +2,7 @@
 use Rattle.std.proofs.Common.{◌≡◌, ℕ, ◌+◌, ◌-◌, ◌*◌, ◌/◌, ◌^◌, ◌<◌, ◌≤◌, true, false, List, ◌∷◌, length, take, drop, Option, None, Some, refl, sym, ◌∙◌, ap, subst, arith, Result, Ok, Err, OnOk, IfErr, IsSome, IfSome}
 use Rattle.std.specs.Prelude.{count_by, max, min}
 use Rattle.std.proofs.Math.Nat.{mul-le-mul_right, mul_comm, div-le_of_le-mul, lt_of_mul-lt-mul_right}
-use Rattle.medium.specs.Device.{Device, IsShaped, IsTransfer, IsWrite, patch_told, written}
+use Rattle.medium.specs.Device.{Device, IsShaped, IsTransfer, IsWrite, patch_told, written_bytes}
 use Rattle.medium.specs.declared.block_failed.BlockFailed.{BlockFailed}
 use Rattle.drive.specs.Drives.{DriveState, medium_in}
 use Rattle.disk_split.specs.declared.span.Span.{Span}
@@ -253,7 +253,7 @@ module _ {M : Type 0} (device : M → Device) (prepared : M → ℕ → Type 0) 
         (λ d d' does. record {
           command = does.command;
           era = λ meets. write-era S H todo.token d d' few-entries meets covers b (blocks_bytes own.request b n c.blocks.size) result cover.no_sync does
-              (subst (λ bytes. patch_told (contents S (media_id_of H) H) (b * size_of S) (written result (size_of S) bytes) ≡ contents S (media_id_of H) (entry_for todo.token covers result ∷ H)) (sym put-bytes)
+              (subst (λ bytes. patch_told (contents S (media_id_of H) H) (b * size_of S) (written_bytes result (size_of S) bytes) ≡ contents S (media_id_of H) (entry_for todo.token covers result ∷ H)) (sym put-bytes)
               (run-written S H todo.token d d' few-entries meets covers r u result sound.geometry moving.named of cover.changing refl (few-done result d d' meets.size does)));
         }) on
 

@@ -6,7 +6,7 @@ use Rattle.std.proofs.lemmas.List.{length-set, map-set}
 use Rattle.std.proofs.lemmas.List.Elements.{All-set}
 use Rattle.std.proofs.lemmas.Option.{same_Some, none-some}
 use Rattle.medium.specs.Device.{Device, IsSame, IsCommand, StayPrepared, failures}
-use Rattle.medium.specs.Counts.{adds, Rose}
+use Rattle.medium.specs.Counts.{capped_sum, Rose}
 use Rattle.medium.specs.declared.block_failed.BlockFailed.{BlockFailed}
 use Rattle.drive.specs.Drives.{DriveState, medium_in, with_medium, devices_of}
 use Rattle.history.specs.declared.entry.Entry.{Entry}
@@ -151,7 +151,7 @@ module _ {M : Type 0} (device : M → Device) (prepared : M → ℕ → Type 0) 
     was_in = rw (entries, was) device-in;
     devices = now ∙ (devices-set ∙ rw (entries, was) refl);
     calls = is.calls;
-    failed = is.failed ∙ ap (adds (device before).failed) (failures-same result);
+    failed = is.failed ∙ ap (capped_sum (device before).failed) (failures-same result);
     later = is.later;
     cause = rose-where (device before) (device after) result is.cause;
   }

@@ -23,7 +23,7 @@ use Rattle.disk_core.specs.Parts.{kept_of, state_of}
 use Rattle.disk_core.specs.Inside.{DriveFollows, AreReady}
 use Rattle.disk_core.specs.Moves.{IsDisk, with_entry, with_spare}
 use Rattle.disk_core.specs.Calls.{EndsBy, Revokes}
-use Rattle.disk_core.specs.Closing.{meant_in, GatesSoFar, RoomSoFar, IsClosing, IsToEnd, HaveEnded}
+use Rattle.disk_core.specs.Closing.{is_meant_in, GatesSoFar, RoomSoFar, IsClosing, IsToEnd, HaveEnded}
 use Rattle.disk_core.proofs.Following.{era-still}
 use Rattle.disk_core.proofs.Links.{StandsBeside, links-disk, disk-closed}
 use Rattle.disk_core.proofs.Begun.{begun, gates-begun}
@@ -105,7 +105,7 @@ module _ {M : Type 0} (device : M → Device) (prepared : M → ℕ → Type 0) 
         room
 
     pub more-to-end : (meant : Meant) (status : Status) (late : ℕ) → AreToldWhole Begin → RoomSoFar Begin (e ∷ Before) (mark_of Begin Before) late c
-        → ((t : ℕ) (q : Request) → IsOutstanding Begin Before t → request Before t ≡ Some q → ending Begin Before e t ≡ status_if (meant_in meant q.view q.asked.kind) status) → IsToEnd meant status Begin Before e late c
+        → ((t : ℕ) (q : Request) → IsOutstanding Begin Before t → request Before t ≡ Some q → ending Begin Before e t ≡ status_if (is_meant_in meant q.view q.asked.kind) status) → IsToEnd meant status Begin Before e late c
     unfolding state_of
     more-to-end meant status late whole room means = record {
       closing = more-closing late whole room;

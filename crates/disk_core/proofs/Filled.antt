@@ -18,7 +18,7 @@ use Rattle.disk_core.specs.declared.answers.Stored.TheVariants as stored
 use Rattle.disk_core.specs.declared.answers.HeldStored.TheVariants as held_stored
 use Rattle.disk_core.specs.State.{setup_of}
 use Rattle.disk_core.specs.Parts.{state_of}
-use Rattle.disk_core.specs.Calls.{Stores, StoreSays, HeldStoreSays, expected_of}
+use Rattle.disk_core.specs.Calls.{Stores, StoreSays, HeldStoreSays, expected_copy}
 use Rattle.disk_core.specs.Moves.{IsDisk, Reaches}
 use Rattle.disk_core.specs.Storage.{IsHeldPart, IsStoring}
 use Rattle.disk_core.proofs.Composed.{expected-long}
@@ -40,7 +40,7 @@ module _ {M : Type 0} (device : M → Device) (prepared : M → ℕ → Type 0) 
     says = (and_right (is_out c.gates w.ticket) (eqb (length w.bytes) c.gates.size) (ne_eqb (length w.bytes) c.gates.size (λ same. other (same ∙ sound.facts.gates.sized ∙ sym sound.fitted.group))), refl, refl);
   }
 
-  module _ (part : Part) (g : Gate) (q : Request) (held : IsHeldPart S c part g q) (mid : Core) (is : mid ≡ record c { group = mid.group }) (group : mid.group.items ≡ expected_of S q g) where
+  module _ (part : Part) (g : Gate) (q : Request) (held : IsHeldPart S c part g q) (mid : Core) (is : mid ≡ record c { group = mid.group }) (group : mid.group.items ≡ expected_copy S q g) where
     pub long : length mid.group.items ≡ length c.group.items
     long = ap length group ∙ expected-long device prepared drive c sound shaped part g q held ∙ sym sound.fitted.group
 

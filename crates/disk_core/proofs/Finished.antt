@@ -10,7 +10,7 @@ use Rattle.history.specs.Commands.{is_get}
 use Rattle.history.specs.Marks.{mark_of}
 use Rattle.history.specs.Tasks.{Task}
 use Rattle.history_laws.specs.Left.{task_bytes, left_of}
-use Rattle.history_laws.specs.Told.{concerns}
+use Rattle.history_laws.specs.TokenFacts.{concerns}
 use Rattle.history_laws.proofs.CountLemmas.{accepted-same}
 use Rattle.history_laws.proofs.TokenLemmas.{request-stays, done-concerns, collected-same}
 use Rattle.token_table.specs.declared.record.Record.{Record}

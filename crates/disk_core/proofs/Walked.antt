@@ -23,7 +23,7 @@ use Rattle.disk_core.specs.declared.parts.Core.{Core}
 use Rattle.disk_core.specs.declared.ending.Meant.{Meant}
 use Rattle.disk_core.specs.Facts.{KeptFollow}
 use Rattle.disk_core.specs.Parts.{kept_from, kept_of}
-use Rattle.disk_core.specs.Closing.{IsClosing, meant_in, is_some_meant, is_queued, AreSorted}
+use Rattle.disk_core.specs.Closing.{IsClosing, is_meant_in, is_some_meant, is_queued, AreSorted}
 use Rattle.disk_core.proofs.Kept.{kept-record}
 use Rattle.history_laws.proofs.OwingLemmas.{open-kept}
 use Rattle.disk_core.proofs.Links.{AreClosed}
@@ -148,11 +148,11 @@ module _ (S : Setup) (H G : List Entry) (marks : ℕ → Option Status) (c : Cor
       by (Some r) is = (let of = tells.records t r is in (r, of.0, record { there = is; named = sym (tells.same t) ∙ of.1; viewed = of.2; asked = of.3 }))
 
   -- whether an open token is meant says whether the entry ends it
-  pub open-answers : (meant : Meant) (status : Status) (e : Entry) → ((t : ℕ) (q : Request) → IsOutstanding S H t → request H t ≡ Some q → ending S H e t ≡ status_if (meant_in meant q.view q.asked.kind) status)
+  pub open-answers : (meant : Meant) (status : Status) (e : Entry) → ((t : ℕ) (q : Request) → IsOutstanding S H t → request H t ≡ Some q → ending S H e t ≡ status_if (is_meant_in meant q.view q.asked.kind) status)
       → (t : ℕ) → IsOutstanding S H t → marks t ≡ None → ending S H e t ≡ status_if (is_some_meant meant (request_at c.tokens t)) status
   unfolding request_at
   open-answers meant status e means t open_now unmarked =
       let of = open-record t open_now.token unmarked in
       let r = of.0 in let q = of.1 in let is = of.2 in
       means t q open_now is.named
-      ∙ ap (λ b. status_if b status) (ap (λ v. meant_in meant v q.asked.kind) (sym is.viewed) ∙ (ap (λ a. meant_in meant r.request.view a.kind) (sym is.asked) ∙ sym (ap (λ m. is_some_meant meant (option_map (λ x. x.request) m)) is.there)))
+      ∙ ap (λ b. status_if b status) (ap (λ v. is_meant_in meant v q.asked.kind) (sym is.viewed) ∙ (ap (λ a. is_meant_in meant r.request.view a.kind) (sym is.asked) ∙ sym (ap (λ m. is_some_meant meant (option_map (λ x. x.request) m)) is.there)))

@@ -8,7 +8,7 @@ use Rattle.history.specs.Setup.{Setup}
 use Rattle.history.specs.Tokens.{token_count}
 use Rattle.history.specs.Marks.{mark_of, ending, status_if, is_outstanding, IsOutstanding}
 use Rattle.history.specs.Tasks.{units_left}
-use Rattle.history_laws.specs.Left.{ended_before, ended_by}
+use Rattle.history_laws.specs.Left.{end_count_before, end_count}
 use Rattle.history_laws.proofs.CountLemmas.{accepted-same}
 use Rattle.history_laws.proofs.EndLemmas.{mark-next, mark-stays, unaccepted, untold-mark}
 use Rattle.history_laws.proofs.NextLemmas.{outstanding-test, outstanding-from}
@@ -67,7 +67,7 @@ revokes-both r s t one two = record {
 -- the meant tokens before `from` have ended, so many
 pub record SoFar (S : Setup) (H : List Entry) (e : Entry) (late : ℕ) (initial c : Core) (from count : ℕ) : Type 0 where
   pub closing : IsClosing S (e ∷ H) (marks_below S H e from) (units_left S H) (late - count) c
-  pub counted : count ≡ ended_before S H e from
+  pub counted : count ≡ end_count_before S H e from
   pub within : from ≤ token_count H
   pub rest : StaysBeside initial c
   pub kept : kept_of c.tokens ≡ kept_of initial.tokens
@@ -78,7 +78,7 @@ abbrev pub WalkedTo : Meant → Status → Core → Core → ℕ → ℕ → Typ
 WalkedTo meant status initial c from count = (S : Setup) (H : List Entry) (e : Entry) (late : ℕ) → IsToEnd meant status S H e late initial → SoFar S H e late initial c from count
 
 begins-at-none : (meant : Meant) (status : Status) (c : Core) → WalkedTo meant status c c 0 0
-unfolding ended_before
+unfolding end_count_before
 begins-at-none meant status c S H e late to_end = record {
   closing = subst (λ n. IsClosing S (e ∷ H) (marks_below S H e 0) (units_left S H) n c) (let same : late ≡ late - 0 = omega arith in same) (subst (λ m. IsClosing S (e ∷ H) m (units_left S H) late c) (λ i u. (sym (below-else S H e 0 u (omega arith))) i) to_end.closing);
   counted = refl;
@@ -166,8 +166,8 @@ module _ (meant : Meant) (status : Status) (S : Setup) (H : List Entry) (e : Ent
       ]
     ]
 
-    next-counted : count + 1 ≡ ended_before S H e (t + 1)
-    unfolding ended_before
+    next-counted : count + 1 ≡ end_count_before S H e (t + 1)
+    unfolding end_count_before
     next-counted =
         let one : t + 1 ≡ suc t = omega arith in
         let passed = ended-none S H e from t next.0 (λ u above below. unmeant-uncounted u above (next.2 u above below)) in
@@ -189,7 +189,7 @@ module _ (meant : Meant) (status : Status) (S : Setup) (H : List Entry) (e : Ent
 
   -- ---- or none is
   pub walk-over : IsNextMeant c meant from None → HaveEnded S H e late initial c count
-  unfolding ended_by
+  unfolding end_count
   walk-over none = record {
     closing = subst (λ m. IsClosing S (e ∷ H) m (units_left S H) (late - count) c) (λ i u. all u i) so_far.closing;
     counted = so_far.counted ∙ sym (ended-none S H e from (token_count H) so_far.within (λ u above below. unmeant-uncounted u above (none u above)));

@@ -8,7 +8,7 @@ use Rattle.disk_core.proofs.Prepared.{medium-place}
 use Rattle.disk_core.proofs.Setups.{all-at}
 use Rattle.token_table.specs.declared.record.Mark.{Mark}
 use Rattle.std.proofs.lemmas.Nat.{mul-le, le-div, div_below}
-use Rattle.medium.specs.Device.{Device, IsShaped, IsTransfer, IsWrite, AreToldAt, patch_told, written}
+use Rattle.medium.specs.Device.{Device, IsShaped, IsTransfer, IsWrite, AreToldAt, patch_told, written_bytes}
 use Rattle.medium.specs.declared.block_failed.BlockFailed.{BlockFailed}
 use Rattle.drive.specs.Drives.{DriveState, medium_in}
 use Rattle.disk_split.specs.declared.span.Span.{Span}
@@ -35,7 +35,7 @@ use Rattle.disk_core.specs.declared.parts.Core.{Core}
 use Rattle.disk_core.specs.declared.storing.Part.{Part}
 use Rattle.disk_core.specs.State.{setup_of}
 use Rattle.disk_core.specs.Parts.{state_of}
-use Rattle.disk_core.specs.Calls.{expected_of}
+use Rattle.disk_core.specs.Calls.{expected_copy}
 use Rattle.disk_core.specs.Moves.{HasPlace}
 use Rattle.disk_core.specs.Storage.{IsStoring}
 use Rattle.disk_core.proofs.Admitted.{blocks-of}
@@ -194,16 +194,16 @@ module _ {M : Type 0} (device : M → Device) (prepared : M → ℕ → Type 0) 
 
   -- the medium holds what the history says, done or failed
   store-contents : (result : Result (Unit {0}) BlockFailed) → IfErr result (λ fault. fault.done ≤ per_of S)
-      → patch_told (contents S (media_id_of H) H) (part.block * size_of S) (written result (size_of S) c.group.items) ≡ contents S (media_id_of H) (entry_for part.token (Store g.block) result ∷ H)
+      → patch_told (contents S (media_id_of H) H) (part.block * size_of S) (written_bytes result (size_of S) c.group.items) ≡ contents S (media_id_of H) (entry_for part.token (Store g.block) result ∷ H)
   store-contents result few =
-      subst (λ n. patch_told (contents S (media_id_of H) H) (n * size_of S) (written result (size_of S) c.group.items) ≡ contents S (media_id_of H) (entry_for part.token (Store g.block) result ∷ H)) (sym is.held.block)
-      (subst (λ bytes. patch_told (contents S (media_id_of H) H) (g.block * size_of S) (written result (size_of S) bytes) ≡ contents S (media_id_of H) (entry_for part.token (Store g.block) result ∷ H)) (sym is.group) (by result few))
+      subst (λ n. patch_told (contents S (media_id_of H) H) (n * size_of S) (written_bytes result (size_of S) c.group.items) ≡ contents S (media_id_of H) (entry_for part.token (Store g.block) result ∷ H)) (sym is.held.block)
+      (subst (λ bytes. patch_told (contents S (media_id_of H) H) (g.block * size_of S) (written_bytes result (size_of S) bytes) ≡ contents S (media_id_of H) (entry_for part.token (Store g.block) result ∷ H)) (sym is.group) (by result few))
     where
       at-bytes : (bytes : List ℕ) → contents S (media_id_of H) H ≡ Some bytes → g.copy ≡ take (length g.copy) (drop (g.block * size_of S) bytes)
       at-bytes bytes told = from-told (contents S (media_id_of H) H) (g.block * size_of S) g.copy bytes copied told
 
       by : (result : Result (Unit {0}) BlockFailed) → IfErr result (λ fault. fault.done ≤ per_of S)
-          → patch_told (contents S (media_id_of H) H) (g.block * size_of S) (written result (size_of S) (expected_of S q g)) ≡ contents S (media_id_of H) (entry_for part.token (Store g.block) result ∷ H)
+          → patch_told (contents S (media_id_of H) H) (g.block * size_of S) (written_bytes result (size_of S) (expected_copy S q g)) ≡ contents S (media_id_of H) (entry_for part.token (Store g.block) result ∷ H)
       by (Ok done) few = told-patch _ _ _ ∙ stored-done S H part.token q u is.held.named of-unit g.copy copy-size on-medium at-bytes put-long
       by (Err fault) few = told-patch _ _ _ ∙ stored-failed S H part.token q u is.held.named of-unit g.copy copy-size on-medium at-bytes put-long fault.done few
 

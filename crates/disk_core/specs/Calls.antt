@@ -3,7 +3,7 @@
 use Rattle.std.specs.Prelude.{◌≡◌, ◌≢◌, ℕ, zero, suc, ◌+◌, ◌-◌, ◌*◌, ◌<◌, ◌≤◌, ◌⊎◌, Bool, true, false, nat_lt, List, [], ◌∷◌, ◌++◌, length, take, slice_get, slice_set, Option, None, Some, IsSome, Result, Ok, Err}
 use Rattle.byte_lists.specs.Patching.{patch}
 use Rattle.medium.specs.Device.{Device, AreToldAt}
-use Rattle.medium.specs.Counts.{adds, Rose}
+use Rattle.medium.specs.Counts.{capped_sum, Rose}
 use Rattle.efi_status.specs.declared.Status.{Status}
 use Rattle.history.specs.declared.entry.View.{View}
 use Rattle.history.specs.declared.entry.Kind.TheVariants.{Read, Write, Flush, Erase}
@@ -21,7 +21,7 @@ use Rattle.history.specs.Marks.{mark_of, is_held, fetches, HoldsBy}
 use Rattle.history.specs.Rules.{refusal_of, IsLegal}
 use Rattle.history.specs.Tasks.{Todo, first_runnable, task_command}
 use Rattle.history.specs.Next.{first_open, Outcome, Made, Failed, entry_of}
-use Rattle.history_laws.specs.Left.{ended_by}
+use Rattle.history_laws.specs.Left.{end_count}
 use Rattle.history_laws.specs.Ranges.{low_in, high_in}
 use Rattle.token_table.specs.declared.record.Done.{Done}
 use Rattle.token_table.specs.declared.record.Mark.{Mark}
@@ -141,8 +141,8 @@ pub record IsCommanded (old : State) (outcome : Outcome) (new : State) : Type 0 
   pub after : Device
   pub was_in : slice_get old.devices (inserts old.entries) ≡ Some before
   pub devices : new.devices ≡ slice_set old.devices (inserts old.entries) after
-  pub calls : after.calls ≡ adds before.calls 1
-  pub failed : after.failed ≡ adds before.failed (failures_of outcome)
+  pub calls : after.calls ≡ capped_sum before.calls 1
+  pub failed : after.failed ≡ capped_sum before.failed (failures_of outcome)
   pub later : before.faults ≤ after.faults
   pub cause : (done : ℕ) → outcome ≡ Failed done → Rose before.faults after.faults
 
@@ -220,8 +220,8 @@ pub record IsHeldBy (old : State) (k : ℕ) (g : Gate) (t : ℕ) (q : Request) :
   pub named : request old.entries t ≡ Some q
 
 -- the copy with the token's bytes put in
-abbrev pub expected_of : Setup → Request → Gate → List ℕ
-expected_of S q g = patch g.copy (low_in S q g.block - g.block * size_of S) (bytes_between S q (low_in S q g.block) (high_in S q g.block (per_of S)))
+abbrev pub expected_copy : Setup → Request → Gate → List ℕ
+expected_copy S q g = patch g.copy (low_in S q g.block - g.block * size_of S) (bytes_between S q (low_in S q g.block) (high_in S q g.block (per_of S)))
 
 -- the gates after a store from these: the ticket's set is free again or its work is still out, and where it failed the token's other
 -- gate is revoked
@@ -238,14 +238,14 @@ pub record Stores (old : State) (lent : Gates) (k : ℕ) (g : Gate) (t : ℕ) (q
 -- the work differs from its copy with the token's bytes put in, at this place first
 pub record Differs (old : State) (w : Lent) (g : Gate) (t : ℕ) (q : Request) (place expected found : ℕ) : Type 0 where
   pub held : IsHeldBy old w.ticket g t q
-  pub before : take place w.bytes ≡ take place (expected_of old.setup q g)
-  pub wanted : slice_get (expected_of old.setup q g) place ≡ Some expected
+  pub before : take place w.bytes ≡ take place (expected_copy old.setup q g)
+  pub wanted : slice_get (expected_copy old.setup q g) place ≡ Some expected
   pub has : slice_get w.bytes place ≡ Some found
   pub differs : expected ≢ found
 
 -- a work of this disk, the same as its copy with the token's bytes put in, was written
 pub record StoresWork (old : State) (w : Lent) (g : Gate) (t : ℕ) (q : Request) (outcome : Outcome) (new : State) : Type 0 where
-  pub same : w.bytes ≡ expected_of old.setup q g
+  pub same : w.bytes ≡ expected_copy old.setup q g
   pub stores : Stores old (with_work_back old.gates w.ticket) w.ticket g t q outcome new
 
 -- a store: of another disk's work, of a late one, of a changed one, or of one that is written
@@ -293,7 +293,7 @@ CollectSays old tag number (Err not_there.Unknown) new = IsUnknown old number ×
 
 -- an entry ends so many tokens
 pub record EndsBy (old : State) (e : Entry) (count : ℕ) (new : State) : Type 0 where
-  pub counted : count ≡ ended_by old.setup old.entries e
+  pub counted : count ≡ end_count old.setup old.entries e
   pub setup : new.setup ≡ old.setup
   pub entries : new.entries ≡ e ∷ old.entries
   pub legal : IsLegal new.setup new.entries
@@ -303,7 +303,7 @@ pub record EndsBy (old : State) (e : Entry) (count : ℕ) (new : State) : Type 0
 
 -- a cancel or a reset: without a token to end it has no entry
 unfoldable pub EndSays : State → Entry → ℕ → State → Type 0
-EndSays old e zero new = (ended_by old.setup old.entries e ≡ 0) × (new ≡ old)
+EndSays old e zero new = (end_count old.setup old.entries e ≡ 0) × (new ≡ old)
 EndSays old e (suc n) new = EndsBy old e (suc n) new
 
 unfoldable pub EjectSays : State → ℕ → Result ℕ EjectRefused → State → Type 0

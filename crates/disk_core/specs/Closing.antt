@@ -18,7 +18,7 @@ use Rattle.history.specs.Rules.{IsLegal}
 use Rattle.history.specs.Tasks.{Todo, units_left}
 use Rattle.history.specs.Room.{commands_owed}
 use Rattle.history_laws.specs.OwedSoFar.{owed_so_far}
-use Rattle.history_laws.specs.Left.{ended_by}
+use Rattle.history_laws.specs.Left.{end_count}
 use Rattle.history_laws.specs.Pending.{Ordered}
 use Rattle.token_table.specs.declared.record.Request.{Request as RequestOf}
 use Rattle.token_table.specs.Records.{request_at}
@@ -84,14 +84,14 @@ pub record IsClosing (S : Setup) (H : List Entry) (marks : ℕ → Option Status
   pub room : RoomSoFar S H marks late c
 
 -- whether a request with this view and kind is meant
-abbrev pub meant_in : Meant → View → Kind → Bool
-meant_in (OfView other) view kind = is_same_view view other
-meant_in Changes view kind = changes_bytes kind
-meant_in All view kind = true
+abbrev pub is_meant_in : Meant → View → Kind → Bool
+is_meant_in (OfView other) view kind = is_same_view view other
+is_meant_in Changes view kind = changes_bytes kind
+is_meant_in All view kind = true
 
 abbrev pub is_some_meant : Meant → Option RequestOf → Bool
 is_some_meant meant None = false
-is_some_meant meant (Some r) = meant_in meant r.view r.asked.kind
+is_some_meant meant (Some r) = is_meant_in meant r.view r.asked.kind
 
 -- a token has a unit in the queue, and is meant
 abbrev pub is_queued : Core → ℕ → Bool
@@ -116,7 +116,7 @@ AreSorted queue = Ordered (λ one other. token_of one ≤ token_of other) queue
 -- the entry `e` was added to `H`; it ends the meant tokens with this status, and none of them has ended in the parts
 pub record IsToEnd (meant : Meant) (status : Status) (S : Setup) (H : List Entry) (e : Entry) (late : ℕ) (c : Core) : Type 0 where
   pub closing : IsClosing S (e ∷ H) (mark_of S H) (units_left S H) late c
-  pub means : (t : ℕ) (q : Request) → IsOutstanding S H t → request H t ≡ Some q → ending S H e t ≡ status_if (meant_in meant q.view q.asked.kind) status
+  pub means : (t : ℕ) (q : Request) → IsOutstanding S H t → request H t ≡ Some q → ending S H e t ≡ status_if (is_meant_in meant q.view q.asked.kind) status
   pub adds_none : is_accept e ≡ false
   pub accepts : c.accepted ≡ token_count H
   pub lent : (k : ℕ) (g : Gate) → gate_of c.gates.held k ≡ Some g → g.out ≡ true
@@ -128,7 +128,7 @@ HasToEnd meant status c = (S : Setup) × (H : List Entry) × (e : Entry) × (lat
 -- all of them have ended, so many
 pub record HaveEnded (S : Setup) (H : List Entry) (e : Entry) (late : ℕ) (c c' : Core) (count : ℕ) : Type 0 where
   pub closing : IsClosing S (e ∷ H) (mark_of S (e ∷ H)) (units_left S H) (late - count) c'
-  pub counted : count ≡ ended_by S H e
+  pub counted : count ≡ end_count S H e
   pub rest : StaysBeside c c'
   pub kept : kept_of c'.tokens ≡ kept_of c.tokens
   pub revokes : Revokes c.gates c'.gates

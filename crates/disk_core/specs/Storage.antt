@@ -9,7 +9,7 @@ use Rattle.drive.specs.Drives.{DriveState}
 use Rattle.disk_core.specs.declared.storing.Part.{Part}
 use Rattle.disk_core.specs.declared.parts.Core.{Core}
 use Rattle.disk_core.specs.State.{setup_of}
-use Rattle.disk_core.specs.Calls.{expected_of}
+use Rattle.disk_core.specs.Calls.{expected_copy}
 use Rattle.history_laws.specs.Ranges.{low_in, high_in}
 use Rattle.disk_core.specs.Moves.{IsDisk}
 
@@ -31,4 +31,4 @@ pub record IsStoring {M : Type 0} (device : M → Device) (prepared : M → ℕ 
   pub held : IsHeldPart (setup_of device drive c.protected_at_first) (record c { gates = before }) part g q
   pub lent : (c.gates ≡ before) ⊎ (c.gates ≡ with_work_back before part.ticket)
   pub apart : AreSound c.gates
-  pub group : c.group.items ≡ expected_of (setup_of device drive c.protected_at_first) q g
+  pub group : c.group.items ≡ expected_copy (setup_of device drive c.protected_at_first) q g

@@ -4,7 +4,7 @@ ghost use Rattle.history.specs.declared.entry.Entry.{Entry as EntryOf};
 ghost use Rattle.token_table.specs.Records.{request_at};
 ghost use Rattle.subtask_queue.specs.Subs.{AreBelow};
 ghost use Rattle.disk_core.specs.Calls.{EndSays};
-ghost use Rattle.disk_core.specs.Closing.{meant_in, is_some_meant, IsNextMeant, AreSorted, HasToEnd, EndsMeant, IsAbort, NoneMeantBefore};
+ghost use Rattle.disk_core.specs.Closing.{is_meant_in, is_some_meant, IsNextMeant, AreSorted, HasToEnd, EndsMeant, IsAbort, NoneMeantBefore};
 ghost use Rattle.disk_core.specs.Moves.{IsDisk, Reaches};
 
 use crate::entering::{end_token, enter};
@@ -24,7 +24,7 @@ pub enum Meant {
 
 // Whether a request with this view and kind is meant.
 fn is_meant_of(meant: Meant, view: View, kind: Kind) -> bool
-    ensures { result ≡ meant_in meant view kind }
+    ensures { result ≡ is_meant_in meant view kind }
 {
     match meant {
         Meant::OfView(other) => view == other,

@@ -5,7 +5,7 @@ ghost use Rattle.history.specs.Tokens.{Request as Asking};
 ghost use Rattle.history.specs.Next.{Outcome};
 ghost use Rattle.disk_core.specs.State.{setup_of};
 ghost use Rattle.disk_core.specs.Parts.{holder_of};
-ghost use Rattle.disk_core.specs.Calls.{expected_of, StoreSays, HeldStoreSays, Stores};
+ghost use Rattle.disk_core.specs.Calls.{expected_copy, StoreSays, HeldStoreSays, Stores};
 ghost use Rattle.disk_core.specs.Moves.{IsDisk, Reaches};
 ghost use Rattle.disk_core.specs.Storage.{IsPartIn, IsStoring};
 
@@ -75,7 +75,7 @@ fn compose<M: Medium>(_drive: &Drive<M>, core: &mut Core, part: &Part)
     ensures core { core.new ≡ record core.old { group = core.new.group } }
     ensures group { (g : Gate) (q : Asking) → IsPartIn M.device _drive.now core.old part.now g q
         → core.new.group.items
-        ≡ expected_of (setup_of M.device _drive.now core.old.protected_at_first) q g }
+        ≡ expected_copy (setup_of M.device _drive.now core.old.protected_at_first) q g }
 {
     let Some(copy) = core.gates.copy(part.ticket) else {
         unreachable!()

@@ -67,14 +67,14 @@ unfoldable pub commands_owed : Setup → List Entry → ℕ → Request → ℕ
 commands_owed S H t r = sum_by (task_owed r.asked.kind H t) (tasks_of S r)
 
 -- an outstanding token owes its commands, an entry that ends it, and its collect; an ended one its collect
-abbrev pub owed_by : Setup → List Entry → ℕ → Option Request → Option Status → Bool → ℕ
-owed_by S H t None mark collected = 0
-owed_by S H t (Some r) None collected = commands_owed S H t r + 2
-owed_by S H t (Some r) (Some status) true = 0
-owed_by S H t (Some r) (Some status) false = 1
+abbrev pub request_owed : Setup → List Entry → ℕ → Option Request → Option Status → Bool → ℕ
+request_owed S H t None mark collected = 0
+request_owed S H t (Some r) None collected = commands_owed S H t r + 2
+request_owed S H t (Some r) (Some status) true = 0
+request_owed S H t (Some r) (Some status) false = 1
 
 unfoldable pub token_owed : Setup → List Entry → ℕ → ℕ
-token_owed S H t = owed_by S H t (request H t) (mark_of S H t) (was_collected H t)
+token_owed S H t = request_owed S H t (request H t) (mark_of S H t) (was_collected H t)
 
 -- what the first n tokens owe
 unfoldable pub tokens_owed : Setup → List Entry → ℕ → ℕ

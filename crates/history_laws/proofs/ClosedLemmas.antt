@@ -12,7 +12,7 @@ use Rattle.history.specs.Marks.{first_from, has_view, mark_of, is_outstanding, I
 use Rattle.history.specs.Rules.{MayFollow, IsLegal}
 use Rattle.history.specs.Tasks.{Todo, units_left}
 use Rattle.history.specs.Next.{first_open, Outcome, Made, Failed, entry_of}
-use Rattle.history_laws.specs.Left.{ended_by}
+use Rattle.history_laws.specs.Left.{end_count}
 use Rattle.history_laws.proofs.EndLemmas.{mark-stays, command-open}
 use Rattle.history_laws.proofs.EndedLemmas.{ended-some, ended-no}
 use Rattle.history_laws.specs.Serving.{AreWhileOpen}
@@ -77,14 +77,14 @@ and-second true b is = is
 and-second false b is = cc
 
 -- a cancel ends a token exactly where one of its view is outstanding
-pub cancel-some : (S : Setup) (H : List Entry) (tag : ℕ) (view : View) (t : ℕ) → first_from (λ t. is_outstanding S H t && has_view view (request H t)) 0 (token_count H) ≡ Some t → 1 ≤ ended_by S H (Cancel tag view)
+pub cancel-some : (S : Setup) (H : List Entry) (tag : ℕ) (view : View) (t : ℕ) → first_from (λ t. is_outstanding S H t && has_view view (request H t)) 0 (token_count H) ≡ Some t → 1 ≤ end_count S H (Cancel tag view)
 unfolding ending
 cancel-some S H tag view t some =
     let found = first_from-some (λ t. is_outstanding S H t && has_view view (request H t)) 0 (token_count H) t some in
     let viewed : has_view view (request H t) ≡ true = and-second (is_outstanding S H t) (has_view view (request H t)) found.2 in
     ended-some S H (Cancel tag view) t Status.Aborted (outstanding-from S H t (and-first (is_outstanding S H t) (has_view view (request H t)) found.2)) (rw viewed refl)
 
-pub cancel-none : (S : Setup) (H : List Entry) (tag : ℕ) (view : View) → first_from (λ t. is_outstanding S H t && has_view view (request H t)) 0 (token_count H) ≡ None → ended_by S H (Cancel tag view) ≡ 0
+pub cancel-none : (S : Setup) (H : List Entry) (tag : ℕ) (view : View) → first_from (λ t. is_outstanding S H t && has_view view (request H t)) 0 (token_count H) ≡ None → end_count S H (Cancel tag view) ≡ 0
 unfolding ending
 cancel-none S H tag view none = ended-no S H (Cancel tag view) (λ t there.
     let fails : (is_outstanding S H t && has_view view (request H t)) ≡ false = first_from-fails (λ t. is_outstanding S H t && has_view view (request H t)) 0 (token_count H) t none (omega arith) (omega (arith, there.token)) in
@@ -92,14 +92,14 @@ cancel-none S H tag view none = ended-no S H (Cancel tag view) (λ t there.
     rw viewed refl)
 
 -- so a reset, where any is
-pub reset-some : (S : Setup) (H : List Entry) (tag t : ℕ) → first_open S H ≡ Some t → 1 ≤ ended_by S H (Reset tag)
+pub reset-some : (S : Setup) (H : List Entry) (tag t : ℕ) → first_open S H ≡ Some t → 1 ≤ end_count S H (Reset tag)
 unfolding ending
 reset-some S H tag t some =
     let found = first-open-some S H t some in
     let there : IsOutstanding S H t = found.0 in
     ended-some S H (Reset tag) t Status.Aborted there (rw (lt-ltb t (token_count H) there.token) refl)
 
-pub reset-none : (S : Setup) (H : List Entry) (tag : ℕ) → first_open S H ≡ None → ended_by S H (Reset tag) ≡ 0
+pub reset-none : (S : Setup) (H : List Entry) (tag : ℕ) → first_open S H ≡ None → end_count S H (Reset tag) ≡ 0
 reset-none S H tag none = ended-no S H (Reset tag) (λ t there. absurd (first-open-fails S H t none there))
 
 -- where no token is outstanding no unit is unfinished

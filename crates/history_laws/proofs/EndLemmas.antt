@@ -16,9 +16,9 @@ use Rattle.history.specs.Contents.{bytes_read}
 use Rattle.history.specs.Marks.{mark_of, ending, status_if, or_else, is_complete, is_some_change, has_view, ticket_of, IsOutstanding}
 use Rattle.history.specs.Room.{commands_of}
 use Rattle.history.specs.Rules.{IsLegal, MayFollow, MayCommand}
-use Rattle.history_laws.specs.Told.{Told, told, IsUntold, concerns}
+use Rattle.history_laws.specs.TokenFacts.{TokenFacts, facts_of, IsUntold, concerns}
 use Rattle.history_laws.proofs.CountLemmas.{accepted-more, accepted-same}
-use Rattle.history_laws.proofs.TokenLemmas.{told-other, bytes_read-other, ticket_of-other, request-some}
+use Rattle.history_laws.proofs.TokenLemmas.{facts_of-other, bytes_read-other, ticket_of-other, request-some}
 
 -- an ended token stays as it ended
 pub mark-stays : (S : Setup) (H : List Entry) (e : Entry) (t : ℕ) (status : Status) → mark_of S H t ≡ Some status → mark_of S (e ∷ H) t ≡ Some status
@@ -90,38 +90,38 @@ accepted-rises H e = omega (arith, accepted-same H e refl)
 
 untold-other : (S : Setup) (H : List Entry) (e : Entry) (t : ℕ) → concerns H e t ≡ false → IsUntold S H t → IsUntold S (e ∷ H) t
 untold-other S H e t other is = record {
-  told = told-other S H e t other ∙ is.told;
+  told = facts_of-other S H e t other ∙ is.told;
   unread = λ x. bytes_read-other S H e t x other ∙ is.unread x;
   unticketed = λ b. ticket_of-other H e t b other ∙ is.unticketed b;
 }
 
 -- the parts of what is told of a token that is not yet accepted
 pub untold-request : (S : Setup) (H : List Entry) (t : ℕ) → IsUntold S H t → request H t ≡ None
-unfolding told
-untold-request S H t is = ap (λ (s : Told). s.named) is.told
+unfolding facts_of
+untold-request S H t is = ap (λ (s : TokenFacts). s.named) is.told
 
 pub untold-mark : (S : Setup) (H : List Entry) (t : ℕ) → IsUntold S H t → mark_of S H t ≡ None
-unfolding told
-untold-mark S H t is = ap (λ (s : Told). s.mark) is.told
+unfolding facts_of
+untold-mark S H t is = ap (λ (s : TokenFacts). s.mark) is.told
 
 pub untold-collected : (S : Setup) (H : List Entry) (t : ℕ) → IsUntold S H t → was_collected H t ≡ false
-unfolding told
-untold-collected S H t is = ap (λ (s : Told). s.collected) is.told
+unfolding facts_of
+untold-collected S H t is = ap (λ (s : TokenFacts). s.collected) is.told
 
 pub untold-done : (S : Setup) (H : List Entry) (t : ℕ) → IsUntold S H t → done_commands H t ≡ []
-unfolding told
-untold-done S H t is = ap (λ (s : Told). s.done) is.told
+unfolding facts_of
+untold-done S H t is = ap (λ (s : TokenFacts). s.done) is.told
 
 pub untold-has_done : (S : Setup) (test : Command → Bool) (H : List Entry) (t : ℕ) → IsUntold S H t → has_done test H t ≡ false
 unfolding has_done
 untold-has_done S test H t is = rw (untold-done S H t is)
 
 pub untold-commands : (S : Setup) (H : List Entry) (t : ℕ) → IsUntold S H t → commands_of H t ≡ 0
-unfolding told
-untold-commands S H t is = ap (λ (s : Told). s.made) is.told
+unfolding facts_of
+untold-commands S H t is = ap (λ (s : TokenFacts). s.made) is.told
 
 untold-none : (S : Setup) (t : ℕ) → IsUntold S [] t
-unfolding told request mark_of was_collected done_commands commands_of bytes_read ticket_of
+unfolding facts_of request mark_of was_collected done_commands commands_of bytes_read ticket_of
 untold-none S t = record { told = refl; unread = λ x. refl; unticketed = λ b. refl }
 
 -- nothing is told of a token that is not yet accepted

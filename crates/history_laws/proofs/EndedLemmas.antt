@@ -15,34 +15,34 @@ use Rattle.history_laws.proofs.LengthLemmas.{inserts-after-ejects}
 use Rattle.history_laws.proofs.MediaLemmas.{open-media}
 use Rattle.history_laws.proofs.NextLemmas.{outstanding-from, outstanding-test}
 use Rattle.history_laws.proofs.TokenLemmas.{or_else-none, request-some}
-use Rattle.history_laws.specs.Left.{ended_before, ended_by}
+use Rattle.history_laws.specs.Left.{end_count_before, end_count}
 
-ended-rises : (S : Setup) (H : List Entry) (e : Entry) (n : ℕ) → ended_before S H e n ≤ ended_before S H e (suc n)
-unfolding ended_before
+ended-rises : (S : Setup) (H : List Entry) (e : Entry) (n : ℕ) → end_count_before S H e n ≤ end_count_before S H e (suc n)
+unfolding end_count_before
 ended-rises S H e n = by (is_outstanding S H n && is_some (ending S H e n))
   where
-    by : (b : Bool) → ended_before S H e n ≤ (if b then ended_before S H e n + 1 else ended_before S H e n)
+    by : (b : Bool) → end_count_before S H e n ≤ (if b then end_count_before S H e n + 1 else end_count_before S H e n)
     by true = omega arith
     by false = omega arith
 
-ended-least : (S : Setup) (H : List Entry) (e : Entry) (t n : ℕ) → t < n → (is_outstanding S H t && is_some (ending S H e t)) ≡ true → 1 ≤ ended_before S H e n
-unfolding ended_before
+ended-least : (S : Setup) (H : List Entry) (e : Entry) (t n : ℕ) → t < n → (is_outstanding S H t && is_some (ending S H e t)) ≡ true → 1 ≤ end_count_before S H e n
+unfolding end_count_before
 ended-least S H e t zero below counts = absurd (omega arith)
 ended-least S H e t (suc n) below counts = elim (cases_eq t n) [
   | inl same ↦ here same
   | inr other ↦ (let rest = ended-least S H e t n (omega (arith, other)) counts in let more = ended-rises S H e n in omega arith)
 ]
   where
-    here : t ≡ n → 1 ≤ ended_before S H e (suc n)
+    here : t ≡ n → 1 ≤ end_count_before S H e (suc n)
     here same = rw (ap (λ m. is_outstanding S H m && is_some (ending S H e m)) (sym same) ∙ counts) (omega arith)
 
 -- an open token that the entry ends is counted
-pub ended-some : (S : Setup) (H : List Entry) (e : Entry) (t : ℕ) (status : Status) → IsOutstanding S H t → ending S H e t ≡ Some status → 1 ≤ ended_by S H e
-unfolding ended_by
+pub ended-some : (S : Setup) (H : List Entry) (e : Entry) (t : ℕ) (status : Status) → IsOutstanding S H t → ending S H e t ≡ Some status → 1 ≤ end_count S H e
+unfolding end_count
 ended-some S H e t status open_now ends = ended-least S H e t (token_count H) open_now.token (and_from (is_outstanding S H t) (is_some (ending S H e t)) (outstanding-test S H t open_now) (ap is_some ends))
 
-ended-nothing : (S : Setup) (H : List Entry) (e : Entry) (n : ℕ) → ((t : ℕ) → IsOutstanding S H t → ending S H e t ≡ None) → ended_before S H e n ≡ 0
-unfolding ended_before
+ended-nothing : (S : Setup) (H : List Entry) (e : Entry) (n : ℕ) → ((t : ℕ) → IsOutstanding S H t → ending S H e t ≡ None) → end_count_before S H e n ≡ 0
+unfolding end_count_before
 ended-nothing S H e zero none = refl
 ended-nothing S H e (suc n) none = rw (uncounted (is_outstanding S H n) refl) (ended-nothing S H e n none)
   where
@@ -51,16 +51,16 @@ ended-nothing S H e (suc n) none = rw (uncounted (is_outstanding S H n) refl) (e
     uncounted false is = and_left (is_outstanding S H n) (is_some (ending S H e n)) is
 
 -- an entry that ends no open token is counted so
-pub ended-no : (S : Setup) (H : List Entry) (e : Entry) → ((t : ℕ) → IsOutstanding S H t → ending S H e t ≡ None) → ended_by S H e ≡ 0
-unfolding ended_by
+pub ended-no : (S : Setup) (H : List Entry) (e : Entry) → ((t : ℕ) → IsOutstanding S H t → ending S H e t ≡ None) → end_count S H e ≡ 0
+unfolding end_count
 ended-no S H e none = ended-nothing S H e (token_count H) none
 
 -- tokens that it does not end are not counted
-pub ended-none : (S : Setup) (H : List Entry) (e : Entry) (from n : ℕ) → from ≤ n → ((u : ℕ) → from ≤ u → u < n → (is_outstanding S H u && is_some (ending S H e u)) ≡ false) → ended_before S H e n ≡ ended_before S H e from
-unfolding ended_before
-ended-none S H e from zero order none = ap (ended_before S H e) (let same : zero ≡ from = omega arith in same)
+pub ended-none : (S : Setup) (H : List Entry) (e : Entry) (from n : ℕ) → from ≤ n → ((u : ℕ) → from ≤ u → u < n → (is_outstanding S H u && is_some (ending S H e u)) ≡ false) → end_count_before S H e n ≡ end_count_before S H e from
+unfolding end_count_before
+ended-none S H e from zero order none = ap (end_count_before S H e) (let same : zero ≡ from = omega arith in same)
 ended-none S H e from (suc n) order none = elim (cases_eq from (suc n)) [
-  | inl same ↦ ap (ended_before S H e) (sym same)
+  | inl same ↦ ap (end_count_before S H e) (sym same)
   | inr other ↦ rw (none n (omega (arith, other)) (omega arith)) (ended-none S H e from n (omega (arith, other)) (λ u above below. none u above (omega arith)))
 ]
 

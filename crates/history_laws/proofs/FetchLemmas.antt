@@ -21,7 +21,7 @@ use Rattle.history_laws.proofs.MayLemmas.{runnable-may}
 use Rattle.history_laws.proofs.PendingLemmas.{pending-fetch}
 use Rattle.history_laws.proofs.RunnableLemmas.{free-runnable, next-runnable}
 use Rattle.history_laws.proofs.TokenLemmas.{has_done-done}
-use Rattle.history_laws.specs.Told.{is_done}
+use Rattle.history_laws.specs.TokenFacts.{is_done}
 use Rattle.history_laws.specs.Turns.{turn_of_todo}
 use Rattle.history_laws.specs.Units.{is_span_command}
 

@@ -20,7 +20,7 @@ use Rattle.history.specs.Marks.{first_from, status_if, is_complete, is_outstandi
 use Rattle.history.specs.Rules.{MayFollow, IsLegal}
 use Rattle.history.specs.Tasks.{Task, Moves, Syncs, tasks_of, is_finished, Todo, todo_of, todo_before, units_left}
 use Rattle.history.specs.Next.{first_open}
-use Rattle.history_laws.specs.Told.{concerns}
+use Rattle.history_laws.specs.TokenFacts.{concerns}
 use Rattle.history_laws.specs.Units.{IsUnitCommand}
 use Rattle.history_laws.specs.Pending.{is_todo, todo_at, todos_of, is_task_of, is_todo_of}
 use Rattle.history_laws.proofs.CountLemmas.{accepted-more, accepted-same}

@@ -14,7 +14,7 @@ use Rattle.history.specs.Tokens.{Request, token_count, request, changes_bytes, i
 use Rattle.history.specs.Commands.{is_fetch, is_store, is_transfer, is_at, done_commands, has_done, is_moved}
 use Rattle.history.specs.Marks.{first_from, mark_of, is_outstanding, IsOutstanding, was_fetched, was_stored, Holds, is_holder, is_held, status_if, is_complete, all_from}
 use Rattle.history.specs.Rules.{HasPart, IsUnheld, MayCommand, MayFollow, IsLegal}
-use Rattle.history_laws.specs.Told.{concerns}
+use Rattle.history_laws.specs.TokenFacts.{concerns}
 use Rattle.history_laws.specs.Units.{IsTaskCommand}
 use Rattle.history_laws.proofs.CountLemmas.{accepted-none, accepted-more, accepted-same}
 use Rattle.history_laws.proofs.TokenLemmas.{has_done-done, has_done-other, has_done-same, done-concerns, request-same}

@@ -29,7 +29,7 @@ use Rattle.history_laws.proofs.TokenLemmas.{done-concerns, done_commands-other, 
 use Rattle.history_laws.proofs.UnitLemmas.{moved-more, unit-inside}
 use Rattle.history_laws.specs.Left.{left_of, task_bytes}
 use Rattle.history_laws.specs.Pending.{IsBefore, Ordered, is_todo, task_low}
-use Rattle.history_laws.specs.Told.{concerns, is_done}
+use Rattle.history_laws.specs.TokenFacts.{concerns, is_done}
 use Rattle.history_laws.specs.Units.{IsUnitCommand}
 
 -- a done command finishes this unit of its token, and no other

@@ -6,7 +6,7 @@ use Rattle.history.specs.declared.entry.Entry.{Entry}
 use Rattle.history.specs.Setup.{Setup}
 use Rattle.history.specs.Tokens.{Request, token_count, request, was_collected}
 use Rattle.history.specs.Marks.{mark_of}
-use Rattle.history.specs.Room.{commands_owed, owed_by, token_owed, tokens_owed, media_owed}
+use Rattle.history.specs.Room.{commands_owed, request_owed, token_owed, tokens_owed, media_owed}
 use Rattle.history_laws.specs.OwedSoFar.{token_owed_so_far, tokens_owed_so_far, owed_so_far}
 use Rattle.history_laws.proofs.CountLemmas.{accepted-same}
 use Rattle.history_laws.proofs.TokenLemmas.{request-same, collected-same, done_commands-same}
@@ -17,7 +17,7 @@ pub owed-some : (S : Setup) (H : List Entry) (t : ℕ) (q : Request) (marks mark
     → token_owed_so_far S H marks' t + (commands_owed S H t q + 1) ≤ token_owed_so_far S H marks t
 owed-some S H t q marks marks' status named open_now here = rw (named, open_now, here) (by _)
   where
-    by : (collected : Bool) → owed_by S H t (Some q) (Some status) collected + (commands_owed S H t q + 1) ≤ commands_owed S H t q + 2
+    by : (collected : Bool) → request_owed S H t (Some q) (Some status) collected + (commands_owed S H t q + 1) ≤ commands_owed S H t q + 2
     by true = omega arith
     by false = omega arith
 
@@ -40,7 +40,7 @@ owed-falls S H marks marks' t (suc n) paid below falls away = elim (cases_eq n t
       omega arith
   | inr other ↦
       let rest = owed-falls S H marks marks' t n paid (omega (arith, other)) falls away in
-      let one : token_owed_so_far S H marks' n ≡ token_owed_so_far S H marks n = ap (λ m. owed_by S H n (request H n) m (was_collected H n)) (away n other) in
+      let one : token_owed_so_far S H marks' n ≡ token_owed_so_far S H marks n = ap (λ m. request_owed S H n (request H n) m (was_collected H n)) (away n other) in
       omega arith
 ]
 

@@ -7,7 +7,7 @@ use Rattle.std.specs.Prelude.{count_by, filter, sum_by}
 use Rattle.efi_status.specs.declared.Status.{Status}
 use Rattle.history.specs.Commands.{done_commands, has_done, is_at, is_get, is_put, is_store, is_transfer, is_wipe}
 use Rattle.history.specs.Marks.{is_outstanding, mark_of}
-use Rattle.history.specs.Room.{commands_owed, owed_by, part_owed, span_owed, task_owed}
+use Rattle.history.specs.Room.{commands_owed, request_owed, part_owed, span_owed, task_owed}
 use Rattle.history.specs.Rules.{IsLegal, MayFollow}
 use Rattle.history.specs.Setup.{IsSetup, Setup}
 use Rattle.history.specs.Tasks.{Moves, Syncs, Task, Todo, is_finished, units_left, tasks_of, todo_before, todo_of}
@@ -108,7 +108,7 @@ open-kept S (Collect tag u ∷ H) t (legal, (ended, kept)) unmarked = elim (case
 open-kept S (e ∷ H) t (legal, may) unmarked = collected-same H e t refl ∙ open-kept S H t legal (mark-before S H e t unmarked)
 
 -- what a token owes depends on its done commands alone
-pub owed-alike : (S : Setup) (H H' : List Entry) (t : ℕ) (o : Option Request) (m : Option Status) (collected : Bool) → done_commands H' t ≡ done_commands H t → owed_by S H' t o m collected ≡ owed_by S H t o m collected
+pub owed-alike : (S : Setup) (H H' : List Entry) (t : ℕ) (o : Option Request) (m : Option Status) (collected : Bool) → done_commands H' t ≡ done_commands H t → request_owed S H' t o m collected ≡ request_owed S H t o m collected
 owed-alike S H H' t None m collected same = refl
 owed-alike S H H' t (Some r) None collected same = ap (λ n. n + 2) (commands-same S H H' t r same)
 owed-alike S H H' t (Some r) (Some status) true same = refl

@@ -6,7 +6,7 @@ use Rattle.history.specs.Setup.{Setup}
 use Rattle.history.specs.Tokens.{Request, is_accept}
 use Rattle.history.specs.Marks.{ending}
 use Rattle.history.specs.Tasks.{is_finished, Todo, units_left}
-use Rattle.history_laws.specs.Told.{is_done}
+use Rattle.history_laws.specs.TokenFacts.{is_done}
 use Rattle.history_laws.specs.Pending.{is_todo}
 use Rattle.history_laws.proofs.TokenLemmas.{done_commands-same}
 use Rattle.history_laws.proofs.NextLemmas.{outstanding-test}

@@ -16,7 +16,7 @@ use Rattle.history.specs.Commands.{is_transfer, is_sync, moves, done_commands, h
 use Rattle.history.specs.Marks.{mark_of, ending, is_outstanding, IsOutstanding}
 use Rattle.history.specs.Rules.{MayCommand, IsLegal}
 use Rattle.history.specs.Tasks.{Task, Moves, Syncs, tasks_of, is_finished, Todo, todo_of, todo_before, units_left}
-use Rattle.history_laws.specs.Told.{concerns}
+use Rattle.history_laws.specs.TokenFacts.{concerns}
 use Rattle.history_laws.specs.Pending.{is_todo, todo_at}
 use Rattle.history_laws.proofs.CountLemmas.{accepted-more, accepted-same}
 use Rattle.history_laws.proofs.TokenLemmas.{or_else-none, has_done-done, request-kept, request-some, done_commands-same, done_commands-other, mark-other, done-concerns}

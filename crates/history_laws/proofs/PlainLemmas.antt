@@ -11,7 +11,7 @@ use Rattle.history.specs.Tokens.{Request, token_count, request, was_collected, i
 use Rattle.history.specs.Marks.{IsOutstanding, mark_of, ending, first_from, is_outstanding}
 use Rattle.history.specs.Tasks.{Task, Moves, Syncs, tasks_of, task_command}
 use Rattle.history.specs.Next.{first_open, next_task, Turn, turn_of_request, turn_of_token, next_turn, Outcome, Made, Failed, entry_of}
-use Rattle.history_laws.specs.Told.{concerns}
+use Rattle.history_laws.specs.TokenFacts.{concerns}
 use Rattle.history_laws.proofs.CountLemmas.{accepted-same}
 use Rattle.history_laws.proofs.TokenLemmas.{or_else-none, request-same, collected-same, done-concerns, fault-concerns}
 use Rattle.history_laws.proofs.NextLemmas.{first-open-some}

@@ -18,7 +18,7 @@ use Rattle.history_laws.proofs.EndLemmas.{command-open, mark-fault}
 use Rattle.history_laws.proofs.EraLemmas.{is_protect}
 use Rattle.history_laws.proofs.TokenLemmas.{bytes_read-kept, bytes_read-other, collected-same, done-concerns}
 use Rattle.history_laws.specs.Gates.{is_store_at, is_store_of}
-use Rattle.history_laws.specs.Told.{is_done}
+use Rattle.history_laws.specs.TokenFacts.{is_done}
 
 -- what is no command is no flush
 pub flush-none : (e : Entry) → is_command e ≡ false → is_flush_entry e ≡ false

@@ -19,10 +19,10 @@ use Rattle.history.specs.Commands.{done_commands, has_done, is_sync}
 use Rattle.history.specs.Marks.{IsOutstanding, mark_of, ending, or_else}
 use Rattle.history.specs.Rules.{MayCommand, MayFollow, IsLegal}
 use Rattle.history.specs.Tasks.{Moves}
-use Rattle.history.specs.Room.{one_unless, span_owed, task_owed, commands_owed, commands_of, runs_of, AreFewCommands, owed_by, token_owed, tokens_owed}
-use Rattle.history_laws.specs.Told.{Told, told, concerns}
+use Rattle.history.specs.Room.{one_unless, span_owed, task_owed, commands_owed, commands_of, runs_of, AreFewCommands, request_owed, token_owed, tokens_owed}
+use Rattle.history_laws.specs.TokenFacts.{TokenFacts, facts_of, concerns}
 use Rattle.history_laws.proofs.CountLemmas.{accepted-none, commands_of-more, commands_of-same}
-use Rattle.history_laws.proofs.TokenLemmas.{told-other, done_commands-same, done_commands-other, request-kept, request-same, request-accepted, request-stays}
+use Rattle.history_laws.proofs.TokenLemmas.{facts_of-other, done_commands-same, done_commands-other, request-kept, request-same, request-accepted, request-stays}
 use Rattle.history_laws.proofs.EndLemmas.{mark-fault, command-open, open-request, unaccepted, untold-done, untold-commands}
 use Rattle.history_laws.proofs.OwedLemmas.{commands-stay, commands-same, command-lowers}
 
@@ -163,24 +163,24 @@ pub ended-owed-most : (S : Setup) (H : List Entry) (t : ℕ) (status : Status) �
 unfolding token_owed
 ended-owed-most S H t status marked = rw marked (by (request H t) (was_collected H t))
   where
-    by : (o : Option Request) (collected : Bool) → owed_by S H t o (Some status) collected ≤ 1
+    by : (o : Option Request) (collected : Bool) → request_owed S H t o (Some status) collected ≤ 1
     by None collected = omega arith
     by (Some r) true = omega arith
     by (Some r) false = omega arith
 
-owed_by-same : (S : Setup) (H H' : List Entry) (t : ℕ) (o : Option Request) (m : Option Status) (collected : Bool) → done_commands H' t ≡ done_commands H t → owed_by S H' t o m collected ≡ owed_by S H t o m collected
-owed_by-same S H H' t None m collected same = refl
-owed_by-same S H H' t (Some r) None collected same = ap (λ n. n + 2) (commands-same S H H' t r same)
-owed_by-same S H H' t (Some r) (Some status) true same = refl
-owed_by-same S H H' t (Some r) (Some status) false same = refl
+request_owed-same : (S : Setup) (H H' : List Entry) (t : ℕ) (o : Option Request) (m : Option Status) (collected : Bool) → done_commands H' t ≡ done_commands H t → request_owed S H' t o m collected ≡ request_owed S H t o m collected
+request_owed-same S H H' t None m collected same = refl
+request_owed-same S H H' t (Some r) None collected same = ap (λ n. n + 2) (commands-same S H H' t r same)
+request_owed-same S H H' t (Some r) (Some status) true same = refl
+request_owed-same S H H' t (Some r) (Some status) false same = refl
 
 -- an entry that does not concern a token leaves what it owes
 pub owed-other : (S : Setup) (H : List Entry) (e : Entry) (t : ℕ) → concerns H e t ≡ false → token_owed S (e ∷ H) t ≡ token_owed S H t
-unfolding token_owed told
+unfolding token_owed facts_of
 owed-other S H e t other =
-    let same : told S (e ∷ H) t ≡ told S H t = told-other S H e t other in
-    rw (ap (λ (s : Told). s.named) same, ap (λ (s : Told). s.mark) same, ap (λ (s : Told). s.collected) same)
-    (owed_by-same S H (e ∷ H) t (request H t) (mark_of S H t) (was_collected H t) (done_commands-other S H e t other))
+    let same : facts_of S (e ∷ H) t ≡ facts_of S H t = facts_of-other S H e t other in
+    rw (ap (λ (s : TokenFacts). s.named) same, ap (λ (s : TokenFacts). s.mark) same, ap (λ (s : TokenFacts). s.collected) same)
+    (request_owed-same S H (e ∷ H) t (request H t) (mark_of S H t) (was_collected H t) (done_commands-other S H e t other))
 
 -- tokens that each owe the same
 pub tokens-same : (S : Setup) (H H' : List Entry) (n : ℕ) → ((t : ℕ) → t < n → token_owed S H' t ≡ token_owed S H t) → tokens_owed S H' n ≡ tokens_owed S H n

@@ -13,7 +13,7 @@ use Rattle.history.specs.Eras.{ejects, inserts, is_eject, is_insert, media_id_of
 use Rattle.history.specs.Tokens.{Request, is_accept, token_count, request, is_collect_of, was_collected}
 use Rattle.history.specs.Marks.{IsOutstanding, mark_of, ending, or_else, is_same_view}
 use Rattle.history.specs.Rules.{MayCommand, MayFollow, IsLegal}
-use Rattle.history.specs.Room.{commands_owed, owed_by, token_owed, tokens_owed, media_owed, owed_entries}
+use Rattle.history.specs.Room.{commands_owed, request_owed, token_owed, tokens_owed, media_owed, owed_entries}
 use Rattle.history_laws.specs.Laws.{is_owed}
 use Rattle.history_laws.proofs.CountLemmas.{inserts-none, accepted-more, accepted-same, ejects-more, ejects-same, inserts-more, inserts-same}
 use Rattle.history_laws.proofs.TokenLemmas.{accept-concerns, request-kept, request-same, request-some, collected-collect, collected-stays}
@@ -21,23 +21,23 @@ use Rattle.history_laws.proofs.EndLemmas.{mark-stays, mark-next, command-open, u
 use Rattle.history_laws.proofs.OwedLemmas.{commands-stay}
 use Rattle.history_laws.proofs.RoomLemmas.{ended-owed, collected-owed, ended-owed-most, owed-other, tokens-same, tokens-less, tokens-fall, done-owed, fault-owed, command-owed, end-owed}
 
-owed_by-less : (S : Setup) (H H' : List Entry) (t : ℕ) (o : Option Request) (m later : Option Status) (c c' : Bool) → (c ≡ true → c' ≡ true)
-    → ((r : Request) → commands_owed S H' t r ≤ commands_owed S H t r) → owed_by S H' t o (or_else m later) c' ≤ owed_by S H t o m c
-owed_by-less S H H' t None m later c c' stays less = omega arith
-owed_by-less S H H' t (Some r) None None c c' stays less = omega (arith, less r)
-owed_by-less S H H' t (Some r) None (Some status) c true stays less = omega arith
-owed_by-less S H H' t (Some r) None (Some status) c false stays less = omega arith
-owed_by-less S H H' t (Some r) (Some status) later true true stays less = omega arith
-owed_by-less S H H' t (Some r) (Some status) later true false stays less = let no_way : false ≡ true = stays refl in cc
-owed_by-less S H H' t (Some r) (Some status) later false true stays less = omega arith
-owed_by-less S H H' t (Some r) (Some status) later false false stays less = omega arith
+request_owed-less : (S : Setup) (H H' : List Entry) (t : ℕ) (o : Option Request) (m later : Option Status) (c c' : Bool) → (c ≡ true → c' ≡ true)
+    → ((r : Request) → commands_owed S H' t r ≤ commands_owed S H t r) → request_owed S H' t o (or_else m later) c' ≤ request_owed S H t o m c
+request_owed-less S H H' t None m later c c' stays less = omega arith
+request_owed-less S H H' t (Some r) None None c c' stays less = omega (arith, less r)
+request_owed-less S H H' t (Some r) None (Some status) c true stays less = omega arith
+request_owed-less S H H' t (Some r) None (Some status) c false stays less = omega arith
+request_owed-less S H H' t (Some r) (Some status) later true true stays less = omega arith
+request_owed-less S H H' t (Some r) (Some status) later true false stays less = let no_way : false ≡ true = stays refl in cc
+request_owed-less S H H' t (Some r) (Some status) later false true stays less = omega arith
+request_owed-less S H H' t (Some r) (Some status) later false false stays less = omega arith
 
 -- no entry makes an accepted token owe more
 pub owed-stays : (S : Setup) (H : List Entry) (e : Entry) (t : ℕ) → t < token_count H → token_owed S (e ∷ H) t ≤ token_owed S H t
 unfolding token_owed mark_of
 owed-stays S H e t token =
     rw (request-kept H e t (λ same. absurd (omega (arith, same))))
-    (owed_by-less S H (e ∷ H) t (request H t) (mark_of S H t) (ending S H e t) (was_collected H t) (was_collected (e ∷ H) t) (collected-stays H e t) (commands-stay S H e t))
+    (request_owed-less S H (e ∷ H) t (request H t) (mark_of S H t) (ending S H e t) (was_collected H t) (was_collected (e ∷ H) t) (collected-stays H e t) (commands-stay S H e t))
 
 -- an ended token was accepted
 pub marked-accepted : (S : Setup) (H : List Entry) (t : ℕ) (status : Status) → IsLegal S H → mark_of S H t ≡ Some status → t < token_count H

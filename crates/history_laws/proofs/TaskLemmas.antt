@@ -20,7 +20,7 @@ use Rattle.history.specs.Marks.{all_from, is_request_complete, is_complete, mark
 use Rattle.history.specs.Rules.{IsLegal}
 use Rattle.history.specs.Tasks.{Task, Moves, Syncs, tasks_of, is_finished}
 use Rattle.history_laws.specs.Units.{IsUnitCommand}
-use Rattle.history_laws.specs.Told.{is_done}
+use Rattle.history_laws.specs.TokenFacts.{is_done}
 use Rattle.history_laws.proofs.CountLemmas.{accepted-none, accepted-more, accepted-same}
 use Rattle.history_laws.proofs.TokenLemmas.{has_done-stays, done_commands-same, done_commands-other, done-concerns, request-kept, request-same}
 use Rattle.history_laws.proofs.EndLemmas.{mark-accept, mark-before, mark-done}

@@ -23,7 +23,7 @@ use Rattle.history.specs.Marks.{all_from, is_complete, ending, mark_of, status_i
 use Rattle.history.specs.Rules.{IsLegal}
 use Rattle.history.specs.Tasks.{Task, Moves, Syncs, tasks_of, is_finished, span_command, task_command}
 use Rattle.history.specs.Next.{first_open, next_task, Turn, next_turn, Outcome, Made, Failed, entry_of}
-use Rattle.history_laws.specs.Told.{is_done}
+use Rattle.history_laws.specs.TokenFacts.{is_done}
 use Rattle.history_laws.specs.Units.{IsUnitCommand, IsTaskCommand, AreTaskCommands}
 use Rattle.history_laws.proofs.CountLemmas.{accepted-none, accepted-more, accepted-same}
 use Rattle.history_laws.proofs.EndLemmas.{mark-before, mark-next, mark-done, open-request, unaccepted, untold-done}

@@ -15,7 +15,7 @@ use Rattle.history.specs.Commands.{first_block, block_count, is_get, lies_in, do
 use Rattle.history.specs.Contents.{contents, byte_at, bytes_read}
 use Rattle.history.specs.Marks.{mark_of, ending, or_else, ticket_of}
 use Rattle.history.specs.Room.{commands_of}
-use Rattle.history_laws.specs.Told.{is_done, Told, told, concerns}
+use Rattle.history_laws.specs.TokenFacts.{is_done, TokenFacts, facts_of, concerns}
 use Rattle.history_laws.proofs.CountLemmas.{accepted-none, accepted-more, accepted-same}
 
 -- an end that is none leaves the mark
@@ -37,21 +37,21 @@ unfolding mark_of
 mark-other S H e t other = rw (ending-other S H e t other) (or_else-none (mark_of S H t))
 
 -- it leaves all that is told of the token
-pub told-other : (S : Setup) (H : List Entry) (e : Entry) (t : ℕ) → concerns H e t ≡ false → told S (e ∷ H) t ≡ told S H t
-unfolding told request was_collected done_commands commands_of
-told-other S H (Accept tag view asked bytes) t other = rw (other, mark-other S H (Accept tag view asked bytes) t other)
-told-other S H (Done u c) t other = rw (other, mark-other S H (Done u c) t other)
-told-other S H (Fault u c done) t other = rw (other, mark-other S H (Fault u c done) t other)
-told-other S H (Collect tag u) t other = rw (other, mark-other S H (Collect tag u) t other)
-told-other S H e t other = rw (mark-other S H e t other)
+pub facts_of-other : (S : Setup) (H : List Entry) (e : Entry) (t : ℕ) → concerns H e t ≡ false → facts_of S (e ∷ H) t ≡ facts_of S H t
+unfolding facts_of request was_collected done_commands commands_of
+facts_of-other S H (Accept tag view asked bytes) t other = rw (other, mark-other S H (Accept tag view asked bytes) t other)
+facts_of-other S H (Done u c) t other = rw (other, mark-other S H (Done u c) t other)
+facts_of-other S H (Fault u c done) t other = rw (other, mark-other S H (Fault u c done) t other)
+facts_of-other S H (Collect tag u) t other = rw (other, mark-other S H (Collect tag u) t other)
+facts_of-other S H e t other = rw (mark-other S H e t other)
 
 pub request-other : (S : Setup) (H : List Entry) (e : Entry) (t : ℕ) → concerns H e t ≡ false → request (e ∷ H) t ≡ request H t
-unfolding told
-request-other S H e t other = ap (λ (s : Told). s.named) (told-other S H e t other)
+unfolding facts_of
+request-other S H e t other = ap (λ (s : TokenFacts). s.named) (facts_of-other S H e t other)
 
 pub done_commands-other : (S : Setup) (H : List Entry) (e : Entry) (t : ℕ) → concerns H e t ≡ false → done_commands (e ∷ H) t ≡ done_commands H t
-unfolding told
-done_commands-other S H e t other = ap (λ (s : Told). s.done) (told-other S H e t other)
+unfolding facts_of
+done_commands-other S H e t other = ap (λ (s : TokenFacts). s.done) (facts_of-other S H e t other)
 
 pub has_done-other : (S : Setup) (test : Command → Bool) (H : List Entry) (e : Entry) (t : ℕ) → concerns H e t ≡ false → has_done test (e ∷ H) t ≡ has_done test H t
 unfolding has_done

@@ -23,7 +23,7 @@ use Rattle.history.specs.Commands.{is_fetch, is_sync, is_at, moves, lies_in, don
 use Rattle.history.specs.Marks.{mark_of, status_if, is_complete, was_fetched}
 use Rattle.history.specs.Tasks.{Task, Moves, Syncs, span_command, task_command}
 use Rattle.history.specs.Next.{first_open, next_task, Turn, next_turn, Outcome, Made, Failed, entry_of}
-use Rattle.history_laws.specs.Told.{concerns}
+use Rattle.history_laws.specs.TokenFacts.{concerns}
 use Rattle.history_laws.proofs.CountLemmas.{accepted-none, accepted-more, accepted-same}
 use Rattle.history_laws.proofs.TokenLemmas.{request-accept, accept-concerns, request-other, mark-other, done_commands-other, has_done-done, has_done-stays, done_commands-same, request-same}
 use Rattle.history_laws.proofs.EndLemmas.{mark-stays, mark-done, mark-fault}

@@ -20,7 +20,7 @@ use Rattle.history.specs.Rules.{MayCommand, MayFollow, IsLegal}
 use Rattle.history.specs.Tasks.{Moves, tasks_of, is_finished, Todo, units_left, first_runnable, task_command}
 use Rattle.history.specs.Next.{next_turn}
 use Rattle.history.specs.Room.{commands, AreFewCommands, owed_entries}
-use Rattle.history_laws.specs.Told.{is_done, told, IsUntold, concerns}
+use Rattle.history_laws.specs.TokenFacts.{is_done, facts_of, IsUntold, concerns}
 use Rattle.history_laws.specs.Units.{IsUnitCommand, AreTaskCommands}
 use Rattle.history_laws.specs.Pending.{is_todo, todos_of, is_todo_of, IsBefore, Ordered}
 use Rattle.history_laws.specs.Ranges.{AreInViews, AreToldWhole}
@@ -30,7 +30,7 @@ use Rattle.history_laws.specs.Turns.{turn_of_todo}
 
 -- an entry that does not concern a token changes nothing that is told of it
 abbrev pub TellsNothingElse : Type 0
-TellsNothingElse = (S : Setup) (H : List Entry) (e : Entry) (t : ℕ) → concerns H e t ≡ false → told S (e ∷ H) t ≡ told S H t
+TellsNothingElse = (S : Setup) (H : List Entry) (e : Entry) (t : ℕ) → concerns H e t ≡ false → facts_of S (e ∷ H) t ≡ facts_of S H t
 
 -- nor what it read
 abbrev pub ReadsNothingElse : Type 0

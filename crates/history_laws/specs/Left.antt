@@ -16,10 +16,10 @@ unfoldable pub left_of : Setup → List Entry → ℕ → Request → ℕ
 left_of S H t r = sum_by task_bytes (filter (λ task. not (is_finished S H t task)) (tasks_of S r))
 
 -- how many of the first n tokens are outstanding and ended by this entry
-unfoldable pub ended_before : Setup → List Entry → Entry → ℕ → ℕ
-ended_before S H e zero = 0
-ended_before S H e (suc n) = if is_outstanding S H n && is_some (ending S H e n) then ended_before S H e n + 1 else ended_before S H e n
+unfoldable pub end_count_before : Setup → List Entry → Entry → ℕ → ℕ
+end_count_before S H e zero = 0
+end_count_before S H e (suc n) = if is_outstanding S H n && is_some (ending S H e n) then end_count_before S H e n + 1 else end_count_before S H e n
 
 -- how many outstanding tokens this entry ends
-unfoldable pub ended_by : Setup → List Entry → Entry → ℕ
-ended_by S H e = ended_before S H e (token_count H)
+unfoldable pub end_count : Setup → List Entry → Entry → ℕ
+end_count S H e = end_count_before S H e (token_count H)

@@ -1,5 +1,5 @@
 pub mod Laws
-pub mod Told
+pub mod TokenFacts
 pub mod Units
 pub mod Ranges
 pub mod Gates

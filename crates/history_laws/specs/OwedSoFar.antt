@@ -4,11 +4,11 @@ use Rattle.efi_status.specs.declared.Status.{Status}
 use Rattle.history.specs.declared.entry.Entry.{Entry}
 use Rattle.history.specs.Setup.{Setup}
 use Rattle.history.specs.Tokens.{token_count, request, was_collected}
-use Rattle.history.specs.Room.{owed_by, media_owed}
+use Rattle.history.specs.Room.{request_owed, media_owed}
 
 -- what a token owes so far
 abbrev pub token_owed_so_far : Setup → List Entry → (ℕ → Option Status) → ℕ → ℕ
-token_owed_so_far S H marks t = owed_by S H t (request H t) (marks t) (was_collected H t)
+token_owed_so_far S H marks t = request_owed S H t (request H t) (marks t) (was_collected H t)
 
 -- what the first n tokens owe so far
 unfoldable pub tokens_owed_so_far : Setup → List Entry → (ℕ → Option Status) → ℕ → ℕ

@@ -1,7 +1,7 @@
 -- The calls of an object in memory that are to fail.
 use Rattle.std.specs.Prelude.{◌≡◌, ℕ, ◌==◌, Bool, List}
 use Rattle.std.specs.List.{list_any}
-use Rattle.medium.specs.Counts.{adds}
+use Rattle.medium.specs.Counts.{capped_sum}
 use Rattle.image_store.specs.declared.failing.Failing.{Failing}
 use Rattle.image_store.specs.declared.mem_source.MemSource.{MemSource}
 use Rattle.image_store.specs.declared.mem_sink.MemSink.{MemSink}
@@ -13,7 +13,7 @@ is_next_failing f = list_any (λ call. call == f.calls) f.list.items
 
 -- a call was made
 abbrev pub IsCalled : Failing → Failing → Type 0
-IsCalled old new = new ≡ record old { calls = adds old.calls 1 }
+IsCalled old new = new ≡ record old { calls = capped_sum old.calls 1 }
 
 -- no call was made yet, and these are to fail
 pub record IsUncalled (list : List ℕ) (f : Failing) : Type 0 where

@@ -1,6 +1,6 @@
 ghost use Rattle.std.specs.Prelude.{◌≡◌, ◌/◌, ◌<◌, ◌≤◌, false, Err, IfOk, OnErr, IsErr, IsErrOf};
 ghost use Rattle.std.specs.Result.{IsOkAnd};
-ghost use Rattle.medium.specs.Counts.{adds};
+ghost use Rattle.medium.specs.Counts.{capped_sum};
 ghost use Rattle.medium.specs.Device.{IsBlockSize};
 ghost use Rattle.image_store.specs.Edge.{HasCauseOf};
 ghost use Rattle.image_store.specs.Place.{IsFree, IsTaken, IsTaking, MayBeShort};
@@ -112,7 +112,7 @@ impl FileSlot {
         requires { IsTaken (file_place self.old.taken) }
         ensures taken { self.new.taken ≡ false }
         ensures cause { HasCauseOf PutFault.Failed self.old.faults self.new.faults result }
-        ensures worn { self.new.worn ≡ adds self.old.worn (⟦<Volatile<FileMedium<D>> as Medium>⟧.device medium).failed }
+        ensures worn { self.new.worn ≡ capped_sum self.old.worn (⟦<Volatile<FileMedium<D>> as Medium>⟧.device medium).failed }
     {
         self.worn = self.worn.saturating_add(medium.failed());
         self.taken = false;

@@ -1,5 +1,5 @@
 ghost use Rattle.std.specs.Prelude.{◌≡◌, ℕ, List, false, IfOk, IsErr, OnErr, IsErrOf};
-ghost use Rattle.medium.specs.Counts.{adds};
+ghost use Rattle.medium.specs.Counts.{capped_sum};
 ghost use Rattle.medium.specs.Device.{IsBlockSize};
 ghost use Rattle.image_store.specs.Edge.{HasCauseOf};
 ghost use Rattle.image_store.specs.Place.{Image, Missing, IsFree, IsTaken, IsTaking, IsShort, MayBeShort, put_place, ChangesOnly};
@@ -71,6 +71,6 @@ pub trait Images {
         ensures free { IsFree (at self.new name.now).place }
         ensures place { (at self.new name.now).place ≡ put_place (at self.old name.now).place (Self.M.device medium).kept result }
         ensures cause { HasCauseOf PutFault.Failed (at self.old name.now).faults (at self.new name.now).faults result }
-        ensures worn { (at self.new name.now).worn ≡ adds (at self.old name.now).worn (Self.M.device medium).failed }
+        ensures worn { (at self.new name.now).worn ≡ capped_sum (at self.old name.now).worn (Self.M.device medium).failed }
         ensures others { ChangesOnly name.now (at self.old) (at self.new) };
 }

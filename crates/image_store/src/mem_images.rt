@@ -1,5 +1,5 @@
 ghost use Rattle.std.specs.Prelude.{◌≡◌, ◌↔◌, ◌⊎◌, ℕ, List, false, Err, IfOk, IfSome, IfNone, IsErr, IsErrOf, IsTrue, OnOk, OnErr};
-ghost use Rattle.medium.specs.Counts.{adds};
+ghost use Rattle.medium.specs.Counts.{capped_sum};
 ghost use Rattle.medium.specs.Device.{IsBlockSize};
 ghost use Rattle.medium.specs.Faults.{plan_of};
 ghost use Rattle.image_store.specs.Edge.{HasCauseOf};
@@ -135,7 +135,7 @@ impl Images for MemImages {
         ensures free { IsFree (images_at self.new name.now).place }
         ensures place { (images_at self.new name.now).place ≡ put_place (images_at self.old name.now).place (⟦<Faulty<Volatile<MemMedium>> as Medium>⟧.device medium).kept result }
         ensures cause { HasCauseOf PutFault.Failed (images_at self.old name.now).faults (images_at self.new name.now).faults result }
-        ensures worn { (images_at self.new name.now).worn ≡ adds (images_at self.old name.now).worn (⟦<Faulty<Volatile<MemMedium>> as Medium>⟧.device medium).failed }
+        ensures worn { (images_at self.new name.now).worn ≡ capped_sum (images_at self.old name.now).worn (⟦<Faulty<Volatile<MemMedium>> as Medium>⟧.device medium).failed }
         ensures others { ChangesOnly name.now (images_at self.old) (images_at self.new) }
         ensures plans { (other : List ℕ) → plans_at self.new other ≡ plans_at self.old other }
         ensures failing { IsTrue (is_next_failing (images_calls self.old)) ↔ (result ≡ Err PutFault.Failed) }

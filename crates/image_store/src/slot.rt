@@ -1,5 +1,5 @@
 ghost use Rattle.std.specs.Prelude.{◌≡◌, ◌↔◌, ◌⊎◌, [], false, Err, IfOk, OnErr, IsErr, IsErrOf, IsTrue};
-ghost use Rattle.medium.specs.Counts.{adds};
+ghost use Rattle.medium.specs.Counts.{capped_sum};
 ghost use Rattle.medium.specs.Device.{IsBlockSize};
 ghost use Rattle.medium.specs.Faults.{plan_of};
 ghost use Rattle.image_store.specs.Edge.{HasCauseOf};
@@ -122,7 +122,7 @@ impl Slot {
         ensures cause { HasCauseOf PutFault.Failed self.old.faults self.new.faults result }
         ensures plan { self.new.plan ≡ self.old.plan }
         ensures failing { IsTrue fails ↔ (result ≡ Err PutFault.Failed) }
-        ensures worn { self.new.worn ≡ adds self.old.worn (⟦<Faulty<Volatile<MemMedium>> as Medium>⟧.device medium).failed }
+        ensures worn { self.new.worn ≡ capped_sum self.old.worn (⟦<Faulty<Volatile<MemMedium>> as Medium>⟧.device medium).failed }
     {
         self.worn = self.worn.saturating_add(medium.failed());
         let stored = mem::replace(&mut self.stored, Stored::Gone);

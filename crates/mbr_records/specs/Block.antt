@@ -43,5 +43,5 @@ abbrev pub usable_records : ℕ → List MbrRecord → List Bool
 usable_records blocks records = map (λ (i, r). record_gives_partition blocks records i r) (enumerate_from 0 records)
 
 -- where the extended partition begins, and how many blocks it has (own profile)
-abbrev pub extended_of : ℕ → List MbrRecord → Option (ℕ × ℕ)
-extended_of blocks records = option_map (λ r. (r.start, r.size)) (find (λ r. is_extended r && is_on_medium blocks r) records)
+abbrev pub extended_range : ℕ → List MbrRecord → Option (ℕ × ℕ)
+extended_range blocks records = option_map (λ r. (r.start, r.size)) (find (λ r. is_extended r && is_on_medium blocks r) records)

@@ -42,8 +42,8 @@ abbrev pub linked_block : Trail → Option ℕ → Option ℕ
 linked_block t link = option_map (λ x. t.start + x) link
 
 -- the blocks of the extended boot records that were fed, in order
-abbrev pub visited_of : Trail → List ℕ
-visited_of t = filter_map (linked_block t) (take (count_of t) t.named)
+abbrev pub visited_blocks : Trail → List ℕ
+visited_blocks t = filter_map (linked_block t) (take (count_of t) t.named)
 
 -- so many blocks from the first on lie in the extended partition
 abbrev pub is_inside : Trail → ℕ → ℕ → Bool
@@ -51,7 +51,7 @@ is_inside t first count = nat_le t.start first && nat_le (first + count) (t.star
 
 -- the extended boot record at this block may be read next: it lies in the extended partition, it was not visited, and there is room for one more
 abbrev pub may_visit : Trail → ℕ → Bool
-may_visit t block = is_inside t block 1 && not (list_any (λ v. v == block) (visited_of t)) && nat_lt (count_of t) most_read
+may_visit t block = is_inside t block 1 && not (list_any (λ v. v == block) (visited_blocks t)) && nat_lt (count_of t) most_read
 
 -- the block of the next extended boot record, the last that was named; none where the chain has ended
 abbrev pub next_record_block : Trail → Option ℕ

@@ -23,7 +23,7 @@ impl Model for Mbr {
 impl Mbr {
     ghost use Rattle.std.specs.List.{list_any};
     ghost use Rattle.mbr_records.specs.Record.{is_protective};
-    ghost use Rattle.mbr_records.specs.Block.{extended_of, boot_fields, mbr_of};
+    ghost use Rattle.mbr_records.specs.Block.{extended_range, boot_fields, mbr_of};
 
     /// The record in the first 512 bytes of a block. None exactly where bytes 510 and 511 are not 55 AA (UEFI 2.10, 5.2.1).
     pub fn read(block: &[u8; 512]) -> Option<Mbr>
@@ -83,7 +83,7 @@ impl Mbr {
     /// The first block and the number of blocks of the extended partition: the first used record of type 05 or 0F whose end is at
     /// most that of a medium of so many blocks. None exactly where there is no such record (own profile).
     pub fn extended(&self, blocks: u64) -> Option<(u64, u64)>
-        ensures exact { result ≡ extended_of blocks self.now.records }
+        ensures exact { result ≡ extended_range blocks self.now.records }
         ensures inside { IfSome result (λ p. p.0 + p.1 ≤ blocks) }
     {
         self.records

@@ -2,7 +2,7 @@
 use Rattle.std.proofs.Common.{◌≡◌, ℕ, ◌+◌, ◌*◌, ◌/◌, ◌<◌, ◌≤◌, List, length, Option, IsSome, ◌∙◌, subst, ⊎_elim, arith}
 use Rattle.std.proofs.lemmas.Bool.{cases_lt}
 use Rattle.byte_lists.specs.Patching.{patch}
-use Rattle.medium.proofs.Listed.{block_in-long}
+use Rattle.medium.proofs.Listed.{filled_block-long}
 use Rattle.medium.proofs.Overlays.{AreHeldLong, overlay-held}
 use Rattle.medium.proofs.Sizes.{count-is}
 use Rattle.medium.specs.BlockMap.{held_block}
@@ -12,7 +12,7 @@ use Rattle.medium.specs.declared.block_map.BlockMap.{BlockMap}
 
 -- they have its size
 pub held-long : (m : BlockMap) (size : ℕ) → m.size ≡ size → AreHeldLong (held_block m) size
-held-long m size same b block is = block_in-long m.places size (λ q place there. m.sized q place there ∙ same) b block is
+held-long m size same b block is = filled_block-long m.places size (λ q place there. m.sized q place there ∙ same) b block is
 
 -- blocks that it was given patch the bytes
 pub overlay-given : (old new : BlockMap) (size n : ℕ) (bytes : List ℕ) (block count : ℕ) (piece : List ℕ) → IsBlockSize size → AreHeldFrom (held_block old) (held_block new) block (length piece / size) old.size piece → old.size ≡ size → length bytes ≡ n * size → length piece ≡ count * size → block + count ≤ n → overlay (held_block new) size n bytes ≡ patch (overlay (held_block old) size n bytes) (block * size) piece

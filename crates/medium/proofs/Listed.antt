@@ -11,7 +11,7 @@ use Rattle.std.specs.Cmp.{nat_cmp_total, eq_by_cmp_equiv}
 use Rattle.std.specs.List.{list_any, IsDistinct, AllByRecursion}
 use Rattle.std.specs.Option.{option_map}
 use Rattle.std.specs.Ordering.{nat_cmp, eq_by_cmp}
-use Rattle.medium.specs.Places.{is_filled, block_in}
+use Rattle.medium.specs.Places.{is_filled, filled_block}
 use Rattle.medium.specs.declared.place.Place.{Place}
 
 -- the list names the filled places
@@ -115,9 +115,9 @@ sized-empty m n size sized same q place is = old (get nat_cmp m q) refl (ap (opt
   old (Some p) was is = let bytes : place.bytes.items ≡ p.bytes.items = cc in ap length bytes ∙ sized q p was
 
 -- blocks in places have their size
-pub block_in-long : (m : BTreeMap ℕ Place) (size : ℕ) → AreSized m size → (b : ℕ) (block : List ℕ) → block_in (get nat_cmp m b) ≡ Some block → length block ≡ size
-block_in-long m size sized b block is = by_place (get nat_cmp m b) refl is where
-  by_place : (o : Option Place) → get nat_cmp m b ≡ o → block_in o ≡ Some block → length block ≡ size
+pub filled_block-long : (m : BTreeMap ℕ Place) (size : ℕ) → AreSized m size → (b : ℕ) (block : List ℕ) → filled_block (get nat_cmp m b) ≡ Some block → length block ≡ size
+filled_block-long m size sized b block is = by_place (get nat_cmp m b) refl is where
+  by_place : (o : Option Place) → get nat_cmp m b ≡ o → filled_block o ≡ Some block → length block ≡ size
   by_place None was is = absurd (cc)
   by_place (Some place) was is = by_filled place.filled refl where
     by_filled : (filled : Bool) → place.filled ≡ filled → length block ≡ size

@@ -4,7 +4,7 @@ use Rattle.std.specs.Prelude.{nat_eq, is_some, is_none}
 use Rattle.std.specs.Result.{IsErr}
 use Rattle.std.proofs.lemmas.Bool.{cases_eq, cases_lt, eq-eqb, ne_eqb}
 use Rattle.medium.specs.Cached.{HoldsOthers}
-use Rattle.medium.specs.Counts.{adds, Rose}
+use Rattle.medium.specs.Counts.{capped_sum, Rose}
 use Rattle.medium.specs.Device.{Device}
 use Rattle.medium.specs.Saving.{begins_run, unsaved_runs, AreSavedTo, HasMade}
 use Rattle.medium.specs.declared.block_failed.BlockFailed.{BlockFailed}
@@ -103,12 +103,12 @@ pub made-none : (d : Device) (saved : ℕ → Option (List ℕ)) (first n : ℕ)
 unfolding unsaved_runs
 made-none d saved first n none =
     let is : 0 ≡ n = omega arith in
-    subst (λ m. HasMade d (Ok tt) d (unsaved_runs saved first m)) is (record { calls = λ k. ap (adds d.calls) (omega arith); failed = λ k. refl; rose = tt; fault = tt })
+    subst (λ m. HasMade d (Ok tt) d (unsaved_runs saved first m)) is (record { calls = λ k. ap (capped_sum d.calls) (omega arith); failed = λ k. refl; rose = tt; fault = tt })
 
 -- more commands were made behind done ones
 pub made-more : (d e f : Device) (result : Result (Unit {0}) BlockFailed) (m c : ℕ) → HasMade d (Ok tt) e m → HasMade e result f c → HasMade d result f (m + c)
 made-more d e f (Ok done) m c made more = record {
-  calls = λ k. more.calls k ∙ made.calls (c + k) ∙ ap (adds d.calls) (omega arith);
+  calls = λ k. more.calls k ∙ made.calls (c + k) ∙ ap (capped_sum d.calls) (omega arith);
   failed = λ k. more.failed k ∙ made.failed k;
   rose = tt;
   fault = tt;
@@ -121,7 +121,7 @@ made-more d e f (Err fault) m c made more = record {
 }
 
 -- where a command failed their number says nothing
-pub made-failed : (d f : Device) (result : Result (Unit {0}) BlockFailed) (n : ℕ) → IsErr result → Rose d.calls f.calls → f.failed ≡ adds d.failed 1 → HasMade d result f n
+pub made-failed : (d f : Device) (result : Result (Unit {0}) BlockFailed) (n : ℕ) → IsErr result → Rose d.calls f.calls → f.failed ≡ capped_sum d.failed 1 → HasMade d result f n
 made-failed d f (Ok done) n is rose fault = absurd (cc)
 made-failed d f (Err failed) n is rose fault = record { calls = tt; failed = tt; rose = rose; fault = fault }
 

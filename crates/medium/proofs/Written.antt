@@ -7,11 +7,11 @@ use Rattle.medium.proofs.Restored.{restored-covered}
 use Rattle.medium.proofs.Sizes.{count-is}
 use Rattle.medium.specs.Cached.{restoration, HasTried, HoldsOthers, IsWrittenInside}
 use Rattle.medium.specs.Counts.{Rose}
-use Rattle.medium.specs.Device.{Device, IsShaped, IsTransfer, IsWrite, patch_told, written}
+use Rattle.medium.specs.Device.{Device, IsShaped, IsTransfer, IsWrite, patch_told, written_bytes}
 use Rattle.medium.specs.declared.block_failed.BlockFailed.{BlockFailed}
 
 -- what was written is no longer than what was to be
-length-written : (result : Result (Unit {0}) BlockFailed) (size : ℕ) (bytes : List ℕ) → length (written result size bytes) ≤ length bytes
+length-written : (result : Result (Unit {0}) BlockFailed) (size : ℕ) (bytes : List ℕ) → length (written_bytes result size bytes) ≤ length bytes
 length-written (Ok x) size bytes = omega arith
 length-written (Err fault) size bytes = omega (arith, length-take (fault.done * size) bytes)
 
@@ -33,7 +33,7 @@ written-after d0 d1 d2 cached saved saved' lba bytes result is_cached shaped t t
     cached = write.command.same.cached ∙ tried.same.cached;
   };
   now = now_is;
-  restored = λ c. ap (restoration saved' d0.size d0.blocks) now_is ∙ restored-covered saved' d0.size d0.blocks d0.now lba t.count (written result d0.size bytes) held (omega (arith, length-written result d0.size bytes, t.whole)) inside shaped.told_now ∙ kept;
+  restored = λ c. ap (restoration saved' d0.size d0.blocks) now_is ∙ restored-covered saved' d0.size d0.blocks d0.now lba t.count (written_bytes result d0.size bytes) held (omega (arith, length-written result d0.size bytes, t.whole)) inside shaped.told_now ∙ kept;
   uncached = λ un b. absurd (true-false (sym is_cached ∙ un));
   held = λ count whole. subst (λ (n : ℕ). HoldsOthers lba (lba + n) saved saved') (same_count count whole) others;
   later = let first = tried.later in let second = write.command.later in omega arith;
@@ -41,8 +41,8 @@ written-after d0 d1 d2 cached saved saved' lba bytes result is_cached shaped t t
   quiet = on-ok result d0.faults d1.faults d2.faults tried.quiet write.command.quiet;
   done = subst (λ (s : ℕ). IfErr result (λ fault. fault.done * s < length bytes)) tried.same.size write.done;
 } where
-  now_is : d2.now ≡ patch_told d0.now (lba * d0.size) (written result d0.size bytes)
-  now_is = write.now ∙ ap (λ (n : Option (List ℕ)). patch_told n (lba * d1.size) (written result d1.size bytes)) tried.now ∙ ap (λ (s : ℕ). patch_told d0.now (lba * s) (written result s bytes)) tried.same.size
+  now_is : d2.now ≡ patch_told d0.now (lba * d0.size) (written_bytes result d0.size bytes)
+  now_is = write.now ∙ ap (λ (n : Option (List ℕ)). patch_told n (lba * d1.size) (written_bytes result d1.size bytes)) tried.now ∙ ap (λ (s : ℕ). patch_told d0.now (lba * s) (written_bytes result s bytes)) tried.same.size
 
   inside : lba * d0.size ≤ d0.blocks * d0.size
   inside = let below : lba ≤ d0.blocks = let fits = t.fits in omega arith in omega (arith, mul-le-mul_left d0.size below)

@@ -3,12 +3,12 @@ use Rattle.std.specs.Prelude.{ℕ, ◌-◌, List, length, slice_get, IsSome, Opt
 use Rattle.std.proofs.Math.Bool.{Bool-set}
 use Rattle.std.specs.BTreeMap.{get}
 use Rattle.std.specs.Ordering.{nat_cmp}
-use Rattle.medium.specs.Places.{block_in}
+use Rattle.medium.specs.Places.{filled_block}
 use Rattle.medium.specs.declared.block_map.BlockMap.{BlockMap}
 
 -- the block with this number, where the map holds it
 abbrev pub held_block : BlockMap → ℕ → Option (List ℕ)
-held_block m b = block_in (get nat_cmp m.places b)
+held_block m b = filled_block (get nat_cmp m.places b)
 
 -- the map has a place for this block
 abbrev pub HasPlaceFor : BlockMap → ℕ → Type 0

@@ -5,7 +5,7 @@ use Rattle.std.specs.Coded.{le_prop}
 use Rattle.medium.specs.Blocks.{overlay}
 use Rattle.medium.specs.BlockMap.{HasPlaceFor}
 use Rattle.medium.specs.Counts.{Rose}
-use Rattle.medium.specs.Device.{Device, IsShaped, IsTold, IsSame, patch_told, written}
+use Rattle.medium.specs.Device.{Device, IsShaped, IsTold, IsSame, patch_told, written_bytes}
 use Rattle.medium.specs.declared.block_failed.BlockFailed.{BlockFailed}
 use Rattle.medium.specs.declared.block_map.BlockMap.{BlockMap}
 
@@ -81,7 +81,7 @@ HoldsOthers first end saved saved' = ((b : ℕ) → b < first → saved' b ≡ s
 -- a write inside, once what it changes was saved: saved blocks put back give what they gave before
 pub record IsWrittenInside (old : Device) (cached : Bool) (saved saved' : ℕ → Option (List ℕ)) (lba : ℕ) (bytes : List ℕ) (result : Result (Unit {0}) BlockFailed) (new : Device) : Type 0 where
   pub same : IsSame old new
-  pub now : new.now ≡ patch_told old.now (lba * old.size) (written result old.size bytes)
+  pub now : new.now ≡ patch_told old.now (lba * old.size) (written_bytes result old.size bytes)
   pub restored : cached ≡ true → restoration saved' old.size old.blocks new.now ≡ restoration saved old.size old.blocks old.now
   pub uncached : cached ≡ false → (b : ℕ) → saved' b ≡ saved b
   pub held : (count : ℕ) → length bytes ≡ count * old.size → HoldsOthers lba (lba + count) saved saved'

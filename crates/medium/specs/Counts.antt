@@ -6,9 +6,9 @@ abbrev pub most : ℕ
 most = 2 ^ 64 - 1
 
 -- so many more, as far as the count goes
-abbrev pub adds : ℕ → ℕ → ℕ
-adds before n = min (before + n) most
+abbrev pub capped_sum : ℕ → ℕ → ℕ
+capped_sum before n = min (before + n) most
 
 -- the count rose
 abbrev pub Rose : ℕ → ℕ → Type 0
-Rose before now = adds before 1 ≤ now
+Rose before now = capped_sum before 1 ≤ now

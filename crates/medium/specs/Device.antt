@@ -2,7 +2,7 @@
 use Rattle.std.specs.Prelude.{◌≡◌, ℕ, ◌+◌, ◌*◌, ◌^◌, ◌<◌, ◌≤◌, Bool, true, false, nat_eq, ◌||◌, List, length, take, drop, Option, None, Some, Result, Ok, Err, OnOk, OnErr, IfErr, if◌then◌else◌}
 use Rattle.byte_lists.specs.Patching.{patch}
 use Rattle.medium.specs.declared.block_failed.BlockFailed.{BlockFailed}
-use Rattle.medium.specs.Counts.{adds, Rose}
+use Rattle.medium.specs.Counts.{capped_sum, Rose}
 
 -- a device: the bytes at its beginning, now, and those that stay where it loses power, where it tells them;
 -- its blocks and their size; whether it is cached; its faults, its commands, and those that failed
@@ -69,8 +69,8 @@ failures (Err fault) = 1
 -- a command was made: it counts; the device's faults rose where it failed, and stay where it was done
 pub record IsCommand (old : Device) (result : Result (Unit {0}) BlockFailed) (new : Device) : Type 0 where
   pub same : IsSame old new
-  pub calls : new.calls ≡ adds old.calls 1
-  pub failed : new.failed ≡ adds old.failed (failures result)
+  pub calls : new.calls ≡ capped_sum old.calls 1
+  pub failed : new.failed ≡ capped_sum old.failed (failures result)
   pub later : old.faults ≤ new.faults
   pub cause : OnErr result (Rose old.faults new.faults)
   pub quiet : OnOk result (new.faults ≡ old.faults)
@@ -94,13 +94,13 @@ patch_told None at piece = None
 patch_told (Some bytes) at piece = Some (patch bytes at piece)
 
 -- the bytes that a write has put on the medium
-abbrev pub written : Result (Unit {0}) BlockFailed → ℕ → List ℕ → List ℕ
-written (Ok done) size bytes = bytes
-written (Err fault) size bytes = take (fault.done * size) bytes
+abbrev pub written_bytes : Result (Unit {0}) BlockFailed → ℕ → List ℕ → List ℕ
+written_bytes (Ok done) size bytes = bytes
+written_bytes (Err fault) size bytes = take (fault.done * size) bytes
 
 pub record IsWrite (old : Device) (lba : ℕ) (bytes : List ℕ) (result : Result (Unit {0}) BlockFailed) (new : Device) : Type 0 where
   pub command : IsCommand old result new
-  pub now : new.now ≡ patch_told old.now (lba * old.size) (written result old.size bytes)
+  pub now : new.now ≡ patch_told old.now (lba * old.size) (written_bytes result old.size bytes)
   pub kept : new.kept ≡ (if old.cached then old.kept else new.now)
   pub done : IfErr result (λ fault. fault.done * old.size < length bytes)
 

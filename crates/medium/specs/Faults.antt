@@ -4,7 +4,7 @@ use Rattle.std.specs.Option.{option_map}
 use Rattle.medium.specs.declared.block_failed.BlockFailed.{BlockFailed}
 use Rattle.medium.specs.declared.faulty.Faulty.{Faulty}
 use Rattle.medium.specs.declared.faulty.Planned.{Planned}
-use Rattle.medium.specs.Counts.{adds}
+use Rattle.medium.specs.Counts.{capped_sum}
 use Rattle.medium.specs.Device.{Device, IsShaped, IsWrite}
 
 -- the device inside, with counts of its own; its faults are those of the device inside and so many planned ones
@@ -16,7 +16,7 @@ faulty_device inner calls failed planned = record {
   size = inner.size;
   blocks = inner.blocks;
   cached = inner.cached;
-  faults = adds inner.faults planned;
+  faults = capped_sum inner.faults planned;
   calls = calls;
   failed = failed;
 }

@@ -8,6 +8,6 @@ is_filled None = false
 is_filled (Some place) = place.filled
 
 -- the block in a place that is filled
-abbrev pub block_in : Option Place → Option (List ℕ)
-block_in None = None
-block_in (Some place) = if place.filled then Some place.bytes.items else None
+abbrev pub filled_block : Option Place → Option (List ℕ)
+filled_block None = None
+filled_block (Some place) = if place.filled then Some place.bytes.items else None

@@ -1,6 +1,6 @@
 -- How many commands a medium with a cache makes inside (own profile).
 use Rattle.std.specs.Prelude.{◌≡◌, ℕ, zero, suc, ◌+◌, ◌-◌, ◌<◌, ◌≤◌, Bool, nat_eq, ◌&&◌, ◌||◌, cond, List, Option, None, IsSome, is_some, is_none, Result, OnOk, OnErr, if◌then◌else◌}
-use Rattle.medium.specs.Counts.{adds, Rose}
+use Rattle.medium.specs.Counts.{capped_sum, Rose}
 use Rattle.medium.specs.Device.{Device, failures}
 use Rattle.medium.specs.declared.block_failed.BlockFailed.{BlockFailed}
 
@@ -21,10 +21,10 @@ pub record AreSavedTo (at_first saved : ℕ → Option (List ℕ)) (first end k 
 
 -- so many commands were made inside where all were done, and else they ended at the first that failed
 pub record HasMade (old : Device) (result : Result (Unit {0}) BlockFailed) (new : Device) (commands : ℕ) : Type 0 where
-  pub calls : OnOk result ((k : ℕ) → adds new.calls k ≡ adds old.calls (commands + k))
-  pub failed : OnOk result ((k : ℕ) → adds new.failed k ≡ adds old.failed k)
+  pub calls : OnOk result ((k : ℕ) → capped_sum new.calls k ≡ capped_sum old.calls (commands + k))
+  pub failed : OnOk result ((k : ℕ) → capped_sum new.failed k ≡ capped_sum old.failed k)
   pub rose : OnErr result (Rose old.calls new.calls)
-  pub fault : OnErr result (new.failed ≡ adds old.failed 1)
+  pub fault : OnErr result (new.failed ≡ capped_sum old.failed 1)
 
 -- the reads that save what a write of so many blocks changes for the first time: one for each longest run
 abbrev pub saving_reads : Bool → (ℕ → Option (List ℕ)) → ℕ → ℕ → ℕ
@@ -32,6 +32,6 @@ saving_reads cached saved first count = if cached then unsaved_runs saved first 
 
 -- a write made inside: the saving reads and then one write, or up to the first of these that failed
 pub record IsSavedWrite (old : Device) (reads : ℕ) (result : Result (Unit {0}) BlockFailed) (new : Device) : Type 0 where
-  pub calls : OnOk result (new.calls ≡ adds old.calls (reads + 1))
+  pub calls : OnOk result (new.calls ≡ capped_sum old.calls (reads + 1))
   pub rose : Rose old.calls new.calls
-  pub failed : new.failed ≡ adds old.failed (failures result)
+  pub failed : new.failed ≡ capped_sum old.failed (failures result)

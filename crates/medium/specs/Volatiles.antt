@@ -7,5 +7,5 @@ abbrev pub inside_of : {M : Type 0} {g : _} → Volatile M g → M
 inside_of medium = medium.inner
 
 -- the blocks that were saved since the last sync, as they then were
-abbrev pub saved_of : {M : Type 0} {g : _} → Volatile M g → ℕ → Option (List ℕ)
-saved_of medium = held_block medium.saved
+abbrev pub saved_blocks : {M : Type 0} {g : _} → Volatile M g → ℕ → Option (List ℕ)
+saved_blocks medium = held_block medium.saved

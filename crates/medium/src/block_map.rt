@@ -6,7 +6,7 @@ ghost use Rattle.std.specs.BTreeMap.{get, btree_map_len, ContainsKey, Updates};
 ghost use Rattle.std.proofs.lemmas.Map.Keys.{IsDistinct-prop};
 ghost use Rattle.medium.specs.declared.place.Place.{Place};
 ghost use Rattle.medium.specs.Blocks.{AreHeldFrom, overlay};
-ghost use Rattle.medium.specs.Places.{is_filled, block_in};
+ghost use Rattle.medium.specs.Places.{is_filled, filled_block};
 
 use crate::place::Place;
 use byte_lists::patch_into;

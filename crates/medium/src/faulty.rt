@@ -1,5 +1,5 @@
 ghost use Rattle.std.specs.Prelude.{◌≡◌, ℕ, ◌+◌, ◌*◌, ◌<◌, ◌≤◌, length, Err, OnSome, IfSome, IfNone};
-ghost use Rattle.medium.specs.Counts.{adds};
+ghost use Rattle.medium.specs.Counts.{capped_sum};
 ghost use Rattle.medium.specs.Device.{IsFresh, IsTransfer, IsRead, IsWrite, IsSync, StayPrepared, failures};
 ghost use Rattle.medium.specs.Faults.{faulty_device, inner_of, plan_of, planned_next, planned_count, IsPlannedWrite};
 
@@ -92,7 +92,7 @@ impl<M: Medium> Faulty<M> {
     /// Counts a command and its answer.
     fn counted(&mut self, answer: Result<(), BlockFailed>) -> Result<(), BlockFailed>
         ensures answer { result ≡ answer }
-        ensures counted { self.new ≡ record self.old { calls = adds self.old.calls 1; failed = adds self.old.failed (failures answer) } }
+        ensures counted { self.new ≡ record self.old { calls = capped_sum self.old.calls 1; failed = capped_sum self.old.failed (failures answer) } }
     {
         self.calls = self.calls.saturating_add(1);
         self.failed = self.failed.saturating_add(match answer {
@@ -105,7 +105,7 @@ impl<M: Medium> Faulty<M> {
     /// Fails the command by the plan, after so many blocks.
     fn fail(&mut self, done: u32) -> Result<(), BlockFailed>
         ensures answer { result ≡ Err (record { done = done }) }
-        ensures counted { self.new ≡ record self.old { calls = adds self.old.calls 1; failed = adds self.old.failed 1; planned = adds self.old.planned 1 } }
+        ensures counted { self.new ≡ record self.old { calls = capped_sum self.old.calls 1; failed = capped_sum self.old.failed 1; planned = capped_sum self.old.planned 1 } }
     {
         self.planned = self.planned.saturating_add(1);
         self.counted(Err(BlockFailed { done }))

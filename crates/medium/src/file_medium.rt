@@ -1,6 +1,6 @@
 ghost use Rattle.std.specs.Prelude.{◌≡◌, ℕ, ◌+◌, ◌*◌, ◌^◌, ◌<◌, ◌≤◌, length, ⊤, Ok, Err, IfOk, OnOk, OnErr};
 ghost use Rattle.std.specs.Bool.{OnTrue, OnFalse};
-ghost use Rattle.medium.specs.Counts.{adds};
+ghost use Rattle.medium.specs.Counts.{capped_sum};
 ghost use Rattle.medium.specs.Device.{IsBlockSize, failures};
 ghost use Rattle.medium.specs.Files.{file_device, has_all, read_answer, write_answer, sync_answer};
 
@@ -48,7 +48,7 @@ impl<F: FileExt + OpenFile> FileMedium<F> {
 
     // Counts a command with so many failures.
     fn count(&mut self, failures: u64)
-        ensures { self.new ≡ record self.old { calls = adds self.old.calls 1; failed = adds self.old.failed failures } }
+        ensures { self.new ≡ record self.old { calls = capped_sum self.old.calls 1; failed = capped_sum self.old.failed failures } }
     {
         self.calls = self.calls.saturating_add(1);
         self.failed = self.failed.saturating_add(failures);
@@ -57,7 +57,7 @@ impl<F: FileExt + OpenFile> FileMedium<F> {
     // A command was done.
     fn done(&mut self) -> Result<(), BlockFailed>
         ensures answer { result ≡ Ok _ }
-        ensures counted { self.new ≡ record self.old { calls = adds self.old.calls 1; failed = adds self.old.failed 0 } }
+        ensures counted { self.new ≡ record self.old { calls = capped_sum self.old.calls 1; failed = capped_sum self.old.failed 0 } }
     {
         self.count(0);
         Ok(())
@@ -66,7 +66,7 @@ impl<F: FileExt + OpenFile> FileMedium<F> {
     // A command failed after so many blocks, which is a fault.
     fn fail(&mut self, done: u32) -> Result<(), BlockFailed>
         ensures answer { result ≡ Err (record { done = done }) }
-        ensures counted { self.new ≡ record self.old { faults = adds self.old.faults 1; calls = adds self.old.calls 1; failed = adds self.old.failed 1 } }
+        ensures counted { self.new ≡ record self.old { faults = capped_sum self.old.faults 1; calls = capped_sum self.old.calls 1; failed = capped_sum self.old.failed 1 } }
         ensures later { self.old.faults ≤ self.new.faults }
     {
         self.faults = self.faults.saturating_add(1);
@@ -77,9 +77,9 @@ impl<F: FileExt + OpenFile> FileMedium<F> {
     // A read brought all its bytes, or failed.
     fn end_read(&mut self, all: bool) -> Result<(), BlockFailed>
         ensures answer { result ≡ read_answer all }
-        ensures counted { self.new ≡ record self.old { faults = self.new.faults; calls = adds self.old.calls 1; failed = adds self.old.failed (failures result) } }
+        ensures counted { self.new ≡ record self.old { faults = self.new.faults; calls = capped_sum self.old.calls 1; failed = capped_sum self.old.failed (failures result) } }
         ensures quiet { OnOk result (self.new.faults ≡ self.old.faults) }
-        ensures cause { OnErr result (self.new.faults ≡ adds self.old.faults 1) }
+        ensures cause { OnErr result (self.new.faults ≡ capped_sum self.old.faults 1) }
         ensures later { self.old.faults ≤ self.new.faults }
     {
         if all { self.done() } else { self.fail(0) }
@@ -89,9 +89,9 @@ impl<F: FileExt + OpenFile> FileMedium<F> {
     fn end_write(&mut self, answer: io::Result<usize>, wanted: usize) -> Result<(), BlockFailed>
         requires { IfOk answer (λ count. (count ≤ wanted) × (wanted < 2 ^ 32)) }
         ensures answer { result ≡ write_answer self.old.size answer wanted }
-        ensures counted { self.new ≡ record self.old { faults = self.new.faults; calls = adds self.old.calls 1; failed = adds self.old.failed (failures result) } }
+        ensures counted { self.new ≡ record self.old { faults = self.new.faults; calls = capped_sum self.old.calls 1; failed = capped_sum self.old.failed (failures result) } }
         ensures quiet { OnOk result (self.new.faults ≡ self.old.faults) }
-        ensures cause { OnErr result (self.new.faults ≡ adds self.old.faults 1) }
+        ensures cause { OnErr result (self.new.faults ≡ capped_sum self.old.faults 1) }
         ensures later { self.old.faults ≤ self.new.faults }
     {
         match answer {
@@ -109,9 +109,9 @@ impl<F: FileExt + OpenFile> FileMedium<F> {
     // A write-through was answered so by the system.
     fn end_sync(&mut self, answer: io::Result<()>) -> Result<(), BlockFailed>
         ensures answer { result ≡ sync_answer answer }
-        ensures counted { self.new ≡ record self.old { faults = self.new.faults; calls = adds self.old.calls 1; failed = adds self.old.failed (failures result) } }
+        ensures counted { self.new ≡ record self.old { faults = self.new.faults; calls = capped_sum self.old.calls 1; failed = capped_sum self.old.failed (failures result) } }
         ensures quiet { OnOk result (self.new.faults ≡ self.old.faults) }
-        ensures cause { OnErr result (self.new.faults ≡ adds self.old.faults 1) }
+        ensures cause { OnErr result (self.new.faults ≡ capped_sum self.old.faults 1) }
         ensures later { self.old.faults ≤ self.new.faults }
     {
         match answer {

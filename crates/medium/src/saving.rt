@@ -1,7 +1,7 @@
 ghost use Rattle.std.specs.Prelude.{◌≡◌, ℕ, ◌+◌, ◌*◌, ◌^◌, ◌<◌, ◌≤◌, cond, length, is_none, IsSome, None, IfErr, OnOk, OnErr, Ok};
 ghost use Rattle.medium.specs.BlockMap.{held_block, HasPlaceFor};
 ghost use Rattle.medium.specs.Cached.{restoration, HasTried, HoldsOthers, most_blocks};
-ghost use Rattle.medium.specs.Counts.{adds, Rose};
+ghost use Rattle.medium.specs.Counts.{capped_sum, Rose};
 ghost use Rattle.medium.specs.Device.{IsSame, StayPrepared, failures};
 ghost use Rattle.medium.specs.Saving.{unsaved_runs, AreSavedTo, HasMade};
 
@@ -39,8 +39,8 @@ fn save_run<M: Medium>(
     requires places { (b : ℕ) → first ≤ b → b < first + count → HasPlaceFor saved.old b }
     requires unsaved { (b : ℕ) → first ≤ b → b < first + count → held_block saved.old b ≡ None }
     ensures tried { HasTried (M.device inner.old) result (M.device inner.new) }
-    ensures calls { (M.device inner.new).calls ≡ adds (M.device inner.old).calls 1 }
-    ensures failed { (M.device inner.new).failed ≡ adds (M.device inner.old).failed (failures result) }
+    ensures calls { (M.device inner.new).calls ≡ capped_sum (M.device inner.old).calls 1 }
+    ensures failed { (M.device inner.new).failed ≡ capped_sum (M.device inner.old).failed (failures result) }
     ensures prepared { StayPrepared (M.prepared inner.old) (M.prepared inner.new) }
     ensures restored { restoration (held_block saved.new) saved.old.size (M.device inner.old).blocks (M.device inner.old).now ≡ restoration (held_block saved.old) saved.old.size (M.device inner.old).blocks (M.device inner.old).now }
     ensures held { OnOk result ((b : ℕ) → first ≤ b → b < first + count → IsSome (held_block saved.new b)) }

@@ -128,7 +128,7 @@ fn write_saved<M: Medium>(
 }
 
 impl<M: Medium> Medium for Volatile<M> {
-    ghost use Rattle.medium.specs.Volatiles.{inside_of, saved_of};
+    ghost use Rattle.medium.specs.Volatiles.{inside_of, saved_blocks};
 
     ghost device = { λ m. cached_device (M.device m.inner) m.cached (held_block m.saved) m.calls m.failed };
 
@@ -173,7 +173,7 @@ impl<M: Medium> Medium for Volatile<M> {
         requires ready { (b : ℕ) → lba ≤ b → b * (⟦<Volatile<M> as Medium>⟧.device self.old).size < lba * (⟦<Volatile<M> as Medium>⟧.device self.old).size + length bytes.now → ⟦<Volatile<M> as Medium>⟧.prepared self.old b }
         ensures written { IsWrite (⟦<Volatile<M> as Medium>⟧.device self.old) lba bytes.now result (⟦<Volatile<M> as Medium>⟧.device self.new) }
         ensures stay { StayPrepared (⟦<Volatile<M> as Medium>⟧.prepared self.old) (⟦<Volatile<M> as Medium>⟧.prepared self.new) }
-        ensures inside { IsSavedWrite (M.device (inside_of self.old)) (saving_reads (⟦<Volatile<M> as Medium>⟧.device self.old).cached (saved_of self.old) lba (length bytes.now / (M.device (inside_of self.old)).size)) result (M.device (inside_of self.new)) }
+        ensures inside { IsSavedWrite (M.device (inside_of self.old)) (saving_reads (⟦<Volatile<M> as Medium>⟧.device self.old).cached (saved_blocks self.old) lba (length bytes.now / (M.device (inside_of self.old)).size)) result (M.device (inside_of self.new)) }
     {
         let answer = write_saved(
             &mut self.inner,

@@ -13,7 +13,7 @@ use Rattle.history.specs.declared.entry.Entry.{Entry}
 use Rattle.history.specs.Setup.{Setup, size_of}
 use Rattle.history.specs.Eras.{media_id_of}
 use Rattle.history.specs.Contents.{contents}
-use Rattle.mbr_records.specs.Block.{Fields, extended_of, mbr_of}
+use Rattle.mbr_records.specs.Block.{Fields, extended_range, mbr_of}
 use Rattle.mbr_records.specs.Record.{is_protective}
 use Rattle.mbr_records.specs.Chain.{Trail, trail_of}
 use Rattle.partition_tables.specs.Blocks.{boot_record_at, medium_blocks, table_block}
@@ -144,14 +144,14 @@ module _ {X : Type 0} (old new : State) (k size blocks : ℕ) (bytes : List ℕ)
   gpt-ends is ends = rw is ends
 
   pub mbr-ends : medium_blocks bytes size ≡ blocks → list_any is_protective mbr.records ≡ false
-      → IfErr r (λ fault. EndsReads old k (option_map_or (λ extended. chain_reads bytes size extended) (extended_of blocks mbr.records) []) fault new)
+      → IfErr r (λ fault. EndsReads old k (option_map_or (λ extended. chain_reads bytes size extended) (extended_range blocks mbr.records) []) fault new)
       → IfErr r (λ fault. EndsReads old k (reads_by bytes size (Some mbr)) fault new)
   mbr-ends same isnt ends = rw (isnt, same) ends
 
 -- the chain of an extended partition
-pub chain-ends : (old new : State) (k size blocks : ℕ) (bytes : List ℕ) (mbr : Fields) (t : Trail) (extended : ℕ × ℕ) (fault : ReadFault) → extended_of blocks mbr.records ≡ Some extended → t ≡ trail_of extended.0 extended.1 []
+pub chain-ends : (old new : State) (k size blocks : ℕ) (bytes : List ℕ) (mbr : Fields) (t : Trail) (extended : ℕ × ℕ) (fault : ReadFault) → extended_range blocks mbr.records ≡ Some extended → t ≡ trail_of extended.0 extended.1 []
     → EndsReads old k (chain_reads bytes size (t.start, t.size)) fault new
-    → EndsReads old k (option_map_or (λ extended. chain_reads bytes size extended) (extended_of blocks mbr.records) []) fault new
+    → EndsReads old k (option_map_or (λ extended. chain_reads bytes size extended) (extended_range blocks mbr.records) []) fault new
 chain-ends old new k size blocks bytes mbr t extended fault there begun ends =
     let at : EndsReads old k (chain_reads bytes size extended) fault new = subst (λ (u : Trail). EndsReads old k (chain_reads bytes size (u.start, u.size)) fault new) begun ends in
     rw there at

@@ -3,7 +3,7 @@ use Rattle.std.proofs.Common.{◌≡◌, ℕ, List, [], ◌∷◌, ◌++◌, Opt
 use Rattle.std.specs.List.{list_any}
 use Rattle.std.specs.Option.{option_map_or}
 use Rattle.std.proofs.lemmas.List.{append-nil}
-use Rattle.mbr_records.specs.Block.{Fields, extended_of, mbr_of}
+use Rattle.mbr_records.specs.Block.{Fields, extended_range, mbr_of}
 use Rattle.mbr_records.specs.Record.{is_protective}
 use Rattle.mbr_records.specs.Chain.{Trail, trail_of}
 use Rattle.partition_tables.specs.declared.table.Child.{Child}
@@ -26,10 +26,10 @@ module _ (old : State) (k size blocks : ℕ) (bytes : List ℕ) (mbr : Fields) (
   -- these reads were made, and these are its children
   abbrev pub IsMbrTable : List Child → State → Type 0
   IsMbrTable children new =
-      AreReadsMade old k (option_map_or (λ extended. chain_reads bytes size extended) (extended_of blocks mbr.records) []) new
+      AreReadsMade old k (option_map_or (λ extended. chain_reads bytes size extended) (extended_range blocks mbr.records) []) new
       × (mbr_table_of children ≡ mbr_table_of (mbr_children bytes size mbr))
 
-  pub mbr-chain : (new : State) (t : Trail) (extended : ℕ × ℕ) (signature : ℕ) (primaries children : List Child) → extended_of blocks mbr.records ≡ Some extended → t ≡ trail_of extended.0 extended.1 [] → signature ≡ mbr.signature
+  pub mbr-chain : (new : State) (t : Trail) (extended : ℕ × ℕ) (signature : ℕ) (primaries children : List Child) → extended_range blocks mbr.records ≡ Some extended → t ≡ trail_of extended.0 extended.1 [] → signature ≡ mbr.signature
       → primaries ≡ primaries_of blocks mbr → AreReadsMade old k (chain_reads bytes size (t.start, t.size)) new × (children ≡ primaries ++ logicals_of bytes size signature (t.start, t.size)) → IsMbrTable children new
   unfolding mbr_children
   mbr-chain new t extended signature primaries children there begun signed first (made, is) =
@@ -38,7 +38,7 @@ module _ (old : State) (k size blocks : ℕ) (bytes : List ℕ) (mbr : Fields) (
       is ∙ (ap (λ (u : Trail). primaries ++ logicals_of bytes size signature (u.start, u.size)) begun ∙ (ap (λ (n : ℕ). primaries ++ logicals_of bytes size n extended) signed ∙ ap (λ (cs : List Child). cs ++ logicals_of bytes size mbr.signature extended) first)) in
       (rw there made_at, ap mbr_table_of (all ∙ rw (same, there) refl))
 
-  pub mbr-alone : (children : List Child) → extended_of blocks mbr.records ≡ None → children ≡ primaries_of blocks mbr → IsMbrTable children old
+  pub mbr-alone : (children : List Child) → extended_range blocks mbr.records ≡ None → children ≡ primaries_of blocks mbr → IsMbrTable children old
   unfolding mbr_children
   mbr-alone children none first = (rw none (made-none old k), ap mbr_table_of (first ∙ (sym (append-nil (primaries_of blocks mbr)) ∙ rw (same, none) refl)))
 
@@ -49,7 +49,7 @@ module _ (old : State) (k size blocks : ℕ) (bytes : List ℕ) (mbr : Fields) (
   by-gpt new (Ok t) is (made, told) = (rw is made, rw is told)
 
   pub by-mbr : (new : State) (r : Result Table ReadFault) → list_any is_protective mbr.records ≡ false
-      → IfOk r (λ t. AreReadsMade old k (option_map_or (λ extended. chain_reads bytes size extended) (extended_of blocks mbr.records) []) new × (t ≡ mbr_table_of (mbr_children bytes size mbr)))
+      → IfOk r (λ t. AreReadsMade old k (option_map_or (λ extended. chain_reads bytes size extended) (extended_range blocks mbr.records) []) new × (t ≡ mbr_table_of (mbr_children bytes size mbr)))
       → IfOk r (λ t. AreReadsMade old k (reads_by bytes size (Some mbr)) new × (t ≡ table_by bytes size (Some mbr)))
   by-mbr new (Err fault) isnt found = tt
   by-mbr new (Ok t) isnt (made, told) = (rw (isnt, same) made, rw isnt told)

@@ -3,7 +3,7 @@
 use Rattle.std.specs.Prelude.{ℕ, ◌+◌, ◌-◌, ◌*◌, ◌==◌, ◌&&◌, not, nat_lt, List, [], ◌∷◌, ◌++◌, map, Option, Some, None, is_none, is_some, if◌then◌else◌}
 use Rattle.std.specs.List.{list_any}
 use Rattle.std.specs.Option.{option_map_or}
-use Rattle.mbr_records.specs.Block.{Fields, extended_of, mbr_of}
+use Rattle.mbr_records.specs.Block.{Fields, extended_range, mbr_of}
 use Rattle.mbr_records.specs.Record.{is_protective}
 use Rattle.gpt_headers.specs.Array.{array_range_of}
 use Rattle.gpt_headers.specs.Header.{header_fault, header_fields}
@@ -44,7 +44,7 @@ abbrev pub reads_by : List ℕ → ℕ → Option Fields → List (ℕ × ℕ)
 reads_by bytes size None = []
 reads_by bytes size (Some mbr) =
     if list_any is_protective mbr.records then gpt_reads bytes size
-    else option_map_or (λ extended. chain_reads bytes size extended) (extended_of (medium_blocks bytes size) mbr.records) []
+    else option_map_or (λ extended. chain_reads bytes size extended) (extended_range (medium_blocks bytes size) mbr.records) []
 
 -- all reads in their order
 unfoldable pub probe_reads : List ℕ → ℕ → List (ℕ × ℕ)

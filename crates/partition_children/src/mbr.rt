@@ -1,6 +1,6 @@
 ghost use Rattle.std.specs.Prelude.{◌≡◌, ◌+◌, ◌≤◌, [], ◌++◌, IfOk, Some};
 ghost use Rattle.std.specs.Option.{option_map_or};
-ghost use Rattle.mbr_records.specs.Block.{Fields, extended_of, mbr_of, numbered_record};
+ghost use Rattle.mbr_records.specs.Block.{Fields, extended_range, mbr_of, numbered_record};
 ghost use Rattle.mbr_records.specs.Chain.{trail_of};
 ghost use Rattle.partition_tables.specs.declared.table.Origin.{Origin};
 ghost use Rattle.partition_tables.specs.declared.table.TableKind.{TableKind};
@@ -32,14 +32,14 @@ pub fn mbr_table<M: Medium>(
     ensures stays { AddsEntriesAlone disk.old (read_failures result) disk.new }
     ensures found { Finds disk.old target.now (λ bytes. option_map_or
         (λ extended. chain_reads bytes target.now.size extended)
-        (extended_of target.now.blocks mbr.now.records) [])
+        (extended_range target.now.blocks mbr.now.records) [])
         (λ bytes table. table ≡ record {
           kind = TableKind.Mbr;
           children = mbr_children bytes target.now.size mbr.now;
         }) result disk.new }
     ensures ends { ProbeEnds disk.old target.now (λ bytes. option_map_or
         (λ extended. chain_reads bytes target.now.size extended)
-        (extended_of target.now.blocks mbr.now.records) []) result disk.new }
+        (extended_range target.now.blocks mbr.now.records) []) result disk.new }
 {
     let mut children = primaries(alloc, target.blocks, mbr)?;
     if let Some((start, size)) = mbr.extended(target.blocks) {

@@ -12,7 +12,7 @@ use Rattle.std.proofs.lemmas.Option.{slice_get-get_or, slice_get_past}
 use Rattle.mbr_records.specs.declared.partition_record.MbrRecord.{MbrRecord}
 use Rattle.mbr_records.specs.Record.{is_data}
 use Rattle.mbr_records.specs.Block.{Fields, mbr_of, numbered_record}
-use Rattle.mbr_records.specs.Chain.{count_of, is_inside, link_of, logical_at, may_visit, next_record_block, trail_of, visited_of}
+use Rattle.mbr_records.specs.Chain.{count_of, is_inside, link_of, logical_at, may_visit, next_record_block, trail_of, visited_blocks}
 use Rattle.partition_tables.specs.Blocks.{boot_record_at}
 use Rattle.partition_tables.specs.MbrTable.{chain_of, next_name_at, trail_at}
 use Rattle.partition_tables.specs.Law.{ChainIsFollowed, LogicalsAreGiven}
@@ -86,7 +86,7 @@ full bytes size extended n h = next_by_name bytes size extended n ∙ closed (ne
     closed None = refl
     closed (Some x) =
         let t = trail_at bytes size extended n in
-        no_more (is_inside t (extended.0 + x) 1) (not (list_any (λ v. v == extended.0 + x) (visited_of t))) (count_of t) (extended.0 + x) count
+        no_more (is_inside t (extended.0 + x) 1) (not (list_any (λ v. v == extended.0 + x) (visited_blocks t))) (count_of t) (extended.0 + x) count
 
 -- what the blocks of the chain name, as far as they were fed
 named_so_far : (bytes : List ℕ) (size : ℕ) (extended : ℕ × ℕ) (front : List ℕ) (each : (k : ℕ) → k < length front → slice_get front k ≡ next_record_block (trail_at bytes size extended k))

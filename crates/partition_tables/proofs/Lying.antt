@@ -6,7 +6,7 @@ use Rattle.std.specs.Option.{option_map_or}
 use Rattle.std.proofs.lemmas.Bool.Decides.{nat_tests}
 use Rattle.std.proofs.lemmas.List.Elements.{All-append, All-cons, All-head, All-map, All-nil, All-tail, All-weaker, filter_passes}
 use Rattle.mbr_records.specs.declared.partition_record.MbrRecord.{MbrRecord}
-use Rattle.mbr_records.specs.Block.{Fields, extended_of, record_gives_partition, mbr_of, overlaps_another_record, numbered_record}
+use Rattle.mbr_records.specs.Block.{Fields, extended_range, record_gives_partition, mbr_of, overlaps_another_record, numbered_record}
 use Rattle.mbr_records.specs.Chain.{logical_at}
 use Rattle.mbr_records.specs.Record.{is_data, is_extended, is_on_medium, is_protective}
 use Rattle.gpt_headers.specs.Entry as entries
@@ -83,7 +83,7 @@ first_found p g Q h (x ∷ xs) = one (p x) (h x) (first_found p g Q h xs)
     one true here rest = here refl
     one false here rest = rest
 
-extended_lies : (limit : ℕ) (records : List MbrRecord) → IfSome (extended_of limit records) (λ p. p.0 + p.1 ≤ limit)
+extended_lies : (limit : ℕ) (records : List MbrRecord) → IfSome (extended_range limit records) (λ p. p.0 + p.1 ≤ limit)
 extended_lies limit records =
     first_found (λ r. is_extended r && is_on_medium limit r) (λ r. (r.start, r.size)) (λ p. p.0 + p.1 ≤ limit) (λ r h. last_test (is_extended r) (r.start + r.size) h) records
   where
@@ -94,7 +94,7 @@ mbr_lie : (bytes : List ℕ) (size : ℕ) (mbr : Fields) → All (λ c. Lies (me
 unfolding mbr_children
 mbr_lie bytes size mbr =
     let limit = medium_blocks bytes size in
-    All-append (λ c. Lies limit c) (primaries_of limit mbr) _ (primaries_lie limit mbr) (by_extended (extended_of limit mbr.records) (extended_lies limit mbr.records))
+    All-append (λ c. Lies limit c) (primaries_of limit mbr) _ (primaries_lie limit mbr) (by_extended (extended_range limit mbr.records) (extended_lies limit mbr.records))
   where
     by_extended : (o : Option (ℕ × ℕ)) → IfSome o (λ p. p.0 + p.1 ≤ medium_blocks bytes size)
         → All (λ c. Lies (medium_blocks bytes size) c) (option_map_or (λ extended. logicals_of bytes size mbr.signature extended) o [])

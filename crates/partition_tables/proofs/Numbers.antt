@@ -5,7 +5,7 @@ use Rattle.std.specs.List.{enumerate_from, list_any}
 use Rattle.std.specs.Option.{option_map_or}
 use Rattle.std.proofs.lemmas.List.Elements.{All-cons, All-filter, All-head, All-map, All-nil, All-tail, All-weaker}
 use Rattle.mbr_records.specs.declared.partition_record.MbrRecord.{MbrRecord}
-use Rattle.mbr_records.specs.Block.{Fields, extended_of, boot_fields, record_gives_partition, is_marked, mbr_of}
+use Rattle.mbr_records.specs.Block.{Fields, extended_range, boot_fields, record_gives_partition, is_marked, mbr_of}
 use Rattle.mbr_records.specs.Record.{is_protective}
 use Rattle.gpt_headers.specs.Entry as gpt
 use Rattle.gpt_headers.specs.Fields.{HeaderFields}
@@ -81,7 +81,7 @@ mbr_rise bytes size mbr four =
     let blocks = medium_blocks bytes size in
     let primaries = rises_kept 1 (λ (i, r). record_gives_partition blocks mbr.records i r) (λ (i, r). child_of_record mbr.signature (i + 1) r (r.start, r.size)) (λ p. refl) 0 mbr.records in
     rises_append 0 5 (primaries_of blocks mbr) _ (rises_lower 1 0 (primaries_of blocks mbr) (omega arith) primaries) (primaries_below blocks mbr four) (omega arith)
-    (by_extended (extended_of blocks mbr.records))
+    (by_extended (extended_range blocks mbr.records))
   where
     by_extended : (o : Option (ℕ × ℕ)) → Rises 5 (option_map_or (λ extended. logicals_of bytes size mbr.signature extended) o [])
     by_extended None = tt

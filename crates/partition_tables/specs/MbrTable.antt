@@ -4,7 +4,7 @@ use Rattle.std.specs.Prelude.{ℕ, zero, suc, ◌+◌, List, [], ◌++◌, map, 
 use Rattle.std.specs.List.{enumerate_from, range_with_len}
 use Rattle.std.specs.Option.{option_map_or}
 use Rattle.mbr_records.specs.declared.partition_record.MbrRecord.{MbrRecord}
-use Rattle.mbr_records.specs.Block.{Fields, extended_of, record_gives_partition, mbr_of, numbered_record}
+use Rattle.mbr_records.specs.Block.{Fields, extended_range, record_gives_partition, mbr_of, numbered_record}
 use Rattle.mbr_records.specs.Chain.{Trail, link_of, logical_at, most_read, next_record_block}
 use Rattle.partition_tables.specs.declared.table.Child.{Child}
 use Rattle.partition_tables.specs.declared.table.Origin.TheVariants.{Mbr}
@@ -55,4 +55,4 @@ logicals_of bytes size signature extended =
 unfoldable pub mbr_children : List ℕ → ℕ → Fields → List Child
 mbr_children bytes size mbr =
     primaries_of (medium_blocks bytes size) mbr
-    ++ option_map_or (λ extended. logicals_of bytes size mbr.signature extended) (extended_of (medium_blocks bytes size) mbr.records) []
+    ++ option_map_or (λ extended. logicals_of bytes size mbr.signature extended) (extended_range (medium_blocks bytes size) mbr.records) []

@@ -10,7 +10,7 @@ use Rattle.history.specs.Tokens.{token_count, request, is_accept, is_collect_of}
 use Rattle.history.specs.Marks.{first_from, has_view, is_outstanding}
 use Rattle.history.specs.Next.{first_open}
 use Rattle.history_laws.proofs.ClosedLemmas.{cancel-some, cancel-none, reset-some, reset-none}
-use Rattle.history_laws.specs.Left.{ended_by}
+use Rattle.history_laws.specs.Left.{end_count}
 use Rattle.drive.specs.declared.answers.InsertFault.{InsertFault}
 use Rattle.disk_core.specs.declared.answers.EjectRefused.{EjectRefused}
 use Rattle.disk_core.specs.State.{State}
@@ -37,12 +37,12 @@ module _ (old new : State) (b : Books) (sound : AreBooksOf old b) where
   does-ends : (e : Entry) (count : ℕ) → is_accept e ≡ false → ((t : ℕ) → is_collect_of t e ≡ false) → is_accept_of (Some e) ≡ false → EndsBy old e count new → GoesOn old new → DoesOn old b new b (Some e) None
   does-ends e count other none no_accept ends goes = does-entry old new b e sound other none no_accept ends.setup ends.entries ends.legal ends.devices ends.gates goes
 
-  ends-none : (e : Entry) (count : ℕ) → EndSays old e count new → ended_by old.setup old.entries e ≡ 0 → GoesOn old new → DoesOn old b new b None None
+  ends-none : (e : Entry) (count : ℕ) → EndSays old e count new → end_count old.setup old.entries e ≡ 0 → GoesOn old new → DoesOn old b new b None None
   unfolding EndSays
   ends-none e zero says none goes = does-nothing old new b sound says.1 goes
   ends-none e (suc n) ends none goes = absurd (omega (arith, ends.counted, none))
 
-  ends-some : (e : Entry) (count : ℕ) → is_accept e ≡ false → ((t : ℕ) → is_collect_of t e ≡ false) → is_accept_of (Some e) ≡ false → EndSays old e count new → 1 ≤ ended_by old.setup old.entries e → GoesOn old new → DoesOn old b new b (Some e) None
+  ends-some : (e : Entry) (count : ℕ) → is_accept e ≡ false → ((t : ℕ) → is_collect_of t e ≡ false) → is_accept_of (Some e) ≡ false → EndSays old e count new → 1 ≤ end_count old.setup old.entries e → GoesOn old new → DoesOn old b new b (Some e) None
   unfolding EndSays
   ends-some e zero other none no_accept says some goes = absurd (omega (arith, says.0, some))
   ends-some e (suc n) other none no_accept ends some goes = does-ends e (suc n) other none no_accept ends goes

@@ -19,7 +19,7 @@ use Rattle.script_text.specs.declared.report.parts.TokenLine.{TokenLine}
 use Rattle.script_text.specs.Report.{AreEnds, is_success}
 use Rattle.stack_run.specs.declared.summary.Figures.{Figures}
 use Rattle.stack_run.specs.Figures.{is_success_by, with_moved, with_accepted, figures_with, figures_of}
-use Rattle.stack_run.specs.Summary.{is_refuse, refusal_count, moved_in}
+use Rattle.stack_run.specs.Summary.{is_refuse, refusal_count, successful_bytes}
 
 -- one entry further, of entries of which the oldest stands first
 pub figures-next : (ends : List TokenLine) (es : List Entry) (i : ℕ) (e : Entry) → i < length es
@@ -34,8 +34,8 @@ pub record AreCounted (ends : List TokenLine) (H : List Entry) (f : Figures) : T
   pub accepted : f.accepted ≡ token_count H
   pub refused : f.refused ≡ refusal_count H
   pub commands : f.commands ≡ commands H
-  pub written : f.written ≡ moved_in (is_success_by ends) is_write H
-  pub read : f.read ≡ moved_in (is_success_by ends) is_read H
+  pub written : f.written ≡ successful_bytes (is_success_by ends) is_write H
+  pub read : f.read ≡ successful_bytes (is_success_by ends) is_read H
 
 -- what one more successful request adds
 record AddsMoved (b : Bool) (k : Kind) (n : ℕ) (f f' : Figures) : Type 0 where
@@ -67,7 +67,7 @@ adds b k n f f' ends H is count more =
 -- so of one more that was accepted
 accept-counted : (ends : List TokenLine) (tag : ℕ) (view : View) (asked : Asked) (bytes : List ℕ) (before : List Entry) (f : Figures) → AreCounted ends before f
     → AreCounted ends (Accept tag view asked bytes ∷ before) (with_accepted (is_success_by ends f.accepted) asked f)
-unfolding moved_in
+unfolding successful_bytes
 accept-counted ends tag view asked bytes before f all = by (is_success_by ends f.accepted) refl
   where
     counted : (b : Bool) (f' : Figures) → is_success_by ends f.accepted ≡ b → AddsMoved b asked.kind asked.length f f' → AreCounted ends (Accept tag view asked bytes ∷ before) (record f' { accepted = f.accepted + 1 })
@@ -87,7 +87,7 @@ accept-counted ends tag view asked bytes before f all = by (is_success_by ends f
 
 -- an entry that is none of these counts nowhere
 quiet-counted : (ends : List TokenLine) (e : Entry) (before : List Entry) (f : Figures) → is_accept e ≡ false → is_refuse e ≡ false → is_command e ≡ false
-    → ((test : Kind → Bool) → moved_in (is_success_by ends) test (e ∷ before) ≡ moved_in (is_success_by ends) test before) → AreCounted ends before f → AreCounted ends (e ∷ before) f
+    → ((test : Kind → Bool) → successful_bytes (is_success_by ends) test (e ∷ before) ≡ successful_bytes (is_success_by ends) test before) → AreCounted ends before f → AreCounted ends (e ∷ before) f
 quiet-counted ends e before f no_accept no_refuse no_command same all = record {
   accepted = all.accepted ∙ sym (accepted-same before e no_accept);
   refused = all.refused ∙ sym (count-same is_refuse e before no_refuse);
@@ -97,7 +97,7 @@ quiet-counted ends e before f no_accept no_refuse no_command same all = record {
 }
 
 command-counted : (ends : List TokenLine) (e : Entry) (before : List Entry) (f : Figures) → is_accept e ≡ false → is_refuse e ≡ false → is_command e ≡ true
-    → ((test : Kind → Bool) → moved_in (is_success_by ends) test (e ∷ before) ≡ moved_in (is_success_by ends) test before) → AreCounted ends before f
+    → ((test : Kind → Bool) → successful_bytes (is_success_by ends) test (e ∷ before) ≡ successful_bytes (is_success_by ends) test before) → AreCounted ends before f
     → AreCounted ends (e ∷ before) (record f { commands = f.commands + 1 })
 command-counted ends e before f no_accept no_refuse command same all = record {
   accepted = all.accepted ∙ sym (accepted-same before e no_accept);
@@ -109,7 +109,7 @@ command-counted ends e before f no_accept no_refuse command same all = record {
 
 -- so of all entries
 pub figures-counted : (ends : List TokenLine) (H : List Entry) → AreCounted ends H (figures_of ends H)
-unfolding figures_of moved_in token_count commands
+unfolding figures_of successful_bytes token_count commands
 figures-counted ends [] = record { accepted = refl; refused = refl; commands = refl; written = refl; read = refl }
 figures-counted ends (Accept tag view asked bytes ∷ before) = accept-counted ends tag view asked bytes before (figures_of ends before) (figures-counted ends before)
 figures-counted ends (Refuse tag view asked media_id status ∷ before) =
@@ -141,8 +141,8 @@ success-told S H ends are t there = by (slice_get_cases ends t).1
 
 -- so of the bytes that were moved
 pub moved-told : (S : Setup) (H : List Entry) (ends : List TokenLine) → AreEnds S H ends → (test : Kind → Bool) (G : List Entry) → token_count G ≤ token_count H
-    → moved_in (is_success_by ends) test G ≡ moved_in (λ t. is_success (mark_of S H t)) test G
-unfolding moved_in
+    → successful_bytes (is_success_by ends) test G ≡ successful_bytes (λ t. is_success (mark_of S H t)) test G
+unfolding successful_bytes
 moved-told S H ends are test [] few = refl
 moved-told S H ends are test (Accept tag view asked bytes ∷ before) few =
     let one = accepted-more before (Accept tag view asked bytes) refl in

@@ -1,7 +1,7 @@
 -- An image that was taken and put back.
 use Rattle.std.proofs.Common.{◌≡◌, ◌≢◌, ℕ, ◌%◌, ◌≤◌, ◌⊎◌, inl, inr, Bool, List, length, Option, None, Some, Result, Ok, Err, refl, sym, ◌∙◌, ap, arith}
 use Rattle.std.proofs.lemmas.List.{take-append-drop}
-use Rattle.medium.specs.Counts.{adds, Rose}
+use Rattle.medium.specs.Counts.{capped_sum, Rose}
 use Rattle.medium.specs.Device.{Device}
 use Rattle.image_store.specs.Place.{Place, Here, Missing, Taken, Untold, Image, IsTaking, GivesBlocks, put_place, whole_length}
 use Rattle.stack_run.specs.declared.refusal.NotRun.{NotRun}
@@ -29,10 +29,10 @@ lost-place (Taken tail) p1 p2 size cached d kept fault taking put = absurd takin
 lost-place Untold p1 p2 size cached d kept fault taking put = put ∙ (rw taking.blocks refl)
 
 -- the counts of a medium on which nothing has happened
-worn-none : (w0 w1 w2 failed : ℕ) → w1 ≡ w0 → failed ≡ 0 → w2 ≡ adds w1 failed → w2 ≡ adds w0 0
+worn-none : (w0 w1 w2 failed : ℕ) → w1 ≡ w0 → failed ≡ 0 → w2 ≡ capped_sum w1 failed → w2 ≡ capped_sum w0 0
 worn-none w0 w1 w2 failed same none is = is ∙ (rw (same, none) refl)
 
-twice : (w : ℕ) → adds (adds w 0) 0 ≡ adds w 0
+twice : (w : ℕ) → capped_sum (capped_sum w 0) 0 ≡ capped_sum w 0
 twice w = omega arith
 
 module _ (old mid new : Image) (size : ℕ) (cached : Bool) (d : Device) (taking : IsTaking old.place mid.place size cached d) (worn : mid.worn ≡ old.worn) where
@@ -40,7 +40,7 @@ module _ (old mid new : Image) (size : ℕ) (cached : Bool) (d : Device) (taking
   pub as-it-was : (Faults : ℕ → ℕ → Type 0) → Puts (Ok tt) d mid new → Faults old.faults new.faults → IsAsItWas Faults old new
   as-it-was Faults puts count = record {
     place = back-place old.place mid.place new.place size cached d taking puts.place;
-    worn = ap (λ w. adds w 0) (worn-none old.worn mid.worn new.worn d.failed worn taking.fresh.failed puts.worn) ∙ twice old.worn;
+    worn = ap (λ w. capped_sum w 0) (worn-none old.worn mid.worn new.worn d.failed worn taking.fresh.failed puts.worn) ∙ twice old.worn;
     count = count;
   }
 

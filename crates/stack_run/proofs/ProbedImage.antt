@@ -1,6 +1,6 @@
 -- An image that was taken, probed and put back.
 use Rattle.std.proofs.Common.{◌≡◌, ℕ, ◌⊎◌, inl, inr, List, Option, None, Some, Result, Ok, Err, refl, sym, ◌∙◌, ap, arith}
-use Rattle.medium.specs.Counts.{adds, Rose}
+use Rattle.medium.specs.Counts.{capped_sum, Rose}
 use Rattle.medium.specs.Device.{Device}
 use Rattle.image_store.specs.Place.{Place, Here, Missing, Taken, Untold, Image, IsTaking, GivesBlocks, put_place}
 use Rattle.partition_tables.specs.declared.table.Table.{Table}
@@ -24,7 +24,7 @@ at-image Untold p1 want d table taking is = tt
 
 module _ (old mid new : Image) (want : Wanted) (d d' : Device) (takes : TakesImage want d old mid) where
   module _ (n : ℕ) (keeps : KeepsBytes n d d') where
-    worn-so : new.worn ≡ adds mid.worn d'.failed → new.worn ≡ adds old.worn n
+    worn-so : new.worn ≡ capped_sum mid.worn d'.failed → new.worn ≡ capped_sum old.worn n
     worn-so is = is ∙ (rw (takes.worn, keeps.failed) refl)
 
     place-back : Puts (Ok tt) d' mid new → new.place ≡ old.place
@@ -39,14 +39,14 @@ module _ (old mid new : Image) (want : Wanted) (d d' : Device) (takes : TakesIma
       cause = cause;
     }
 
-  twice : (w : ℕ) → adds (adds w 0) 0 ≡ adds w 0
+  twice : (w : ℕ) → capped_sum (capped_sum w 0) 0 ≡ capped_sum w 0
   twice w = omega arith
 
   -- memory ran out in its probe
   pub left-so : (result : Result (Unit {0}) NotRun) → KeepsBytes 0 d d' → Puts result d' mid new → ProbeLeaves want.size old new
   left-so (Ok tt) keeps puts = inl (inl (inl (record {
     place = place-back 0 keeps puts;
-    worn = ap (λ w. adds w 0) (worn-so 0 keeps puts.worn) ∙ twice old.worn;
+    worn = ap (λ w. capped_sum w 0) (worn-so 0 keeps puts.worn) ∙ twice old.worn;
     count = puts.cause.quiet ∙ takes.quiet;
   })))
   left-so (Err NotRun.Image) keeps puts = inl (inl (inr (lost-so 0 keeps Rose NotRun.Image puts (rw takes.quiet at puts.cause.failed refl))))

@@ -3,7 +3,7 @@ use Rattle.std.proofs.Common.{◌≡◌, ℕ, ◌+◌, ◌%◌, ◌⊎◌, inl, 
 use Rattle.std.specs.List.{AllByRecursion}
 use Rattle.std.proofs.lemmas.Bool.{false≢true}
 use Rattle.std.proofs.lemmas.Slice.Eq.{bytes_eq-Decides}
-use Rattle.medium.specs.Counts.{adds, Rose}
+use Rattle.medium.specs.Counts.{capped_sum, Rose}
 use Rattle.medium.specs.Device.{Device}
 use Rattle.history.specs.declared.entry.Entry.{Entry}
 use Rattle.history.specs.declared.entry.Entry.TheVariants.{Accept, Refuse, Done, Fault, Collect, Cancel, Reset, Eject, Insert, Protect}
@@ -62,7 +62,7 @@ module _ (S : Setup) (k : ℕ) (bytes : List ℕ) (first : first_of S k ≡ Some
 
 -- one medium of a disk
 module _ (S : Setup) (H : List Entry) (k : ℕ) (want : Wanted) (d d' : Device) (old mid new : Image) (sized : size_of S ≡ want.size) (takes : TakesImage want d old mid) (era : IsEra S H k d d') where
-  worn-is : new.worn ≡ adds mid.worn d'.failed → new.worn ≡ adds old.worn (era_faults k H)
+  worn-is : new.worn ≡ capped_sum mid.worn d'.failed → new.worn ≡ capped_sum old.worn (era_faults k H)
   worn-is is = is ∙ (rw (takes.worn, era.meets.failed) refl)
 
   leaves : (p0 p1 : Place) → IsTaking p0 p1 want.size want.cached d → new.place ≡ put_place {E = NotRun} p1 d'.kept (Ok tt) → Leaves S H k p0 new.place

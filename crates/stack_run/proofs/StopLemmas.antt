@@ -3,7 +3,7 @@ use Rattle.std.proofs.Common.{◌≡◌, ◌≢◌, ℕ, inl, inr, Bool, true, f
 use Rattle.std.specs.List.{AllByRecursion}
 use Rattle.std.proofs.Math.Seq.{take-append_seam}
 use Rattle.std.proofs.lemmas.Bool.{false≢true}
-use Rattle.medium.specs.Counts.{adds, Rose}
+use Rattle.medium.specs.Counts.{capped_sum, Rose}
 use Rattle.medium.specs.Device.{Device}
 use Rattle.image_store.specs.Place.{Image, IsFree, IsTaken}
 use Rattle.script_text.specs.declared.language.plans.DiskPlan.{DiskPlan}
@@ -26,7 +26,7 @@ use Rattle.stack_run.proofs.WantedLemmas.{none-wanted}
 
 -- an image that was not touched
 unchanged : (old new : Image) → new ≡ old → IsAsItWas Stayed old new
-unchanged old new same = record { place = ap (λ (i : Image). i.place) same; worn = ap (λ (i : Image). adds i.worn 0) same; count = ap (λ (i : Image). i.faults) same }
+unchanged old new same = record { place = ap (λ (i : Image). i.place) same; worn = ap (λ (i : Image). capped_sum i.worn 0) same; count = ap (λ (i : Image). i.faults) same }
 
 -- an image that was taken, and put back with nothing done
 back-gone : (s : Bool) (w : Wanted) (d : Device) (old mid new : Image) → TakesImage w d old mid → PutsOr s w d mid new → IsBackOrGone old new

@@ -1,7 +1,7 @@
 -- What calls for one image after another do (own profile).
 use Rattle.std.specs.Prelude.{◌≡◌, ◌≢◌, ℕ, ◌%◌, ◌≤◌, Bool, true, false, List, [], ◌∷◌, ◌++◌, length, Result, Ok, Err}
 use Rattle.std.specs.List.{AllByRecursion}
-use Rattle.medium.specs.Counts.{adds}
+use Rattle.medium.specs.Counts.{capped_sum}
 use Rattle.medium.specs.Device.{Device, IsFresh, IsBlockSize}
 use Rattle.image_store.specs.Edge.{HasCauseOf}
 use Rattle.image_store.specs.Place.{Image, IsFree, IsTaken, IsTaking, ChangesOnly, put_place}
@@ -34,7 +34,7 @@ pub record IsMediumOf (plan : DiskPlan) (d : Device) : Type 0 where
 -- a medium was put back with this answer
 pub record Puts (result : Result (Unit {0}) NotRun) (d : Device) (old new : Image) : Type 0 where
   pub place : new.place ≡ put_place old.place d.kept result
-  pub worn : new.worn ≡ adds old.worn d.failed
+  pub worn : new.worn ≡ capped_sum old.worn d.failed
   pub free : IsFree new.place
   pub cause : HasCauseOf NotRun.Image old.faults new.faults result
 

@@ -1,7 +1,7 @@
 -- The media that the disks of a script have, and what becomes of their images (own profile).
 use Rattle.std.specs.Prelude.{◌≡◌, ◌≢◌, ℕ, ◌+◌, ◌/◌, ◌%◌, ◌<◌, ◌≤◌, ◌⊎◌, List, [], ◌∷◌, ◌++◌, length, map, Some}
 use Rattle.std.specs.List.{AllByRecursion}
-use Rattle.medium.specs.Counts.{adds, Rose}
+use Rattle.medium.specs.Counts.{capped_sum, Rose}
 use Rattle.disk_split.specs.declared.geometry.Geometry.{Geometry}
 use Rattle.history.specs.declared.entry.Entry.{Entry}
 use Rattle.history.specs.Setup.{Setup, Opening, size_of}
@@ -95,13 +95,13 @@ IsLostPlace Untold new = new ≡ Untold
 -- the image of medium k was put back: no call of its name failed, and the failed commands of its era are counted
 pub record IsLeft (S : Setup) (H : List Entry) (k : ℕ) (old new : Image) : Type 0 where
   pub place : Leaves S H k old.place new.place
-  pub worn : new.worn ≡ adds old.worn (era_faults k H)
+  pub worn : new.worn ≡ capped_sum old.worn (era_faults k H)
   pub quiet : new.faults ≡ old.faults
 
 -- the image of a medium with so many failed commands could not be put back
 pub record IsLost (Cause : ℕ → ℕ → Type 0) (failed : ℕ) (old new : Image) : Type 0 where
   pub place : IsLostPlace old.place new.place
-  pub worn : new.worn ≡ adds old.worn failed
+  pub worn : new.worn ≡ capped_sum old.worn failed
   pub cause : Cause old.faults new.faults
 
 -- the count stayed: memory ran out
@@ -124,7 +124,7 @@ EachMedium Ends k (name ∷ names) at at' = Ends k (at name) (at' name) × EachM
 -- the image is where it was
 pub record IsAsItWas (Faults : ℕ → ℕ → Type 0) (old new : Image) : Type 0 where
   pub place : new.place ≡ old.place
-  pub worn : adds new.worn 0 ≡ adds old.worn 0
+  pub worn : capped_sum new.worn 0 ≡ capped_sum old.worn 0
   pub count : Faults old.faults new.faults
 
 -- or it was taken, and could not be put back as it was

@@ -1,6 +1,6 @@
 -- What a probe of an image finds, and what it leaves of the image (own profile).
 use Rattle.std.specs.Prelude.{◌≡◌, ℕ, ◌⊎◌, false, List, Option, None, Some, Result, Ok, Err}
-use Rattle.medium.specs.Counts.{adds, Rose}
+use Rattle.medium.specs.Counts.{capped_sum, Rose}
 use Rattle.medium.specs.Device.{Device}
 use Rattle.image_store.specs.Place.{Place, Here, Missing, Taken, Untold, Image, whole_block_bytes}
 use Rattle.partition_tables.specs.declared.table.Table.{Table}
@@ -45,7 +45,7 @@ IsTableAt Untold size table = Unit {0}
 pub record IsProbed (size : ℕ) (found : Option Table) (old new : Image) : Type 0 where
   pub table : IsTableAt old.place size found
   pub place : new.place ≡ old.place
-  pub worn : new.worn ≡ adds old.worn (failed_reads found)
+  pub worn : new.worn ≡ capped_sum old.worn (failed_reads found)
   pub quiet : new.faults ≡ old.faults
 
 -- it was probed, and could not be put back for this cause

@@ -19,15 +19,15 @@ abbrev pub refusal_count : List Entry → ℕ
 refusal_count H = count_by is_refuse H
 
 -- the bytes of these requests that pass a test and succeeded: each counts where it was accepted
-unfoldable pub moved_in : (ℕ → Bool) → (Kind → Bool) → List Entry → ℕ
-moved_in succeeded test [] = 0
-moved_in succeeded test (Accept tag view asked bytes ∷ before) =
-    (if test asked.kind && succeeded (token_count before) then asked.length else 0) + moved_in succeeded test before
-moved_in succeeded test (e ∷ before) = moved_in succeeded test before
+unfoldable pub successful_bytes : (ℕ → Bool) → (Kind → Bool) → List Entry → ℕ
+successful_bytes succeeded test [] = 0
+successful_bytes succeeded test (Accept tag view asked bytes ∷ before) =
+    (if test asked.kind && succeeded (token_count before) then asked.length else 0) + successful_bytes succeeded test before
+successful_bytes succeeded test (e ∷ before) = successful_bytes succeeded test before
 
 -- the lengths in bytes of the successful requests of a kind
 abbrev pub moved_bytes : Setup → (Kind → Bool) → List Entry → ℕ
-moved_bytes S test H = moved_in (λ t. is_success (mark_of S H t)) test H
+moved_bytes S test H = successful_bytes (λ t. is_success (mark_of S H t)) test H
 
 abbrev pub figure_text : List ℕ → ℕ → List ℕ
 figure_text word number = line_of (word ∷ decimal number ∷ [])

@@ -9,7 +9,7 @@ use Rattle.partition_children.proofs.mbr.mbr_table.Goals.{in-Some+in_ok-add_logi
 use Rattle.std.proofs.Common.{[]}
 use Rattle.partition_children.specs.declared.reading.ReadFault.TheVariants.{Memory}
 use Rattle.std.specs.Option.{option_map_or}
-use Rattle.mbr_records.specs.Block.{extended_of}
+use Rattle.mbr_records.specs.Block.{extended_range}
 use Rattle.partition_children.specs.Probing.{EndsReads}
 use Rattle.partition_children.specs.Reads.{chain_reads}
 use Rattle.partition_children.proofs.Endings.{chain-ends, handed-on, wants-before}
@@ -47,12 +47,12 @@ returns-clause-found g c bytes holds =
 pub returns-in_err-children-clause-ends : goal.returns-in_err-children-clause-ends
 returns-in_err-children-clause-ends g c bytes holds =
     let target = c.args.target.now in
-    let reads = option_map_or (λ extended. chain_reads bytes target.size extended) (extended_of target.blocks c.args.mbr.now.records) [] in
+    let reads = option_map_or (λ extended. chain_reads bytes target.size extended) (extended_range target.blocks c.args.mbr.now.records) [] in
     handed-on (λ f. EndsReads c.args.disk.now target.view.media_id reads f c.args.disk.now) c.from_residual.result Memory (wants-before c.args.disk.now target.view.media_id reads) c.from_residual.ensures.1
 
 pub returns-in_err-add_logicals-clause-ends : goal.returns-in_err-add_logicals-clause-ends
 returns-in_err-add_logicals-clause-ends g c bytes holds =
     let target = c.args.target.now in
     let fault = c.in_err-add_logicals.field-0.0 in
-    handed-on (λ f. EndsReads c.args.disk.now target.view.media_id (option_map_or (λ extended. chain_reads bytes target.size extended) (extended_of target.blocks c.args.mbr.now.records) []) f c.add_logicals.new.disk) c.from_residual-in_err-add_logicals.result fault
+    handed-on (λ f. EndsReads c.args.disk.now target.view.media_id (option_map_or (λ extended. chain_reads bytes target.size extended) (extended_range target.blocks c.args.mbr.now.records) []) f c.add_logicals.new.disk) c.from_residual-in_err-add_logicals.result fault
     (chain-ends c.args.disk.now c.add_logicals.new.disk target.view.media_id target.size target.blocks bytes c.args.mbr.now c.begin.result (c.in-Some.start, c.in-Some.size) fault (sym c.extended.ensures.exact ∙ c.in-Some.is) c.begin.ensures (c.in_err-add_logicals.ensures.ends bytes holds)) c.from_residual-in_err-add_logicals.ensures.1

@@ -1,6 +1,6 @@
 use Rattle.std.proofs.Common.{◌≡◌, ℕ, ◌*◌, refl, sym, ap, subst, ◌∙◌, inl, true, Result, Ok, Err, OnOk, OnErr}
 use Rattle.std.specs.Result.{is_ok}
-use Rattle.medium.specs.Counts.{adds}
+use Rattle.medium.specs.Counts.{capped_sum}
 use Rattle.medium.specs.declared.block_failed.BlockFailed.{BlockFailed}
 use Rattle.medium.proofs.Restored.{IsCache, cache-none, cache-after, kept-none}
 use Rattle.medium.specs.BlockMap.{held_block}
@@ -43,7 +43,7 @@ returns-then-is_ok-clause-synced g c =
       command = record {
         same = record { first = same.first; size = same.size; blocks = same.blocks; cached = refl };
         calls = c.saturating_add-self.ensures;
-        failed = c.saturating_add-self-2.ensures ∙ ap (λ (n : ℕ). adds self.failed n) c.failures_of.ensures;
+        failed = c.saturating_add-self-2.ensures ∙ ap (λ (n : ℕ). capped_sum self.failed n) c.failures_of.ensures;
         later = synced.command.later;
         cause = synced.command.cause;
         quiet = synced.command.quiet;

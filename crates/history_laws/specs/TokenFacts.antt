@@ -13,15 +13,15 @@ use Rattle.history.specs.Room.{commands_of}
 
 -- the request of a token, its end, whether it was handed back, its done commands, and how many were made for it; what
 -- its reads got is told beside it, by the byte
-pub record Told : Type 0 where
+pub record TokenFacts : Type 0 where
   pub named : Option Request
   pub mark : Option Status
   pub collected : Bool
   pub done : List Command
   pub made : ℕ
 
-unfoldable pub told : Setup → List Entry → ℕ → Told
-told S H t = record {
+unfoldable pub facts_of : Setup → List Entry → ℕ → TokenFacts
+facts_of S H t = record {
   named = request H t;
   mark = mark_of S H t;
   collected = was_collected H t;
@@ -30,12 +30,12 @@ told S H t = record {
 }
 
 -- what is told of a token that is not yet accepted
-abbrev pub untold : Told
-untold = record { named = None; mark = None; collected = false; done = []; made = 0 }
+abbrev pub no_facts : TokenFacts
+no_facts = record { named = None; mark = None; collected = false; done = []; made = 0 }
 
 -- nothing is told of the token
 pub record IsUntold (S : Setup) (H : List Entry) (t : ℕ) : Type 0 where
-  pub told : told S H t ≡ untold
+  pub told : facts_of S H t ≡ no_facts
   pub unread : (x : ℕ) → bytes_read S H t x ≡ None
   pub unticketed : (b : ℕ) → ticket_of H t b ≡ None
 
