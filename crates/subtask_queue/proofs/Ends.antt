@@ -120,6 +120,14 @@ pub firsts-none : (us : List (ℕ × Sub)) (firsts : FirstNodes) → AreLed us f
 unfolding first_node
 firsts-none us firsts led is t = led.first t ∙ ap (first_node (is_own t)) is
 
+below-from : (token t : ℕ) (subs : List Sub) → token ≤ t → AreBelow token subs → AreBelow t subs
+unfolding AreBelow
+below-from token t [] from below = tt
+below-from token t (s ∷ subs) from below = (let low = below.0 in omega arith, below-from token t subs from below.1)
+
+pub none-after : (us : List (ℕ × Sub)) (firsts : FirstNodes) (token t : ℕ) → AreLed us firsts → AreBelow token (subs_in us) → token ≤ t → first_at firsts t ≡ None
+none-after us firsts token t led below from = led.first t ∙ none-below t us (below-from token t (subs_in us) from below)
+
 pub base-below : (us : List (ℕ × Sub)) (firsts : FirstNodes) (token : ℕ) → AreLed us firsts → AreBelow token (subs_in us) → 0 < length us → firsts.base ≤ token
 unfolding AreBelow subs_in
 base-below [] firsts token led below some = absurd (omega arith)

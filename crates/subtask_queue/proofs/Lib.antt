@@ -2,6 +2,7 @@ pub mod SubsLemmas
 mod Holding
 mod Pushing
 mod Moving
+mod Live
 mod Walks
 mod Leading
 mod Behind

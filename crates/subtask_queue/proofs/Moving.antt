@@ -16,7 +16,7 @@ without-absent x (y ∷ ys) none =
     let (here, later) = or_parts (eqb x y) (list_any (eqb x) ys) none in
     rw here (ap (λ zs. y ∷ zs) (without-absent x ys later))
 
-gone-without : (x : ℕ) (xs : List ℕ) → is_among (without x xs) x ≡ false
+pub gone-without : (x : ℕ) (xs : List ℕ) → is_among (without x xs) x ≡ false
 unfolding is_among without
 gone-without x [] = refl
 gone-without x (y ∷ ys) = elim (cases_eq x y) [
@@ -38,29 +38,12 @@ without-first x (y ∷ ys) distinct is =
     let gone : is_among ys x ≡ false = subst (λ z. is_among ys z ≡ false) same (absent-distinct y ys distinct.0) in
     rw (eq-eqb x y (sym same)) (omega (arith, ap length (without-absent x ys gone)))
 
--- a node goes from one of two lists to the end of the other
-pub record IsMove (L M : LinkedLists) (n a b : ℕ) : Type 0 where
-  pub nodes : M.nodes ≡ L.nodes
-  pub lists : length M.lists ≡ length L.lists
-  pub there : list_at M b ≡ list_at L b ++ n ∷ []
-  pub left : list_at M a ≡ without n (list_at L a)
-
-absent : (L : LinkedLists) (n a c : ℕ) → AreApart L → is_among (list_at L a) n ≡ true → (c ≡ a → ⊥) → is_among (list_at L c) n ≡ false
+-- a node of one list is in no other
+pub absent : (L : LinkedLists) (n a c : ℕ) → AreApart L → is_among (list_at L a) n ≡ true → (c ≡ a → ⊥) → is_among (list_at L c) n ≡ false
 absent L n a c apart among other = false_from_ne_true (is_among (list_at L c) n) (λ also. other (apart.alone c a n also among))
 
-pub fresh-in : (L : LinkedLists) (n a c : ℕ) → AreApart L → is_among (list_at L a) n ≡ true → (c ≡ a → ⊥) → is_among (list_at L c) n ≡ false
-fresh-in L n a c apart among other = absent L n a c apart among other
-
-pub moved : (L K M : LinkedLists) (n a b : ℕ) → AreApart L → b < length L.lists → is_among (list_at L a) n ≡ true → (b ≡ a → ⊥) → K ≡ without_node L n → M ≡ with_node_at_end K b n → IsMove L M n a b
-moved L K M n a b apart there among differ out is =
-    let is' : M ≡ with_node_at_end (without_node L n) b n = is ∙ ap (λ s. with_node_at_end s b n) out in
-    record {
-      nodes = ap (λ s. s.nodes) is' ∙ nodes-pushed (without_node L n) b n ∙ nodes-unlinked L n;
-      lists = ap (λ s. length s.lists) is' ∙ long-pushed (without_node L n) b n ∙ long-unlinked L n;
-      there = ap (λ s. list_at s b) is' ∙ pushed-here (without_node L n) b n (rw long-unlinked there)
-          ∙ ap (λ xs. xs ++ n ∷ []) (unlinked-at L n b ∙ without-absent n (list_at L b) (absent L n a b apart among differ));
-      left = ap (λ s. list_at s a) is' ∙ pushed-other (without_node L n) b n a (λ same. differ (sym same)) ∙ unlinked-at L n a;
-    }
+pub without-other : (L : LinkedLists) (n a c : ℕ) → AreApart L → is_among (list_at L a) n ≡ true → (c ≡ a → ⊥) → without n (list_at L c) ≡ list_at L c
+without-other L n a c apart among other = without-absent n (list_at L c) (absent L n a c apart among other)
 
 -- a node that was taken out is in no list
 pub unlisted : (L K : LinkedLists) (n : ℕ) → K ≡ without_node L n → is_listed K n ≡ false

@@ -53,7 +53,7 @@ at-set f token t node has = elim (cases_eq t token) [
   ])
 ]
 
-last-none : (nodes : List (Option ℕ)) (i : ℕ) → get_or (nodes ++ None ∷ []) i None ≡ get_or nodes i None
+pub last-none : (nodes : List (Option ℕ)) (i : ℕ) → get_or (nodes ++ None ∷ []) i None ≡ get_or nodes i None
 last-none nodes i = elim (cases_lt i (length nodes)) [
   | inl inside ↦ get_or_append_left nodes (None ∷ []) None i inside
   | inr past ↦ elim (cases_eq i (length nodes)) [
@@ -71,17 +71,14 @@ at-more b nodes t = elim (cases_lt t b) [
 pub read-place : (nodes : List (Option ℕ)) (i : ℕ) (o : Option ℕ) → i < length nodes → o ≡ get_or nodes i o → o ≡ get_or nodes i None
 read-place nodes i o inside read = read ∙ get_or_default nodes i o None inside
 
-at-here : (f : FirstNodes) (place t : ℕ) → t ≡ f.base + place → first_at f t ≡ get_or f.nodes place None
+pub at-here : (f : FirstNodes) (place t : ℕ) → t ≡ f.base + place → first_at f t ≡ get_or f.nodes place None
 at-here f place t is = let same : t - f.base ≡ place = omega arith in at-place f t (omega arith) ∙ ap (λ k. get_or f.nodes k None) same
 
-is-none : (o : Option ℕ) → is_some o ≡ false → o ≡ None
+pub is-none : (o : Option ℕ) → is_some o ≡ false → o ≡ None
 is-none None none = refl
 is-none (Some x) none = cc
 
 -- the scan that looks for the least token with a unit
-pub scan-begins : (f : FirstNodes) (token begin t : ℕ) → begin ≡ token - f.base → token ≤ t → t < f.base + begin → first_at f t ≡ None
-scan-begins f token begin t is from below = at-before f t (omega arith)
-
 pub scan-more : (f : FirstNodes) (token place t : ℕ) (o : Option ℕ) → ((k : ℕ) → token ≤ k → k < f.base + place → first_at f k ≡ None) → o ≡ get_or f.nodes place None → is_some o ≡ false
     → token ≤ t → t < f.base + (place + 1) → first_at f t ≡ None
 scan-more f token place t o before read none from below = elim (cases_lt t (f.base + place)) [
@@ -95,7 +92,7 @@ scan-past f token place t before past from = elim (cases_lt t (f.base + place)) 
   | inr here ↦ at-past f t (omega arith)
 ]
 
-pub scan-found : (f : FirstNodes) (token begin place : ℕ) (o : Option ℕ) → begin ≡ token - f.base → begin ≤ place → ((k : ℕ) → token ≤ k → k < f.base + place → first_at f k ≡ None) → o ≡ get_or f.nodes place None → is_some o ≡ true
+pub scan-found : (f : FirstNodes) (token begin place : ℕ) (o : Option ℕ) → token - f.base ≤ begin → begin ≤ place → ((k : ℕ) → token ≤ k → k < f.base + place → first_at f k ≡ None) → o ≡ get_or f.nodes place None → is_some o ≡ true
     → IsLeast (first_at f) token (f.base + place)
 scan-found f token begin place o is far before read some = record {
   from = omega arith;

@@ -41,7 +41,7 @@ impl Linked {
     {
         Ok(Linked {
             units: Units::make(alloc)?,
-            firsts: Firsts::make(alloc),
+            firsts: Firsts::make(alloc)?,
         })
     }
 

@@ -14,6 +14,21 @@ pub const WAITING: u32 = 0;
 /// The list of the nodes without a unit.
 pub const FREE: u32 = 1;
 
+/// Puts a node at the end of a list, in whichever list it was, in a constant number of steps.
+pub fn relink(links: &mut Links, list: u32, node: u32)
+    requires lists { length links.old.lists ≡ 2 }
+    requires list { list < 2 }
+    requires node { node < links.old.nodes }
+    ensures nodes { links.new.nodes ≡ links.old.nodes }
+    ensures lists { length links.new.lists ≡ 2 }
+    ensures here { list_at links.new list ≡ without node (list_at links.old list) ++ node ∷ [] }
+    ensures others { (l : ℕ) → l ≢ list → list_at links.new l ≡ without node (list_at links.old l) }
+    ensures apart { AreApart links.new }
+{
+    links.unlink(node);
+    links.push_back(list, node);
+}
+
 /// Makes a node free that waits, in a constant number of steps.
 pub fn set_free(links: &mut Links, node: u32)
     requires lists { length links.old.lists ≡ 2 }
@@ -25,8 +40,7 @@ pub fn set_free(links: &mut Links, node: u32)
     ensures free { length (list_at links.new 1) ≡ length (list_at links.old 1) + 1 }
     ensures apart { AreApart links.new }
 {
-    links.unlink(node);
-    links.push_back(FREE, node);
+    relink(links, FREE, node);
 }
 
 /// Puts the first free node behind those that wait, in a constant number of steps.
@@ -45,8 +59,7 @@ pub fn take_free(links: &mut Links) -> u32
     let Some(node) = links.first(FREE) else {
         unreachable!()
     };
-    links.unlink(node);
-    links.push_back(WAITING, node);
+    relink(links, WAITING, node);
     node
 }
 

@@ -2,7 +2,7 @@ use Rattle.std.proofs.Common.{◌∙◌, ◌++◌, ap, sym, subst}
 use Rattle.subtask_queue.specs.Subs.{AreBelow}
 use Rattle.subtask_queue.specs.Owned.{subs_in}
 use Rattle.subtask_queue.proofs.Leading.{subs-append}
-use Rattle.subtask_queue.proofs.Ends.{led-added, firsts-none, base-below}
+use Rattle.subtask_queue.proofs.Ends.{led-added, firsts-none, none-after, base-below}
 use Rattle.subtask_queue.proofs.linked.Linked.add.Goals as goal
 
 pub place_for-requires-clause-none : goal.place_for-requires-clause-none
@@ -10,6 +10,9 @@ place_for-requires-clause-none c = λ empty t. firsts-none c.self.inside.units c
 
 pub place_for-requires-clause-base : goal.place_for-requires-clause-base
 place_for-requires-clause-base c = λ some. base-below c.self.inside.units c.self.inside.firsts c.args.token c.self.invariant (subst (AreBelow c.args.token) (sym c.self.view_is) c.requires.above) (c.is_empty-empty.ensures.some some)
+
+pub set-requires-clause-last : goal.set-requires-clause-last
+set-requires-clause-last c = λ none t from. c.place_for.ensures.same t ∙ none-after c.self.inside.units c.self.inside.firsts c.args.token t c.self.invariant (subst (AreBelow c.args.token) (sym c.self.view_is) c.requires.above) from
 
 pub invariant_of-self-2 : goal.invariant_of-self-2
 invariant_of-self-2 c =

@@ -1,4 +1,4 @@
-use Rattle.std.proofs.Common.{◌∙◌, ap, sym}
+use Rattle.std.proofs.Common.{◌≡◌, Some, None, ◌∙◌, ap, sym}
 use Rattle.std.specs.List.{count_by}
 use Rattle.subtask_queue.specs.Subs.{is_of, without_token}
 use Rattle.subtask_queue.specs.Owned.{subs_in}
@@ -18,8 +18,11 @@ returns-in_default-clause-value c =
 pub drop_token-count-requires-clause-first : goal.drop_token-count-requires-clause-first
 drop_token-count-requires-clause-first c = sym (c.self.invariant.first c.args.token) ∙ sym c.first.ensures ∙ c.in-Some.is
 
-pub set-requires : goal.set-requires
-set-requires c = place-of c.self.inside.firsts c.args.token c.in-Some.first (sym c.first.ensures ∙ c.in-Some.is)
+pub set-requires-clause-place : goal.set-requires-clause-place
+set-requires-clause-place c = place-of c.self.inside.firsts c.args.token c.in-Some.first (sym c.first.ensures ∙ c.in-Some.is)
+
+pub set-requires-clause-last : goal.set-requires-clause-last
+set-requires-clause-last c = λ none. let never : Some c.in-Some.first ≡ None = sym (sym c.first.ensures ∙ c.in-Some.is) ∙ none in cc
 
 pub invariant_of-self : goal.invariant_of-self
 invariant_of-self c = led-dropped c.args.token c.self.inside.units c.drop_token-count.new.self c.self.inside.firsts c.set.new.self c.self.invariant c.drop_token-count.ensures.value c.set.ensures
