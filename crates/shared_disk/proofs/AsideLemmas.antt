@@ -25,7 +25,7 @@ use Rattle.shared_disk.proofs.HoldLemmas.{IsBehind, logs-grow}
 use Rattle.shared_disk.specs.Lines.{with_line_entry}
 use Rattle.shared_disk.specs.Script.{Script}
 use Rattle.shared_disk.specs.Desk.{DeskState, Keeps}
-use Rattle.shared_disk.specs.Seats.{BesideLines, submit_count, refusal_count, collect_count, cancel_count}
+use Rattle.shared_disk.specs.Seats.{BesideLines, submit_count, refusal_entries, collect_count, cancel_count}
 use Rattle.shared_disk.specs.Inside.{AreBooksOf, AreBooksSound, AreSame, IsRoomy, ChangesCourse, AddsToken, DoesOn, desk_state}
 use Rattle.shared_disk.proofs.DoneLemmas.{roomy-sound, roomy-same, does-accept, does-refuse, does-nothing, does-entry}
 use Rattle.shared_disk.proofs.LineLemmas.{opening-same}
@@ -123,7 +123,7 @@ unfolding SubmitSays
 submit-adds old new tag view media_id ask (Ok token) says = adds-one old.entries new.entries (Accept tag view (asked_of ask) (bytes_of ask)) (ap (λ (s : State). s.entries) says.new_is)
 submit-adds old new tag view media_id ask (Err refused) says = by refused.why says
   where
-    by : (w : Why) → RefusesFor old tag view media_id (asked_of ask) (buffer_of ask) w refused.buffer.items new → AddsSome old.entries (refusal_count w) new.entries
+    by : (w : Why) → RefusesFor old tag view media_id (asked_of ask) (buffer_of ask) w refused.buffer.items new → AddsSome old.entries (refusal_entries w) new.entries
     by (why.Status status) refuses = adds-one old.entries new.entries (Refuse tag view (asked_of ask) media_id status) (ap (λ (s : State). s.entries) refuses.new_is)
     by why.Memory forgets = adds-none old.entries new.entries (ap (λ (s : State). s.entries) forgets.same)
 

@@ -18,7 +18,7 @@ use Rattle.shared_disk.specs.Script.{places_at, with_place}
 use Rattle.shared_disk.specs.Desk.{DeskState, LineSays}
 use Rattle.shared_disk.specs.Log.{logged_entries, line_count_of}
 use Rattle.shared_disk.specs.Plate.{IsLogOf}
-use Rattle.shared_disk.specs.Seats.{entry_items, with_line, line_done}
+use Rattle.shared_disk.specs.Seats.{entry_items, with_line_done, line_done}
 use Rattle.shared_disk.specs.Holding.{Grows, HasLogged, Logs}
 use Rattle.shared_disk.proofs.KeptLemmas.{place-more}
 use Rattle.shared_disk.proofs.HoldLemmas.{log-of-entry}
@@ -60,7 +60,7 @@ did-log s new log i k place tag lt is entries places = record {
     by j (inr other) = rw (ne_eqb k (j + 1) (λ e. other (omega (arith, tag, e))), ne_eqb i j other) (is.lines j)
 
 line-log : (old new : DeskState) (k : ℕ) (result : Line) (log : List Item) (e : Option Entry) → 1 ≤ k → LineSays old (k - 1) result new → length old.places ≡ length old.script.roles → IsLogOf old log → new.disk.entries ≡ with_line_entry e (logged_entries log)
-    → IsLogOf new (with_line (line_done k result) (entry_items e ++ log))
+    → IsLogOf new (with_line_done (line_done k result) (entry_items e ++ log))
 unfolding LineSays
 line-log old new k (line.Did token) log e some says paired is entries =
     let mid : DeskState = record new { places = old.places } in
@@ -70,14 +70,14 @@ line-log old new k line.NotYet log e some says paired is entries = log-of-entry 
 line-log old new k line.Ended log e some says paired is entries = log-of-entry old new log e is entries (ap (λ (s : DeskState). s.places) says.1)
 line-log old new k line.Memory log e some says paired is entries = log-of-entry old new log e is entries (ap (λ (s : DeskState). s.places) says.3)
 
-with-append : (line : Option ℕ) (xs ys : List Item) → with_line line (xs ++ ys) ≡ with_line line xs ++ ys
+with-append : (line : Option ℕ) (xs ys : List Item) → with_line_done line (xs ++ ys) ≡ with_line_done line xs ++ ys
 with-append None xs ys = refl
 with-append (Some k) xs ys = refl
 
 pub logs-line : (old new : DeskState) (k : ℕ) (result : Line) (log mid log' : List Item) (H : List Entry) → 1 ≤ k → LineSays old (k - 1) result new → length old.places ≡ length old.script.roles → IsLogOf old log → HasLogged (logged_entries log) log H mid → H ≡ new.disk.entries
-    → log' ≡ with_line (line_done k result) mid → AreFacts old.disk → AreFacts new.disk → Logs old log (line_done k result) new log'
+    → log' ≡ with_line_done (line_done k result) mid → AreFacts old.disk → AreFacts new.disk → Logs old log (line_done k result) new log'
 logs-line old new k result log mid log' H some says paired is logged same done before after =
-    let now : log' ≡ with_line (line_done k result) (entry_items logged.entry ++ log) = done ∙ ap (λ l. with_line (line_done k result) l) logged.items in
+    let now : log' ≡ with_line_done (line_done k result) (entry_items logged.entry ++ log) = done ∙ ap (λ l. with_line_done (line_done k result) l) logged.items in
     record {
       entry = logged.entry;
       own = now ∙ with-append (line_done k result) (entry_items logged.entry) log;

@@ -45,13 +45,13 @@ entry_items None = []
 entry_items (Some e) = Happened e ∷ []
 
 -- a line was done of the client with this tag, or none
-abbrev pub with_line : Option ℕ → List Item → List Item
-with_line None log = log
-with_line (Some k) log = LineOf k ∷ log
+abbrev pub with_line_done : Option ℕ → List Item → List Item
+with_line_done None log = log
+with_line_done (Some k) log = LineOf k ∷ log
 
 -- the items that a call adds: its entry, and then the line that was done, of the client with this tag
 abbrev pub own_items : Option Entry → Option ℕ → List Item
-own_items e line = with_line line (entry_items e)
+own_items e line = with_line_done line (entry_items e)
 
 -- a desk of a shared disk with this setup and script, with all facts of its disk, and the log that it has
 pub record IsDeskAt (S : Setup) (d : Script) (log : List Item) (s : DeskState) : Type 0 where
@@ -106,14 +106,14 @@ pub record AreNewSeats (n : ℕ) (log : List Item) (seats : List SeatState) : Ty
   pub count : length seats ≡ n
   pub each : (i : ℕ) (s : SeatState) → slice_get seats i ≡ Some s → s ≡ record { client = i + 1; count = 0; seen = log }
 
-abbrev pub refusal_count : Why → ℕ
-refusal_count (why.Status status) = 1
-refusal_count why.Memory = 0
+abbrev pub refusal_entries : Why → ℕ
+refusal_entries (why.Status status) = 1
+refusal_entries why.Memory = 0
 
 -- how many entries these calls add
 abbrev pub submit_count : Result Token Refused → ℕ
 submit_count (Ok token) = 1
-submit_count (Err refused) = refusal_count refused.why
+submit_count (Err refused) = refusal_entries refused.why
 
 abbrev pub collect_count : Result Done NotThere → ℕ
 collect_count (Ok done) = 1

@@ -5,7 +5,7 @@ ghost use Rattle.disk_core.specs.Calls.{asked_of, SubmitSays, StepSays, StoreSay
 ghost use Rattle.shared_disk.specs.Log.{logged_entries};
 ghost use Rattle.shared_disk.specs.Plate.{IsLogOf};
 ghost use Rattle.shared_disk.specs.Desk.{Keeps, OnDisk, LineSays};
-ghost use Rattle.shared_disk.specs.Seats.{line_done, with_line, BesideLines, submit_count, collect_count, cancel_count};
+ghost use Rattle.shared_disk.specs.Seats.{line_done, with_line_done, BesideLines, submit_count, collect_count, cancel_count};
 ghost use Rattle.shared_disk.specs.Holding.{Grows, HasLogged, Logs};
 
 use crate::answers::Line;
@@ -79,7 +79,7 @@ pub fn store_held_logged<M: Medium>(desk: &mut Desk<M>, pen: &mut Pen, ticket: u
 // Adds a line done of a client to the log, if its line was done.
 fn log_line(pen: &mut Pen, client: u32, line: &Line)
     requires { length pen.old.log + 1 < 2 ^ 64 }
-    ensures { pen.new ≡ record pen.old { log = with_line (line_done client line.now) pen.old.log } }
+    ensures { pen.new ≡ record pen.old { log = with_line_done (line_done client line.now) pen.old.log } }
 {
     match line {
         Line::Did(_) => pen.enter_line(client),
