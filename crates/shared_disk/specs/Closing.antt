@@ -15,15 +15,15 @@ pub record IsClosed (S : Setup) (d : Script) (seats : List SeatState) (desk : De
   pub keeps : count ≡ 0 → Keeps desk
 
 -- it differs, and the seats come back
-pub record IsShort (seats back : List SeatState) (count sum : ℕ) : Type 0 where
+pub record IsClosedShort (seats back : List SeatState) (count sum : ℕ) : Type 0 where
   pub sum_is : sum ≡ sum_by (λ s. s.count) seats
   pub apart : count ≢ sum
   pub same : back ≡ seats
 
 abbrev pub ClosesAs : {M N : Type 0} → Setup → Script → List SeatState → Closed M N → Type 0
 ClosesAs S d seats (Whole desk count) = IsClosed S d seats desk count
-ClosesAs S d seats (Short shared back count sum) = IsShort seats back.items count sum
+ClosesAs S d seats (Short shared back count sum) = IsClosedShort seats back.items count sum
 
-abbrev pub IsWhole : {M N : Type 0} → Closed M N → Type 0
-IsWhole (Whole desk count) = Unit {0}
-IsWhole (Short shared back count sum) = ⊥
+abbrev pub IsClosedWhole : {M N : Type 0} → Closed M N → Type 0
+IsClosedWhole (Whole desk count) = Unit {0}
+IsClosedWhole (Short shared back count sum) = ⊥

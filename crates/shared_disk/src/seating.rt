@@ -3,7 +3,7 @@ ghost use Rattle.std.specs.Prelude.{◌≡◌, ◌≢◌, ◌+◌, ◌≤◌, �
 ghost use Rattle.shared_disk.specs.Desk.{Keeps};
 ghost use Rattle.shared_disk.specs.Plate.{IsLogOf};
 ghost use Rattle.shared_disk.specs.Seats.{AreNewSeats};
-ghost use Rattle.shared_disk.specs.Closing.{ClosesAs, IsWhole};
+ghost use Rattle.shared_disk.specs.Closing.{ClosesAs, IsClosedWhole};
 
 use crate::answers::{Closed, ShareRefused};
 use crate::desk::Desk;
@@ -110,7 +110,7 @@ impl<M: Medium, N: DiskName> SharedDisk<M, N> {
     pub fn close(self, seats: Vec<Seat<N>>) -> Closed<M, N>
         requires one_each { N.parts ≡ length N.script.roles + 1 }
         ensures says { ClosesAs N.setup N.script seats.items result }
-        ensures whole { length seats.items ≡ length N.script.roles → IsWhole result }
+        ensures whole { length seats.items ≡ length N.script.roles → IsClosedWhole result }
     {
         let SharedDisk { lock } = self;
         let mut held = lock.into_inner();
