@@ -9,7 +9,7 @@ use Rattle.block_gate.specs.Gates.{Gate, Gates, gate_of, is_block_held, is_lent,
 use Rattle.block_gate.specs.Works.{Lent}
 use Rattle.block_gate.specs.Sets.{gate_at, gates_in, tickets_in, gates_of, is_so, AreSets}
 use Rattle.block_gate.proofs.Moves.{gate-here, gate-other}
-use Rattle.block_gate.proofs.Steps.{IsMove, relinked, IsKept, kept-set, kept-all, Fits, sets-moved, sets-turned}
+use Rattle.block_gate.proofs.Steps.{IsMove, relinked, KeepsOthers, kept-set, kept-all, Fits, sets-moved, sets-turned}
 use Rattle.block_gate.proofs.Views.{inside-of, fits-new, shows-held, shows-lent, shows-in, fits-free, shows-home, shows-refitted, fits-gone, shows-released, gates-eq}
 use Rattle.block_gate.proofs.Found.{gone-is, read-set, tickets-long}
 use Rattle.block_gate.proofs.Walks.{list-short}
@@ -52,7 +52,7 @@ holds-so sets L M size n b t now was mid w old is first link apart unheld fresh 
     let block : mid.block ≡ b = ap (λ (g : Gate). g.block) mid-is in
     let copy : List ℕ = refill (length mid.copy) mid.copy w in
     let after : List Gate = set (set sets n mid) n (with_copy mid w) in
-    let kept : IsKept sets after n = record {
+    let kept : KeepsOthers sets after n = record {
       long = length-set (set sets n mid) n (with_copy mid w) ∙ length-set sets n mid;
       same = λ m other. gate-other (set sets n mid) n m (with_copy mid w) other ∙ gate-other sets n m mid other;
     } in

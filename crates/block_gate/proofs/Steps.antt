@@ -67,14 +67,14 @@ members L M n a b apart among differ move c m there =
 -- ---- the sets stay in order
 
 -- only set n changed
-pub record IsKept (sets after : List Gate) (n : ℕ) : Type 0 where
+pub record KeepsOthers (sets after : List Gate) (n : ℕ) : Type 0 where
   pub long : length after ≡ length sets
   pub same : (m : ℕ) → (m ≡ n → ⊥) → gate_at after m ≡ gate_at sets m
 
-pub kept-set : (sets : List Gate) (n : ℕ) (g : Gate) → IsKept sets (set sets n g) n
+pub kept-set : (sets : List Gate) (n : ℕ) (g : Gate) → KeepsOthers sets (set sets n g) n
 kept-set sets n g = record { long = length-set sets n g; same = λ m other. gate-other sets n m g other }
 
-pub kept-all : (sets : List Gate) (n : ℕ) → IsKept sets sets n
+pub kept-all : (sets : List Gate) (n : ℕ) → KeepsOthers sets sets n
 kept-all sets n = record { long = refl; same = λ m other. refl }
 
 -- a gate fits into list b as set n
@@ -86,7 +86,7 @@ pub record Fits (sets : List Gate) (L : LinkedLists) (size : ℕ) (g : Gate) (n 
   pub block : b ≡ 1 → (m : ℕ) → is_among (list_at L 1) m ≡ true → (m ≡ n → ⊥) → (gate_at sets m).block ≡ g.block → ⊥
 
 pub sets-moved : (sets after : List Gate) (L M : LinkedLists) (size n a b : ℕ) → AreSets sets L size → is_among (list_at L a) n ≡ true → (b ≡ a → ⊥) → IsMove L M n a b →
-    IsKept sets after n → Fits sets L size (gate_at after n) n b → AreSets after M size
+    KeepsOthers sets after n → Fits sets L size (gate_at after n) n b → AreSets after M size
 sets-moved sets after L M size n a b old among differ move kept fits =
     let split : (c m : ℕ) → is_among (list_at M c) m ≡ true → ((m ≡ n) × (c ≡ b)) ⊎ ((m ≡ n → ⊥) × (is_among (list_at L c) m ≡ true)) = members L M n a b old.apart among differ move in
     record {
@@ -140,7 +140,7 @@ pub sets-turned : (sets : List Gate) (L : LinkedLists) (size n : ℕ) (out : Boo
     AreSets (set sets n (record (gate_at sets n) { out = out })) L size
 sets-turned sets L size n out old among =
     let after : List Gate = set sets n (record (gate_at sets n) { out = out }) in
-    let kept : IsKept sets after n = kept-set sets n (record (gate_at sets n) { out = out }) in
+    let kept : KeepsOthers sets after n = kept-set sets n (record (gate_at sets n) { out = out }) in
     let inside : n < length sets = subst (λ k. n < k) old.nodes (old.apart.within 1 n among) in
     let here : gate_at after n ≡ record (gate_at sets n) { out = out } = gate-here sets n (record (gate_at sets n) { out = out }) inside in
     let ticket : (m : ℕ) → (gate_at after m).ticket ≡ (gate_at sets m).ticket = λ m. elim (cases_eq m n) [

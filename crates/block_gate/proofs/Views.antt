@@ -8,7 +8,7 @@ use Rattle.index_links.proofs.LinkedListsLemmas.{among-at, list-exists}
 use Rattle.block_gate.specs.Gates.{Gate, Gates, gate_of, is_block_held, with_out, is_lent, with_gate, with_work_out, without_hold, with_work_back, with_new_sets}
 use Rattle.block_gate.specs.Sets.{gate_at, gates_in, tickets_in, gates_of, AreSets}
 use Rattle.block_gate.proofs.Moves.{without-absent, among-from_without, length-without, without-first, gates-same, tickets-same, gates-append, tickets-append, IsOwner, gates-without, tickets-without, gates-turned, gate-absent, ticket-found, ticket-among}
-use Rattle.block_gate.proofs.Steps.{IsMove, IsKept, kept-set, Fits}
+use Rattle.block_gate.proofs.Steps.{IsMove, KeepsOthers, kept-set, Fits}
 
 pub gates-eq : (a b : Gates) → a.size ≡ b.size → a.held ≡ b.held → a.gone ≡ b.gone → a.free ≡ b.free → a ≡ b
 gates-eq a b size held gone free =
@@ -24,10 +24,10 @@ pub owner-of : (sets : List Gate) (L : LinkedLists) (size l n t : ℕ) → AreSe
 owner-of sets L size l n t old some among has = record { has = has; only = λ m there is. old.tickets l l m n some some there among (is ∙ sym has) }
 
 -- lists without set n hold what they held
-same-gates : (sets after : List Gate) (L : LinkedLists) (n a c : ℕ) → AreApart L → is_among (list_at L a) n ≡ true → (c ≡ a → ⊥) → IsKept sets after n → gates_in after (list_at L c) ≡ gates_in sets (list_at L c)
+same-gates : (sets after : List Gate) (L : LinkedLists) (n a c : ℕ) → AreApart L → is_among (list_at L a) n ≡ true → (c ≡ a → ⊥) → KeepsOthers sets after n → gates_in after (list_at L c) ≡ gates_in sets (list_at L c)
 same-gates sets after L n a c apart among other kept = gates-same sets after (list_at L c) (λ m there. kept.same m (λ is. other (apart.alone c a n (subst (λ x. is_among (list_at L c) x ≡ true) is there) among)))
 
-same-tickets : (sets after : List Gate) (L : LinkedLists) (n a c : ℕ) → AreApart L → is_among (list_at L a) n ≡ true → (c ≡ a → ⊥) → IsKept sets after n → tickets_in after (list_at L c) ≡ tickets_in sets (list_at L c)
+same-tickets : (sets after : List Gate) (L : LinkedLists) (n a c : ℕ) → AreApart L → is_among (list_at L a) n ≡ true → (c ≡ a → ⊥) → KeepsOthers sets after n → tickets_in after (list_at L c) ≡ tickets_in sets (list_at L c)
 same-tickets sets after L n a c apart among other kept = tickets-same sets after (list_at L c) (λ m there. kept.same m (λ is. other (apart.alone c a n (subst (λ x. is_among (list_at L c) x ≡ true) is there) among)))
 
 append-long : (xs : List ℕ) (n : ℕ) → length (xs ++ n ∷ []) ≡ length xs + 1
@@ -66,7 +66,7 @@ fits-new sets L size n b t g old among unheld fresh unknown long ticket block = 
   block = λ is m there other has. block-absent sets (list_at L 1) b m unheld there (has ∙ block);
 }
 
-pub shows-held : (sets after : List Gate) (L M : LinkedLists) (size n b t : ℕ) (copy : List ℕ) → AreSets sets L size → is_among (list_at L 0) n ≡ true → IsMove L M n 0 1 → IsKept sets after n →
+pub shows-held : (sets after : List Gate) (L M : LinkedLists) (size n b t : ℕ) (copy : List ℕ) → AreSets sets L size → is_among (list_at L 0) n ≡ true → IsMove L M n 0 1 → KeepsOthers sets after n →
     gate_at after n ≡ record { ticket = t; block = b; out = false; copy = copy } → gates_of after M size ≡ with_gate (gates_of sets L size) b t copy
 unfolding gates_of with_gate
 shows-held sets after L M size n b t copy old among move kept is =
@@ -121,7 +121,7 @@ fits-free sets L size n g long inside = record {
   block = λ is. absurd (omega arith);
 }
 
-shows-freed : (sets after : List Gate) (L M : LinkedLists) (size n : ℕ) → AreSets sets L size → is_among (list_at L 2) n ≡ true → IsMove L M n 2 0 → IsKept sets after n →
+shows-freed : (sets after : List Gate) (L M : LinkedLists) (size n : ℕ) → AreSets sets L size → is_among (list_at L 2) n ≡ true → IsMove L M n 2 0 → KeepsOthers sets after n →
     gates_of after M size ≡ record { size = size; held = gates_in sets (list_at L 1); gone = tickets_in sets (without n (list_at L 2)); free = length (list_at L 0) + 1 }
 unfolding gates_of
 shows-freed sets after L M size n old among move kept =
@@ -130,7 +130,7 @@ shows-freed sets after L M size n old among move kept =
     (ap (tickets_in after) move.left ∙ tickets-same sets after (without n (list_at L 2)) (λ m there. kept.same m (among-from_without n m (list_at L 2) there).0))
     (ap length move.there ∙ append-long (list_at L 0) n)
 
-pub shows-home : (sets after : List Gate) (L M : LinkedLists) (size n t : ℕ) → AreSets sets L size → is_among (list_at L 2) n ≡ true → (gate_at sets n).ticket ≡ t → IsMove L M n 2 0 → IsKept sets after n →
+pub shows-home : (sets after : List Gate) (L M : LinkedLists) (size n t : ℕ) → AreSets sets L size → is_among (list_at L 2) n ≡ true → (gate_at sets n).ticket ≡ t → IsMove L M n 2 0 → KeepsOthers sets after n →
     gates_of after M size ≡ with_work_back (gates_of sets L size) t
 unfolding gates_of with_work_back
 shows-home sets after L M size n t old among has move kept =
@@ -139,7 +139,7 @@ shows-home sets after L M size n t old among has move kept =
     ∙ gates-eq (record { size = size; held = gates_in sets (list_at L 1); gone = tickets_in sets (without n (list_at L 2)); free = length (list_at L 0) + 1 }) (with_work_back (gates_of sets L size) t) refl
     (rw gone refl) (tickets-without sets (list_at L 2) n t (owner-of sets L size 2 n t old (omega arith) among has)) (rw gone refl)
 
-pub shows-refitted : (sets after : List Gate) (L M : LinkedLists) (size n : ℕ) → AreSets sets L size → slice_get (list_at L 2) 0 ≡ Some n → IsMove L M n 2 0 → IsKept sets after n →
+pub shows-refitted : (sets after : List Gate) (L M : LinkedLists) (size n : ℕ) → AreSets sets L size → slice_get (list_at L 2) 0 ≡ Some n → IsMove L M n 2 0 → KeepsOthers sets after n →
     gates_of after M size ≡ with_new_sets (gates_of sets L size) 1
 unfolding gates_of with_new_sets tickets_in
 shows-refitted sets after L M size n old first move kept =

@@ -20,36 +20,36 @@ use Rattle.device_path.specs.Text.{block_text, eight_digits, format_text, hexade
 use Rattle.device_path.specs.Reading.{Lacks, TellsNumber}
 
 -- past the comma, which is 44, and the parentheses before it
-abbrev pub IsPlain : List ℕ → Type 0
-IsPlain xs = AllByRecursion (λ c. (44 < c) × (c < 128)) xs
+abbrev pub IsPlainText : List ℕ → Type 0
+IsPlainText xs = AllByRecursion (λ c. (44 < c) × (c < 128)) xs
 
-plain-append : (xs ys : List ℕ) → IsPlain xs → IsPlain ys → IsPlain (xs ++ ys)
+plain-append : (xs ys : List ℕ) → IsPlainText xs → IsPlainText ys → IsPlainText (xs ++ ys)
 plain-append [] ys p q = q
 plain-append (x ∷ xs) ys p q = (p.0, plain-append xs ys p.1 q)
 
-pub plain-at : (xs : List ℕ) (i : ℕ) → IsPlain xs → i < length xs → 44 < get_or xs i 0
+pub plain-at : (xs : List ℕ) (i : ℕ) → IsPlainText xs → i < length xs → 44 < get_or xs i 0
 plain-at [] i p h = absurd (omega arith)
 plain-at (x ∷ xs) zero p h = p.0.0
 plain-at (x ∷ xs) (suc i) p h = plain-at xs i p.1 (omega arith)
 
-pub plain-lacks : (c : ℕ) (xs : List ℕ) → c ≤ 44 → IsPlain xs → Lacks c xs
+pub plain-lacks : (c : ℕ) (xs : List ℕ) → c ≤ 44 → IsPlainText xs → Lacks c xs
 plain-lacks c xs low p = record { at = λ i h e. let above = plain-at xs i p h in omega arith }
 
-pub plain-ascii : (xs : List ℕ) → IsPlain xs → IsAscii xs
+pub plain-ascii : (xs : List ℕ) → IsPlainText xs → IsAscii xs
 plain-ascii [] p = IsAscii-nil
 plain-ascii (x ∷ xs) p = IsAscii-cons x xs p.0.1 (plain-ascii xs p.1)
 
 digit-plain : (radix c : ℕ) → radix ≤ 16 → digit_value c < radix → (44 < c) × (c < 128)
 digit-plain radix c low h = (grind (arith, nat_tests), grind (arith, nat_tests))
 
-pub digits-plain : (radix : ℕ) (ds : List ℕ) → radix ≤ 16 → AllDigits radix ds → IsPlain ds
+pub digits-plain : (radix : ℕ) (ds : List ℕ) → radix ≤ 16 → AllDigits radix ds → IsPlainText ds
 digits-plain radix [] low h = tt
 digits-plain radix (c ∷ ds) low h = (digit-plain radix c low h.0, digits-plain radix ds low h.1)
 
-pub decimal-plain : (n : ℕ) → n < 2 ^ 32 → IsPlain (decimal n)
+pub decimal-plain : (n : ℕ) → n < 2 ^ 32 → IsPlainText (decimal n)
 decimal-plain n h = digits-plain 10 (decimal n) (omega arith) (decimal_is_IsNumeral n (omega arith)).0.1
 
-pub format-plain : (format : Format) → IsPlain (format_text format)
+pub format-plain : (format : Format) → IsPlainText (format_text format)
 format-plain formats.Mbr = ((omega arith, omega arith), ((omega arith, omega arith), ((omega arith, omega arith), tt)))
 format-plain formats.Gpt = ((omega arith, omega arith), ((omega arith, omega arith), ((omega arith, omega arith), tt)))
 
@@ -83,7 +83,7 @@ eight-tells n h =
       value = zeros-value k ds ∙ own.1;
     }
 
-pub tells-plain : (n : ℕ) (text : List ℕ) → TellsNumber n text → IsPlain text
+pub tells-plain : (n : ℕ) (text : List ℕ) → TellsNumber n text → IsPlainText text
 tells-plain n text tells = rw tells.is ((omega arith, omega arith), ((omega arith, omega arith), digits-plain 16 tells.digits (omega arith) tells.numeral.1))
 
 -- the text of a GUID
@@ -91,21 +91,21 @@ hex-plain : (hyphen : Bool) (d : ℕ) → d < 16 → let c = if hyphen then 45 e
 hex-plain true d h = (omega arith, omega arith)
 hex-plain false d h = (grind (arith, nat_tests), grind (arith, nat_tests))
 
-by_index-plain : (n : ℕ) (f : ℕ → ℕ) → ((k : ℕ) → (44 < f k) × (f k < 128)) → IsPlain (by_index n f)
+by_index-plain : (n : ℕ) (f : ℕ → ℕ) → ((k : ℕ) → (44 < f k) × (f k < 128)) → IsPlainText (by_index n f)
 unfolding by_index
 by_index-plain zero f h = tt
 by_index-plain (suc n) f h = plain-append (by_index n f) (f n ∷ []) (by_index-plain n f h) (h n, tt)
 
-guid-plain : (guid : List ℕ) → IsPlain (hyphenated_text lower guid)
+guid-plain : (guid : List ℕ) → IsPlainText (hyphenated_text lower guid)
 guid-plain guid = by_index-plain 36 _ (λ k. hex-plain (is_hyphen_place k) (nibble guid (digit_place k)) (nibble_small guid (digit_place k)))
 
-pub sign-plain : (sign : Sign) → IsSign sign → IsPlain (sign_text sign)
+pub sign-plain : (sign : Sign) → IsSign sign → IsPlainText (sign_text sign)
 sign-plain signs.None can = ((omega arith, omega arith), tt)
 sign-plain (signs.Mbr signature) can = tells-plain signature _ (eight-tells signature can)
 sign-plain (signs.Guid guid) can = guid-plain guid
 
 -- what stands before the first parenthesis, and before the x of a number
-pub head-plain : IsPlain (72 ∷ 68 ∷ [])
+pub head-plain : IsPlainText (72 ∷ 68 ∷ [])
 head-plain = ((omega arith, omega arith), ((omega arith, omega arith), tt))
 
 pub zero-lacks-x : Lacks 120 (48 ∷ [])

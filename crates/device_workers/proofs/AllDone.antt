@@ -32,11 +32,11 @@ use Rattle.device_workers.proofs.Stills.{lines-fall}
 use Rattle.history_laws.proofs.TidyLemmas.{IsTidy, tidy-legal, tidy-quiet, tidy-accept, tidy-turn, tidy-next}
 
 -- what the schedule keeps: commands of units, and no uncollected token but clients'
-record IsSound (S : Setup) (H : List Entry) : Type 0 where
+record IsSoundSchedule (S : Setup) (H : List Entry) : Type 0 where
   tidy : IsTidy S H
   clients : IsClients H
 
-sound-quiet : (S : Setup) (H : List Entry) (e : Entry) → is_accept e ≡ false → is_done e ≡ false → IsSound S H → IsSound S (e ∷ H)
+sound-quiet : (S : Setup) (H : List Entry) (e : Entry) → is_accept e ≡ false → is_done e ≡ false → IsSoundSchedule S H → IsSoundSchedule S (e ∷ H)
 sound-quiet S H e other quiet sound = record { tidy = tidy-quiet S H e other quiet sound.tidy; clients = clients-same H e other sound.clients }
 
 tidy-if : (S : Setup) (H : List Entry) (b : Bool) (e : Entry) → is_accept e ≡ false → is_done e ≡ false → IsTidy S H → IsTidy S (with_line_entry (entry_if b e) H)
@@ -58,27 +58,27 @@ tidy-line S H tag stand order.Insert tidy = tidy-if S H (is_insertable S H) (ent
 tidy-line S H tag stand (order.Protect on) tidy = tidy-quiet S H (entry.Protect tag on) refl refl tidy
 
 -- after a client's line
-sound-lines : (S : Setup) (H : List Entry) (i : ℕ) (stand : Stand) (orders : List Order) → IsSound S H → IsSound S (after_lines S H (i + 1) stand orders).history
+sound-lines : (S : Setup) (H : List Entry) (i : ℕ) (stand : Stand) (orders : List Order) → IsSoundSchedule S H → IsSoundSchedule S (after_lines S H (i + 1) stand orders).history
 sound-lines S H i stand [] sound = sound
 sound-lines S H i stand (line ∷ rest) sound = by (is_wait line)
   where
-    waits : (o : Option ℕ) → IsSound S (after_wait o H (i + 1) line rest).history
+    waits : (o : Option ℕ) → IsSoundSchedule S (after_wait o H (i + 1) line rest).history
     waits (Some t) = sound
-    waits None = own-keep (IsSound S) (λ G tag t kept. sound-quiet S G (entry.Collect tag t) refl refl kept) H (i + 1) sound
+    waits None = own-keep (IsSoundSchedule S) (λ G tag t kept. sound-quiet S G (entry.Collect tag t) refl refl kept) H (i + 1) sound
 
-    by : (b : Bool) → IsSound S (if b then after_wait (first_own_open S H (i + 1)) H (i + 1) line rest else record { history = with_line_entry (line_entry S H (i + 1) stand line) H; left = rest }).history
+    by : (b : Bool) → IsSoundSchedule S (if b then after_wait (first_own_open S H (i + 1)) H (i + 1) line rest else record { history = with_line_entry (line_entry S H (i + 1) stand line) H; left = rest }).history
     by true = waits (first_own_open S H (i + 1))
     by false = record { tidy = tidy-line S H (i + 1) stand line sound.tidy; clients = clients-line S H i stand line sound.clients }
 
-sound-by : (S : Setup) (i : ℕ) (s : Progress) → IsSound S s.history → IsSound S (after_line_of S i s).history
+sound-by : (S : Setup) (i : ℕ) (s : Progress) → IsSoundSchedule S s.history → IsSoundSchedule S (after_line_of S i s).history
 unfolding after_line_of
 sound-by S i s sound = by (slice_get s.lefts i)
   where
-    by : (o : Option Role) → IsSound S (after_line_if S i s o).history
+    by : (o : Option Role) → IsSoundSchedule S (after_line_if S i s o).history
     by None = sound
     by (Some role) = sound-lines S s.history i role.stand role.orders sound
 
-sound-first : (S : Setup) (n : ℕ) (s : Progress) → IsSound S s.history → IsSound S (after_lines_of_first S n s).history
+sound-first : (S : Setup) (n : ℕ) (s : Progress) → IsSoundSchedule S s.history → IsSoundSchedule S (after_lines_of_first S n s).history
 unfolding after_lines_of_first
 sound-first S zero s sound = sound
 sound-first S (suc n) s sound = sound-by S n (after_lines_of_first S n s) (sound-first S n s sound)
@@ -87,38 +87,38 @@ sound-first S (suc n) s sound = sound-by S n (after_lines_of_first S n s) (sound
 clients-turn : (H : List Entry) (turn : Turn) (outcome : Outcome) → IsClients H → IsClients (entry_of turn outcome ∷ H)
 clients-turn H turn outcome clients t q named not_it = clients t q (sym (turn-request H turn outcome t) ∙ named) (sym (turn-collected H turn outcome t) ∙ not_it)
 
-sound-turn : (S : Setup) → IsSetup S → (s : Progress) (turn : Turn) → next_turn S s.history ≡ Some turn → IsSound S s.history → IsSound S (after_turn s turn).history
+sound-turn : (S : Setup) → IsSetup S → (s : Progress) (turn : Turn) → next_turn S s.history ≡ Some turn → IsSoundSchedule S s.history → IsSoundSchedule S (after_turn s turn).history
 sound-turn S is s turn next sound = record { tidy = tidy-turn S s.history turn (next_outcome s.outcomes) is next sound.tidy; clients = clients-turn s.history turn (next_outcome s.outcomes) sound.clients }
 
-sound-command : (S : Setup) → IsSetup S → (s : Progress) → IsSound S s.history → IsSound S (after_command S s).history
+sound-command : (S : Setup) → IsSetup S → (s : Progress) → IsSoundSchedule S s.history → IsSoundSchedule S (after_command S s).history
 unfolding after_command
 sound-command S is s sound = by (next_turn S s.history) refl
   where
-    by : (o : Option Turn) → next_turn S s.history ≡ o → IsSound S (after_turn_if s o).history
+    by : (o : Option Turn) → next_turn S s.history ≡ o → IsSoundSchedule S (after_turn_if s o).history
     by None next = sound
     by (Some turn) next = sound-turn S is s turn next sound
 
-sound-step : (S : Setup) → IsSetup S → (s : Progress) → IsSound S s.history → IsSound S (after_step S s).history
+sound-step : (S : Setup) → IsSetup S → (s : Progress) → IsSoundSchedule S s.history → IsSoundSchedule S (after_step S s).history
 unfolding after_step
 sound-step S is s sound = by (next_turn S s.history) refl
   where
-    follow : (turn : Turn) → IsSound S (after_turn s turn).history → (f : Bool) → IsSound S (after_follow S f (after_turn s turn)).history
+    follow : (turn : Turn) → IsSoundSchedule S (after_turn s turn).history → (f : Bool) → IsSoundSchedule S (after_follow S f (after_turn s turn)).history
     follow turn kept true = sound-command S is (after_turn s turn) kept
     follow turn kept false = kept
 
-    by : (o : Option Turn) → next_turn S s.history ≡ o → IsSound S (after_step_if S s o).history
+    by : (o : Option Turn) → next_turn S s.history ≡ o → IsSoundSchedule S (after_step_if S s o).history
     by None next = sound
     by (Some turn) next = follow turn (sound-turn S is s turn next sound) (is_fetched turn.command (next_outcome s.outcomes))
 
-sound-round : (S : Setup) → IsSetup S → (s : Progress) → IsSound S s.history → IsSound S (a_round S s).history
+sound-round : (S : Setup) → IsSetup S → (s : Progress) → IsSoundSchedule S s.history → IsSoundSchedule S (a_round S s).history
 sound-round S is s sound = sound-step S is (after_lines_of_first S (length s.lefts) s) (sound-first S (length s.lefts) s sound)
 
-sound-rounds : (S : Setup) → IsSetup S → (n : ℕ) (s : Progress) → IsSound S s.history → IsSound S (after_rounds n S s).history
+sound-rounds : (S : Setup) → IsSetup S → (n : ℕ) (s : Progress) → IsSoundSchedule S s.history → IsSoundSchedule S (after_rounds n S s).history
 unfolding after_rounds
 sound-rounds S is zero s sound = sound
 sound-rounds S is (suc n) s sound = by (is_over S s) (sound-rounds S is n (a_round S s) (sound-round S is s sound))
   where
-    by : (b : Bool) → IsSound S (after_rounds n S (a_round S s)).history → IsSound S (if b then s else after_rounds n S (a_round S s)).history
+    by : (b : Bool) → IsSoundSchedule S (after_rounds n S (a_round S s)).history → IsSoundSchedule S (if b then s else after_rounds n S (a_round S s)).history
     by true rest = sound
     by false rest = rest
 
@@ -130,7 +130,7 @@ not-over S s over none = by (list_all is_role_done s.lefts) (rw none at over)
     by true no_way = cc
     by false is = refl
 
-progresses : (S : Setup) → IsSetup S → (s : Progress) → IsSound S s.history → is_over S s ≡ false → cost S (a_round S s) + 1 ≤ cost S s
+progresses : (S : Setup) → IsSetup S → (s : Progress) → IsSoundSchedule S s.history → is_over S s ≡ false → cost S (a_round S s) + 1 ≤ cost S s
 progresses S is s sound over = by (next_turn S lined.history) refl (first-lightens S (length s.lefts) s)
   where
     lined : Progress
@@ -148,7 +148,7 @@ progresses S is s sound over = by (next_turn S lined.history) refl (first-lighte
         let first : first_open S s.history ≡ None = ap (λ (p : Progress). first_open S p.history) (sym same) ∙ drained (first_open S lined.history) refl next in
         rw (step-none S lined next) (lines-fall S s first (not-over S s over first))
 
-rounds-over : (S : Setup) → IsSetup S → (n : ℕ) (s : Progress) → IsSound S s.history → cost S s ≤ n → is_over S (after_rounds n S s) ≡ true
+rounds-over : (S : Setup) → IsSetup S → (n : ℕ) (s : Progress) → IsSoundSchedule S s.history → cost S s ≤ n → is_over S (after_rounds n S s) ≡ true
 unfolding after_rounds
 rounds-over S is zero s sound most = by (is_over S s) refl
   where
@@ -209,12 +209,12 @@ pub rounds-do-all : (S : Setup) (opening : List Entry) (roles : List Role) (outc
     → IsAllDone S (after_rounds (rounds roles) S (progress opening roles outcomes)) (plain_history S opening roles outcomes)
 unfolding plain_history
 rounds-do-all S opening roles outcomes is legal opens =
-    let sound : IsSound S opening = record { tidy = tidy-legal S opening is legal; clients = clients-none opening opens } in
+    let sound : IsSoundSchedule S opening = record { tidy = tidy-legal S opening is legal; clients = clients-none opening opens } in
     let begin : Progress = progress opening roles outcomes in
     let end : Progress = after_rounds (rounds roles) S begin in
     let over : is_over S end ≡ true = rounds-over S is (rounds roles) begin sound (cost-begins S opening roles outcomes (opening-open S opening legal opens)) in
     let (lines, ended) = over-parts S end over in
-    let kept : IsSound S end.history = sound-rounds S is (rounds roles) begin sound in
+    let kept : IsSoundSchedule S end.history = sound-rounds S is (rounds roles) begin sound in
     record {
       lines = lines;
       ended = last-open S end.history ∙ ended;

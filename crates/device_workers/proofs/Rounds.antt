@@ -22,15 +22,15 @@ pub idle-on : (old new : DeskState) → KeepsScriptAndGates old new → IsIdle o
 idle-on old new stays idle = subst IsIdle (sym stays.disk.gates) idle
 
 -- the first n clients took their lines
-pub record HasTaken (old : DeskState) (n : ℕ) (new : DeskState) : Type 0 where
+pub record ClientsTook (old : DeskState) (n : ℕ) (new : DeskState) : Type 0 where
   pub stays : KeepsScriptAndGates old new
   pub keeps : Keeps new
   pub takes : TakesLines old n new
 
-pub taken-none : (old : DeskState) → Keeps old → HasTaken old 0 old
+pub taken-none : (old : DeskState) → Keeps old → ClientsTook old 0 old
 taken-none old keeps = record { stays = stays-same old; keeps = keeps; takes = first-none old.disk.setup old.disk.entries (lefts_of old) }
 
-pub taken-more : (old mid new : DeskState) (i : ℕ) → HasTaken old i mid → KeepsScriptAndGates mid new → Keeps new → TakesLine mid (i + 1 - 1) new → HasTaken old (i + 1) new
+pub taken-more : (old mid new : DeskState) (i : ℕ) → ClientsTook old i mid → KeepsScriptAndGates mid new → Keeps new → TakesLine mid (i + 1 - 1) new → ClientsTook old (i + 1) new
 taken-more old mid new i taken stays keeps takes =
     let e : i + 1 - 1 ≡ i = omega arith in
     let by : TakesBy old.disk.setup i mid.disk.entries (lefts_of mid) new.disk.entries (lefts_of new) =
@@ -42,7 +42,7 @@ taken-more old mid new i taken stays keeps takes =
     }
 
 -- the next client did not take its line
-pub stops-in : (old mid new : DeskState) (i : ℕ) → i < length old.script.roles → HasTaken old i mid → KeepsScriptAndGates mid new → Untaken mid new → StopsIn old new
+pub stops-in : (old mid new : DeskState) (i : ℕ) → i < length old.script.roles → ClientsTook old i mid → KeepsScriptAndGates mid new → Untaken mid new → StopsIn old new
 stops-in old mid new i within taken stays none =
     let lefts : lefts_of new ≡ lefts_of mid = same-lefts mid new stays.script none.places in
     record {
@@ -69,15 +69,15 @@ pub desk_cost : DeskState → ℕ
 desk_cost d = cost d.disk.setup (progress d.disk.entries (lefts_of d) [])
 
 -- rounds that lead from one desk to another
-pub record HasRun (old new : DeskState) : Type 0 where
+pub record RoundsRan (old new : DeskState) : Type 0 where
   pub stays : KeepsScriptAndGates old new
   pub keeps : Keeps new
   pub leads : Leads old.disk.setup old.disk.entries (lefts_of old) new.disk.entries (lefts_of new)
 
-pub run-none : (old : DeskState) → Keeps old → HasRun old old
+pub run-none : (old : DeskState) → Keeps old → RoundsRan old old
 run-none old keeps = record { stays = stays-same old; keeps = keeps; leads = leads-same old.disk.setup old.disk.entries (lefts_of old) }
 
-pub run-more : (old mid new : DeskState) (some : Bool) → HasRun old mid → KeepsScriptAndGates mid new → Keeps new → RunsRound mid some new → HasRun old new
+pub run-more : (old mid new : DeskState) (some : Bool) → RoundsRan old mid → KeepsScriptAndGates mid new → Keeps new → RunsRound mid some new → RoundsRan old new
 run-more old mid new some run stays keeps round =
     let leads : Leads mid.disk.setup mid.disk.entries (lefts_of mid) new.disk.entries (lefts_of new) =
     leads-round mid.disk.setup mid.disk.entries (lefts_of mid) round.lined (lefts_of new) new.disk.entries round.takes round.steps.step in
@@ -89,7 +89,7 @@ run-more old mid new some run stays keeps round =
     }
 
 -- the round after them stopped
-pub stops-after : (old mid new : DeskState) → HasRun old mid → StopsIn mid new → StopsAfter old new
+pub stops-after : (old mid new : DeskState) → RoundsRan old mid → StopsIn mid new → StopsAfter old new
 stops-after old mid new run stops = record {
   between = mid.disk.entries;
   lefts = lefts_of mid;
@@ -118,7 +118,7 @@ round-leaving old new stays round left =
     (round-falls old.disk.setup old.disk.entries (lefts_of old) round.lined (lefts_of new) round.takes none (lefts-none (done_of new) 0 new.script.roles (λ over. left (λ i. let e : 0 + i ≡ i = omega arith in rw e at (over i)))))
 
 -- the last round
-pub run-over : (old new : DeskState) (mid : DeskState) → HasRun old new → KeepsScriptAndGates mid new → RunsRound mid false new → HasNoLine new → RunsRounds old new
+pub run-over : (old new : DeskState) (mid : DeskState) → RoundsRan old new → KeepsScriptAndGates mid new → RunsRound mid false new → HasNoLine new → RunsRounds old new
 run-over old new mid run stays round over =
     let (none, same) = round.steps.over refl in
     record {

@@ -88,13 +88,13 @@ pub record IsWaiting (S : Setup) (old : DeskState) (i : ℕ) (H : List Entry) : 
   pub now : first_own_open S H (i + 1) ≡ None
 
 -- client i has done nothing, or handed back some of its tokens at a wait
-pub record IsTaking (old : DeskState) (i : ℕ) (new : DeskState) : Type 0 where
+pub record CollectsBack (old : DeskState) (i : ℕ) (new : DeskState) : Type 0 where
   pub stays : KeepsScriptAndGates old new
   pub places : new.places ≡ old.places
   pub own : with_own_collects new.disk.entries (i + 1) ≡ with_own_collects old.disk.entries (i + 1)
   pub began : (new.disk.entries ≡ old.disk.entries) ⊎ IsWaiting old.disk.setup old i new.disk.entries
 
-pub taking-none : (old : DeskState) (i : ℕ) → IsTaking old i old
+pub taking-none : (old : DeskState) (i : ℕ) → CollectsBack old i old
 taking-none old i = record {
   stays = record { disk = record { setup = refl; gates = refl }; script = refl };
   places = refl;
@@ -128,7 +128,7 @@ takes-owed mid new tag t takes =
     rw (setup, entries) (entries-collect mid.disk.setup mid.disk.entries tag t legal.0 legal.1)
 
 -- one more of the client's tokens was handed back
-pub taking-more : (old mid new : DeskState) (i t : ℕ) → IsTaking old i mid → LineSays mid i (answer.Collected t) new → IsTaking old i new
+pub taking-more : (old mid new : DeskState) (i t : ℕ) → CollectsBack old i mid → LineSays mid i (answer.Collected t) new → CollectsBack old i new
 unfolding LineSays
 taking-more old mid new i t taking (at, takes) =
     let entries : new.disk.entries ≡ entry.Collect (i + 1) t ∷ mid.disk.entries = takes-entries mid new (i + 1) t takes in
@@ -162,7 +162,7 @@ get-there (x ∷ xs) zero less out = cc
 get-there (x ∷ xs) (suc i) less out = get-there xs i (omega (arith, less)) out
 
 -- no line is left
-pub taken-ended : (old mid new : DeskState) (i : ℕ) → i < length old.script.roles → IsTaking old i mid → LineSays mid i answer.Ended new → KeepsScriptAndGates old new × TakesLine old i new
+pub taken-ended : (old mid new : DeskState) (i : ℕ) → i < length old.script.roles → CollectsBack old i mid → LineSays mid i answer.Ended new → KeepsScriptAndGates old new × TakesLine old i new
 unfolding LineSays
 taken-ended old mid new i there taking (next, same) = (rw same taking.stays, by taking.began)
   where
@@ -185,7 +185,7 @@ some-none None none is = cc
 some-none (Some t) none is = cc
 
 -- a wait, and a token of the client is outstanding
-pub taken-stay : (old mid new : DeskState) (i : ℕ) → IsTaking old i mid → LineSays mid i answer.NotYet new → KeepsScriptAndGates old new × TakesLine old i new
+pub taken-stay : (old mid new : DeskState) (i : ℕ) → CollectsBack old i mid → LineSays mid i answer.NotYet new → KeepsScriptAndGates old new × TakesLine old i new
 unfolding LineSays
 taken-stay old mid new i taking (next, open_, same) = (rw same taking.stays, by taking.began)
   where
@@ -225,7 +225,7 @@ same-line one other is = cc
 wanting-wait : (line : Order) → line ≡ order.Wait → wants_memory line ≡ true → ⊥
 wanting-wait line is wanting = let no_way : wants_memory order.Wait ≡ true = rw is at wanting in cc
 
-pub untaken : (old mid new : DeskState) (i : ℕ) → IsTaking old i mid → LineSays mid i answer.Memory new → Untaken old new
+pub untaken : (old mid new : DeskState) (i : ℕ) → CollectsBack old i mid → LineSays mid i answer.Memory new → Untaken old new
 unfolding LineSays
 untaken old mid new i taking (line, next, wanting, same) = by taking.began
   where
@@ -265,7 +265,7 @@ moved-to : (S : Setup) (i : ℕ) (H : List Entry) (lefts : List Role) (G : List 
 moved-to S i H lefts G between H' lefts' same same' takes = rw (same, same') takes
 
 -- the line was done
-module _ (old mid new : DeskState) (i : ℕ) (taking : IsTaking old i mid) (keeps : Keeps mid) (token : Option Token) (e : Option Entry) (does : DoesLine mid i token new e) where
+module _ (old mid new : DeskState) (i : ℕ) (taking : CollectsBack old i mid) (keeps : Keeps mid) (token : Option Token) (e : Option Entry) (does : DoesLine mid i token new e) where
   -- what it does, over the desk at the beginning
   next : DoesNext old.disk.setup old.script.roles mid.disk.entries i (done_of old i) e
   next = rw (taking.stays.disk.setup, taking.stays.script, taking.places) at does.does
@@ -325,7 +325,7 @@ module _ (old mid new : DeskState) (i : ℕ) (taking : IsTaking old i mid) (keep
     script = does.script;
   })
 
-pub taken-did : (old mid new : DeskState) (i : ℕ) (token : Option Token) → IsIdle old.disk.gates → IsTaking old i mid → Keeps mid → LineSays mid i (answer.Did token) new → KeepsScriptAndGates old new × TakesLine old i new
+pub taken-did : (old mid new : DeskState) (i : ℕ) (token : Option Token) → IsIdle old.disk.gates → CollectsBack old i mid → Keeps mid → LineSays mid i (answer.Did token) new → KeepsScriptAndGates old new × TakesLine old i new
 unfolding LineSays
 taken-did old mid new i token idle taking keeps (e, does) =
     (taken-did-stays old mid new i taking keeps token e does (rw taking.stays.disk.gates idle), taken-did-line old mid new i taking keeps token e does)

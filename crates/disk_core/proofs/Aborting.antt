@@ -37,7 +37,7 @@ use Rattle.history_laws.proofs.QuietLemmas.{IsEnding}
 use Rattle.disk_core.proofs.Failed.{open-place}
 use Rattle.disk_core.proofs.Endings.{IsOneMore, one-more, more-to-end, all-ended}
 use Rattle.history_laws.proofs.EndedLemmas.{ended-some, ended-no}
-use Rattle.disk_core.proofs.Walked.{Tells, closed-tells, queue-sorted, queue-below, queued-open, open-queued, open-record, open-answers}
+use Rattle.disk_core.proofs.Walked.{TellsParts, closed-tells, queue-sorted, queue-below, queued-open, open-queued, open-record, open-answers}
 use Rattle.history_laws.proofs.RequestLemmas.{view-same}
 
 -- an entry that ends the meant tokens with Aborted, which it may where there is one
@@ -106,7 +106,7 @@ module _ {M : Type 0} (device : M → Device) (prepared : M → ℕ → Type 0) 
   closed : AreClosed Begin Before c
   closed = disk-closed device prepared drive c sound
 
-  tells : Tells Begin Before Before (mark_of Begin Before) c
+  tells : TellsParts Begin Before Before (mark_of Begin Before) c
   tells = closed-tells Begin Before c closed
 
   pub abort-sorted : AreSorted c.queue

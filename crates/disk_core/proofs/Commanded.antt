@@ -29,15 +29,15 @@ outcome_of (Ok done) = Made
 outcome_of (Err fault) = Failed fault.done
 
 -- its entry
-abbrev pub entry_for : ℕ → Command → Result (Unit {0}) BlockFailed → Entry
-entry_for t command result = entry_of (record { token = t; command = command }) (outcome_of result)
+abbrev pub command_entry : ℕ → Command → Result (Unit {0}) BlockFailed → Entry
+command_entry t command result = entry_of (record { token = t; command = command }) (outcome_of result)
 
 opening-same : (d d' : Device) → IsSame d d' → opening_from d' ≡ opening_from d
 opening-same d d' same = λ i. record { blocks = same.blocks i; first = same.first i }
 
 -- counts and shape follow a command; what the medium holds is told beside it
 pub era-command : (S : Setup) (H : List Entry) (t : ℕ) (command : Command) (d d' : Device) (result : Result (Unit {0}) BlockFailed) → length H < 2 ^ 63 → IsCommand d result d' → MeetsEra S H (media_id_of H) d
-    → d'.now ≡ contents S (media_id_of H) (entry_for t command result ∷ H) → d'.kept ≡ kept_contents S (media_id_of H) (entry_for t command result ∷ H) → MeetsEra S (entry_for t command result ∷ H) (media_id_of H) d'
+    → d'.now ≡ contents S (media_id_of H) (command_entry t command result ∷ H) → d'.kept ≡ kept_contents S (media_id_of H) (command_entry t command result ∷ H) → MeetsEra S (command_entry t command result ∷ H) (media_id_of H) d'
 era-command S H t command d d' (Ok done) few is meets now kept =
     let k = media_id_of H in
     let e = Done t command in
@@ -78,24 +78,24 @@ era-command S H t command d d' (Err fault) few is meets now kept =
     }
 
 module _ (S : Setup) (H : List Entry) (t : ℕ) (d d' : Device) (few : length H < 2 ^ 63) (meets : MeetsEra S H (media_id_of H) d) where
-  no-piece : (command : Command) (result : Result (Unit {0}) BlockFailed) → is_change command ≡ false → piece_of S H (entry_for t command result) ≡ None
+  no-piece : (command : Command) (result : Result (Unit {0}) BlockFailed) → is_change command ≡ false → piece_of S H (command_entry t command result) ≡ None
   no-piece command (Ok done) quiet = piece-unchanged S H t command quiet
   no-piece command (Err fault) quiet = piece-unchanged-fault S H t command fault.done quiet
 
-  pub no-flush : (command : Command) (result : Result (Unit {0}) BlockFailed) → is_sync command ≡ false → is_flush_entry (entry_for t command result) ≡ false
+  pub no-flush : (command : Command) (result : Result (Unit {0}) BlockFailed) → is_sync command ≡ false → is_flush_entry (command_entry t command result) ≡ false
   no-flush command (Ok done) quiet = quiet
   no-flush command (Err fault) quiet = refl
 
-  pub quiet-era : (command : Command) (result : Result (Unit {0}) BlockFailed) → is_change command ≡ false → is_flush_entry (entry_for t command result) ≡ false → IsCommand d result d' → d'.now ≡ d.now → d'.kept ≡ d.kept
-      → MeetsEra S (entry_for t command result ∷ H) (media_id_of H) d'
+  pub quiet-era : (command : Command) (result : Result (Unit {0}) BlockFailed) → is_change command ≡ false → is_flush_entry (command_entry t command result) ≡ false → IsCommand d result d' → d'.now ≡ d.now → d'.kept ≡ d.kept
+      → MeetsEra S (command_entry t command result ∷ H) (media_id_of H) d'
   quiet-era command result quiet unflushed is now kept =
-      let e = entry_for t command result in
+      let e = command_entry t command result in
       let none = no-piece command result quiet in
       era-command S H t command d d' result few is meets (now ∙ meets.now ∙ sym (contents-same S (media_id_of H) H e none)) (kept ∙ meets.kept ∙ sym (kept-same S (media_id_of H) H e unflushed none))
 
   -- a read leaves the bytes
   pub read-era : (command : Command) (lba : ℕ) (result : Result (Unit {0}) BlockFailed) (out out' : List ℕ) → is_change command ≡ false → is_sync command ≡ false → IsRead d lba result d' out out'
-      → MeetsEra S (entry_for t command result ∷ H) (media_id_of H) d'
+      → MeetsEra S (command_entry t command result ∷ H) (media_id_of H) d'
   read-era command lba result out out' quiet unsynced is = quiet-era command result quiet (no-flush command result unsynced) is.command is.now is.kept
 
   kept-synced : (c : Bool) → S.cached ≡ c → kept_contents S (media_id_of H) (Done t Sync ∷ H) ≡ contents S (media_id_of H) H
@@ -110,7 +110,7 @@ module _ (S : Setup) (H : List Entry) (t : ℕ) (d d' : Device) (few : length H 
       either b = if b then flushed_contents S (media_id_of H) (Done t Sync ∷ H) else contents S (media_id_of H) (Done t Sync ∷ H)
 
   -- a sync makes the bytes stay, and a failed one leaves all
-  pub sync-era : (result : Result (Unit {0}) BlockFailed) → IsSync d result d' → MeetsEra S (entry_for t Sync result ∷ H) (media_id_of H) d'
+  pub sync-era : (result : Result (Unit {0}) BlockFailed) → IsSync d result d' → MeetsEra S (command_entry t Sync result ∷ H) (media_id_of H) d'
   sync-era (Ok done) is =
       era-command S H t Sync d d' (Ok done) few is.command meets (is.now ∙ meets.now ∙ sym (contents-same S (media_id_of H) H (Done t Sync) (piece-unchanged S H t Sync refl)))
       (is.kept ∙ meets.now ∙ sym (kept-synced S.cached refl))
@@ -130,17 +130,17 @@ module _ (S : Setup) (H : List Entry) (t : ℕ) (d d' : Device) (few : length H 
 
   -- a write, whose bytes on the medium are those of the history, done or failed
   pub write-era : (command : Command) (lba : ℕ) (bytes : List ℕ) (result : Result (Unit {0}) BlockFailed) → is_sync command ≡ false → IsWrite d lba bytes result d'
-      → patch_told (contents S (media_id_of H) H) (lba * size_of S) (written_bytes result (size_of S) bytes) ≡ contents S (media_id_of H) (entry_for t command result ∷ H)
-      → MeetsEra S (entry_for t command result ∷ H) (media_id_of H) d'
+      → patch_told (contents S (media_id_of H) H) (lba * size_of S) (written_bytes result (size_of S) bytes) ≡ contents S (media_id_of H) (command_entry t command result ∷ H)
+      → MeetsEra S (command_entry t command result ∷ H) (media_id_of H) d'
   write-era command lba bytes result unsynced is holds =
-      let e = entry_for t command result in
+      let e = command_entry t command result in
       let now : d'.now ≡ contents S (media_id_of H) (e ∷ H) = is.now ∙ rw (meets.size, meets.now) holds in
       era-command S H t command d d' result few is.command meets now (kept-written S.cached e refl (no-flush command result unsynced) now is.kept)
 
   -- the whole groups of a unit: a put or a wipe
   pub run-written : (command : Command) (r : Request) (u : Span) (result : Result (Unit {0}) BlockFailed) → IsSetup S → request H t ≡ Some r → IsUnitCommand S r command u → is_change command ≡ true → u.whole ≡ true
       → IfErr result (λ fault. fault.done ≤ u.count)
-      → patch_told (contents S (media_id_of H) H) (u.block * size_of S) (written_bytes result (size_of S) (bytes_between S r u.low u.high)) ≡ contents S (media_id_of H) (entry_for t command result ∷ H)
+      → patch_told (contents S (media_id_of H) H) (u.block * size_of S) (written_bytes result (size_of S) (bytes_between S r u.low u.high)) ≡ contents S (media_id_of H) (command_entry t command result ∷ H)
   run-written command r u (Ok done) is named of change whole few =
       let low : u.low ≡ u.block * size_of S = run-low S.geometry (from_of S r) (until_of S r) u is.geometry of.unit whole in
       told-map (contents S (media_id_of H) H) (u.block * size_of S) (bytes_between S r u.low u.high)

@@ -38,7 +38,7 @@ use Rattle.disk_core.proofs.Begun.{begun, gates-begun}
 use Rattle.history_laws.proofs.OwedSoFarLemmas.{owed-before}
 use Rattle.history_laws.proofs.EndingLemmas.{units-left}
 use Rattle.disk_core.proofs.Closed.{kept-ended, closing-step, closed-all}
-use Rattle.disk_core.proofs.Commanded.{entry_for}
+use Rattle.disk_core.proofs.Commanded.{command_entry}
 use Rattle.disk_core.proofs.Failed.{open-place, beside-ends}
 use Rattle.history_laws.proofs.QuietLemmas.{ending-fault}
 use Rattle.disk_core.proofs.Finished.{kept-done}
@@ -48,7 +48,7 @@ use Rattle.disk_core.proofs.Links.{AreClosed, StandsBeside, links-disk, disk-clo
 use Rattle.disk_core.proofs.Made.{MayFinish, finishes-closed}
 use Rattle.disk_core.proofs.Released.{IsReleased, same-but, is-released}
 use Rattle.disk_core.proofs.Staying.{revokes, holders-lent}
-use Rattle.disk_core.proofs.Stepped.{Follows, beside-command, commanded-on}
+use Rattle.disk_core.proofs.Stepped.{CommandFollows, beside-command, commanded-on}
 use Rattle.history_laws.proofs.QuietLemmas.{done-entry, fault-entry}
 use Rattle.disk_core.proofs.Wrote.{lawful, opened, outstanding, may, told-whole-in, store-follows, stops-before, size-is, finishes, bytes-are}
 
@@ -74,7 +74,7 @@ module _ {M : Type 0} (device : M → Device) (prepared : M → ℕ → Type 0) 
       subst (λ s. IsReleased part.ticket before c.holders.items s mid.holders.items) (sym gates_is)
       (subst (IsReleased part.ticket before c.holders.items (without_hold c.gates part.ticket)) (sym left_is) (is-released part.ticket before c.gates c.holders.items same is.apart is.sound.holders.paired is.sound.holders.rising))
 
-  follows-on : (result : Result (Unit {0}) BlockFailed) → OnMedium device prepared drive drive' (λ d d'. IsWrite d part.block c.group.items result d') → OnMedium device prepared drive drive' (Follows S H (entry_for part.token (Store g.block) result) result)
+  follows-on : (result : Result (Unit {0}) BlockFailed) → OnMedium device prepared drive drive' (λ d d'. IsWrite d part.block c.group.items result d') → OnMedium device prepared drive drive' (CommandFollows S H (command_entry part.token (Store g.block) result) result)
   follows-on result on = record {
     before = on.before;
     after = on.after;

@@ -40,11 +40,11 @@ use Rattle.disk_core.specs.Commands.{OnMedium}
 use Rattle.disk_core.specs.Inside.{Tracks, group_low, group_high}
 use Rattle.disk_core.specs.Calls.{StepSays, Fills, command_of}
 use Rattle.disk_core.specs.Moves.{IsDisk, IsFirst, Reaches, HasBytesIn, MayPut, low_of, high_of, blocks_bytes, cover_by, MayEnter, Settles, EntersDone, EntersFault}
-use Rattle.disk_core.proofs.Commanded.{entry_for, write-era, run-written}
+use Rattle.disk_core.proofs.Commanded.{command_entry, write-era, run-written}
 use Rattle.disk_core.proofs.Finished.{kept-done}
 use Rattle.history_laws.proofs.LeftLemmas.{FinishesTask}
 use Rattle.disk_core.proofs.Moving.{IsMoving, unit-moving, medium-meets, moving-request, moving-present, moving-finishes, moving-left, moving-transfer, moving-has}
-use Rattle.disk_core.proofs.Stepped.{Follows, did-done, did-failed}
+use Rattle.disk_core.proofs.Stepped.{CommandFollows, did-done, did-failed}
 use Rattle.disk_core.proofs.Synced.{on-as}
 use Rattle.disk_core.proofs.Upcoming.{may-fail, unit-token, legal-in}
 use Rattle.history_laws.proofs.BytesLemmas.{between-long}
@@ -248,12 +248,12 @@ module _ {M : Type 0} (device : M → Device) (prepared : M → ℕ → Type 0) 
     few-done (Ok x) d d' size is = tt
     few-done (Err fault) d d' size is = (let lt = stops d d' fault size is in omega arith)
 
-    follows : (result : Result (Unit {0}) BlockFailed) → OnMedium device prepared drive drive' (λ d d'. IsWrite d b (blocks_bytes own.request b n c.blocks.size) result d') → OnMedium device prepared drive drive' (Follows S H (entry_for todo.token covers result) result)
-    follows result on = on-as device prepared drive drive' (λ d d'. IsWrite d b (blocks_bytes own.request b n c.blocks.size) result d') (Follows S H (entry_for todo.token covers result) result)
+    follows : (result : Result (Unit {0}) BlockFailed) → OnMedium device prepared drive drive' (λ d d'. IsWrite d b (blocks_bytes own.request b n c.blocks.size) result d') → OnMedium device prepared drive drive' (CommandFollows S H (command_entry todo.token covers result) result)
+    follows result on = on-as device prepared drive drive' (λ d d'. IsWrite d b (blocks_bytes own.request b n c.blocks.size) result d') (CommandFollows S H (command_entry todo.token covers result) result)
         (λ d d' does. record {
           command = does.command;
           era = λ meets. write-era S H todo.token d d' few-entries meets covers b (blocks_bytes own.request b n c.blocks.size) result cover.no_sync does
-              (subst (λ bytes. patch_told (contents S (media_id_of H) H) (b * size_of S) (written_bytes result (size_of S) bytes) ≡ contents S (media_id_of H) (entry_for todo.token covers result ∷ H)) (sym put-bytes)
+              (subst (λ bytes. patch_told (contents S (media_id_of H) H) (b * size_of S) (written_bytes result (size_of S) bytes) ≡ contents S (media_id_of H) (command_entry todo.token covers result ∷ H)) (sym put-bytes)
               (run-written S H todo.token d d' few-entries meets covers r u result sound.geometry moving.named of cover.changing refl (few-done result d d' meets.size does)));
         }) on
 

@@ -42,7 +42,7 @@ use Rattle.disk_core.specs.Inside.{AreFitted}
 use Rattle.disk_core.specs.Calls.{StepSays, IsWork, LendsFirst, Makes, command_of}
 use Rattle.history_laws.specs.Ranges.{low_in, high_in}
 use Rattle.disk_core.specs.Moves.{IsDisk, IsFirst, Reaches, HasPlace, HasBytesIn, MayName, MayHold, MayLend, low_of, high_of, blocks_bytes, lent_of, EntersFault}
-use Rattle.disk_core.proofs.Commanded.{entry_for, read-era}
+use Rattle.disk_core.proofs.Commanded.{command_entry, read-era}
 use Rattle.disk_core.proofs.Covers.{bytes-same}
 use Rattle.history_laws.proofs.BytesLemmas.{between-long}
 use Rattle.disk_core.proofs.Gated.{unheld-block, ticket-new, ticket-unknown}
@@ -50,7 +50,7 @@ use Rattle.disk_core.proofs.Lending.{HasLent, lent-closed}
 use Rattle.disk_core.proofs.Links.{AreClosed, links-disk, disk-closed}
 use Rattle.disk_core.proofs.Moving.{IsMoving, unit-moving, medium-meets, moving-request, moving-present, moving-transfer, moving-has}
 use Rattle.disk_core.proofs.Spans.{part-span}
-use Rattle.disk_core.proofs.Stepped.{Follows, beside-command, commanded-on, did-failed}
+use Rattle.disk_core.proofs.Stepped.{CommandFollows, beside-command, commanded-on, did-failed}
 use Rattle.history_laws.proofs.QuietLemmas.{done-entry}
 use Rattle.disk_core.proofs.Synced.{on-as}
 use Rattle.disk_core.proofs.Upcoming.{next-is, may-fail, unit-token, legal-in, whole-in}
@@ -266,8 +266,8 @@ module _ {M : Type 0} (device : M → Device) (prepared : M → ℕ → Type 0) 
       subst (λ G. w ≡ lent_of own.request g b G c.fetched) blocks (subst (λ o. IfSome o (λ q. w ≡ lent_of q g b mid.blocks c.fetched)) (ap (λ v. request_at v t) tokens ∙ named-own) (all g there))
 
   module _ (shaped : (m : M) → IsShaped (device m)) (drive' : DriveState M) (was group : List ℕ) where
-    follows : (result : Result (Unit {0}) BlockFailed) → OnMedium device prepared drive drive' (λ d d'. IsRead d b result d' was group) → OnMedium device prepared drive drive' (Follows S H (entry_for todo.token (Fetch b) result) result)
-    follows result on = on-as device prepared drive drive' (λ d d'. IsRead d b result d' was group) (Follows S H (entry_for todo.token (Fetch b) result) result)
+    follows : (result : Result (Unit {0}) BlockFailed) → OnMedium device prepared drive drive' (λ d d'. IsRead d b result d' was group) → OnMedium device prepared drive drive' (CommandFollows S H (command_entry todo.token (Fetch b) result) result)
+    follows result on = on-as device prepared drive drive' (λ d d'. IsRead d b result d' was group) (CommandFollows S H (command_entry todo.token (Fetch b) result) result)
         (λ d d' does. record { command = does.command; era = λ meets. read-era S H todo.token d d' few-entries meets (Fetch b) b result was group refl refl does }) on
 
     -- the read failed

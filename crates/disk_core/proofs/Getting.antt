@@ -38,11 +38,11 @@ use Rattle.disk_core.specs.Inside.{RecordsFollow}
 use Rattle.disk_core.specs.Calls.{StepSays, Fills, command_of}
 use Rattle.disk_core.specs.Moves.{IsDisk, IsFirst, Reaches, HasPlace, HasBytesIn, IsTarget, IsGot, GetsInto, with_bytes_in, EntersDone, EntersFault, MayEnter, Settles}
 use Rattle.disk_core.proofs.Buffered.{records-put, kept-put, kept-got}
-use Rattle.disk_core.proofs.Commanded.{entry_for, quiet-era, no-flush}
+use Rattle.disk_core.proofs.Commanded.{command_entry, quiet-era, no-flush}
 use Rattle.history_laws.proofs.LeftLemmas.{FinishesTask}
 use Rattle.disk_core.proofs.Kept.{kept-record, changed-at}
 use Rattle.disk_core.proofs.Moving.{IsMoving, unit-moving, medium-meets, moving-request, moving-present, moving-finishes, moving-left, moving-transfer, moving-has}
-use Rattle.disk_core.proofs.Stepped.{Follows, did-done, did-failed}
+use Rattle.disk_core.proofs.Stepped.{CommandFollows, did-done, did-failed}
 use Rattle.disk_core.proofs.Synced.{on-as}
 use Rattle.disk_core.proofs.Upcoming.{may-fail, unit-token}
 use Rattle.history_laws.proofs.FetchLemmas.{get-kind, get-span, reads-kind}
@@ -139,8 +139,8 @@ module _ {M : Type 0} (device : M → Device) (prepared : M → ℕ → Type 0) 
       (subst (λ n. IfSome (request_at c.tokens todo.token) (λ q. n ≤ q.left)) (sym goes.count) (moving-left device prepared drive c sound todo.token place r u own moving get of refl))
 
   module _ (shaped : (m : M) → IsShaped (device m)) (drive' : DriveState M) (mid c' : Core) (target : Target) (goes : GoesTo target) where
-    follows : (result : Result (Unit {0}) BlockFailed) (low : ℕ) (piece : List ℕ) → OnMedium device prepared drive drive' (λ d d'. IsGot d result d' low piece) → OnMedium device prepared drive drive' (Follows S H (entry_for todo.token get result) result)
-    follows result low piece on = on-as device prepared drive drive' (λ d d'. IsGot d result d' low piece) (Follows S H (entry_for todo.token get result) result)
+    follows : (result : Result (Unit {0}) BlockFailed) (low : ℕ) (piece : List ℕ) → OnMedium device prepared drive drive' (λ d d'. IsGot d result d' low piece) → OnMedium device prepared drive drive' (CommandFollows S H (command_entry todo.token get result) result)
+    follows result low piece on = on-as device prepared drive drive' (λ d d'. IsGot d result d' low piece) (CommandFollows S H (command_entry todo.token get result) result)
         (λ d d' does. record { command = does.command; era = λ meets. quiet-era S H todo.token d d' few-entries meets get result refl (no-flush S H todo.token d d' few-entries meets get result refl) does.command does.now does.kept }) on
 
     told-now : (low : ℕ) (piece : List ℕ) (x : Unit {0}) (on : OnMedium device prepared drive drive' (λ d d'. IsGot d (Ok x) d' low piece)) → low ≡ u.low → AreToldAt (contents S (media_id_of H) H) u.low piece

@@ -157,11 +157,11 @@ insertion-next drive k is = by drive.present (nat_lt drive.media_id (length driv
     by false true out lt is = record { was_out = out; below = ltb-true drive.media_id (length drive.media) lt; is_next = ap id_in is }
 
 -- and what one that was refused says
-pub record IsRefused {M : Type 0} (drive : DriveState M) (fault : InsertFault) : Type 0 where
+pub record RefusesInsert {M : Type 0} (drive : DriveState M) (fault : InsertFault) : Type 0 where
   pub occupied : fault ≡ Occupied → drive.present ≡ true
   pub no_spare : fault ≡ NoSpare → (drive.present ≡ false) × (length drive.media ≤ drive.media_id)
 
-pub insertion-refused : {M : Type 0} (drive : DriveState M) (fault : InsertFault) → Err fault ≡ insertion drive → IsRefused drive fault
+pub insertion-refused : {M : Type 0} (drive : DriveState M) (fault : InsertFault) → Err fault ≡ insertion drive → RefusesInsert drive fault
 insertion-refused drive fault is = by drive.present (nat_lt drive.media_id (length drive.media)) refl refl is
   where
     is_ok : Result ℕ InsertFault → Bool
@@ -176,7 +176,7 @@ insertion-refused drive fault is = by drive.present (nat_lt drive.media_id (leng
     is_occupied Occupied = true
     is_occupied NoSpare = false
 
-    by : (p b : Bool) → drive.present ≡ p → nat_lt drive.media_id (length drive.media) ≡ b → Err fault ≡ (if p then Err Occupied else if b then Ok (drive.media_id + 1) else Err NoSpare) → IsRefused drive fault
+    by : (p b : Bool) → drive.present ≡ p → nat_lt drive.media_id (length drive.media) ≡ b → Err fault ≡ (if p then Err Occupied else if b then Ok (drive.media_id + 1) else Err NoSpare) → RefusesInsert drive fault
     by true b out lt is = record { occupied = λ e. out; no_spare = λ e. absurd (true≢false (sym (ap is_occupied (ap fault_in is)) ∙ ap is_occupied e)) }
     by false true out lt is = absurd (true≢false (sym (ap is_ok is)))
     by false false out lt is = record { occupied = λ e. absurd (true≢false (sym (ap is_occupied e) ∙ ap is_occupied (ap fault_in is))); no_spare = λ e. (out, ltb-false drive.media_id (length drive.media) lt) }

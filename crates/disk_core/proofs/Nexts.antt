@@ -32,12 +32,12 @@ from-none (s ∷ queue) at none u above = elim (cases_Bool (is_from at s)) [
     clash e = cc
 
 -- the least token from this one on that has one
-pub record IsLeast (queue : List Sub) (at t : ℕ) : Type 0 where
+pub record IsLeastQueued (queue : List Sub) (at t : ℕ) : Type 0 where
   pub above : at ≤ t
   pub queued : list_any (is_of t) queue ≡ true
   pub least : (u : ℕ) → at ≤ u → u < t → list_any (is_of u) queue ≡ false
 
-pub from-some : (queue : List Sub) (at t : ℕ) → AreSorted queue → Some t ≡ option_map token_of (find (is_from at) queue) → IsLeast queue at t
+pub from-some : (queue : List Sub) (at t : ℕ) → AreSorted queue → Some t ≡ option_map token_of (find (is_from at) queue) → IsLeastQueued queue at t
 unfolding is_from is_of Ordered
 from-some [] at t sorted some = cc
 from-some (s ∷ queue) at t (first, rest) some = elim (cases_Bool (is_from at s)) [
@@ -77,7 +77,7 @@ queued-below (s ∷ queue) n u (first, rest) any = elim (or_cases (nat_eq u (tok
 abbrev pub NoneMeant : Core → Meant → ℕ → ℕ → Type 0
 NoneMeant c meant from at = (u : ℕ) → from ≤ u → u < at → is_queued_meant c meant u ≡ false
 
-pub meant-next : (c : Core) (meant : Meant) (from at t : ℕ) → NoneMeant c meant from at → IsLeast c.queue at t → is_some_meant meant (request_at c.tokens t) ≡ false → NoneMeant c meant from (t + 1)
+pub meant-next : (c : Core) (meant : Meant) (from at t : ℕ) → NoneMeant c meant from at → IsLeastQueued c.queue at t → is_some_meant meant (request_at c.tokens t) ≡ false → NoneMeant c meant from (t + 1)
 meant-next c meant from at t none least isnt u above below = elim (cases_lt u at) [
   | inl before ↦ none u above before
   | inr after ↦ elim (cases_eq u t) [
@@ -86,7 +86,7 @@ meant-next c meant from at t none least isnt u above below = elim (cases_lt u at
   ]
 ]
 
-pub meant-found : (c : Core) (meant : Meant) (from at t : ℕ) → from ≤ at → NoneMeant c meant from at → IsLeast c.queue at t → is_some_meant meant (request_at c.tokens t) ≡ true → IsNextMeant c meant from (Some t)
+pub meant-found : (c : Core) (meant : Meant) (from at t : ℕ) → from ≤ at → NoneMeant c meant from at → IsLeastQueued c.queue at t → is_some_meant meant (request_at c.tokens t) ≡ true → IsNextMeant c meant from (Some t)
 meant-found c meant from at t order none least is = (
   (let above = least.above in omega arith),
   and_from (is_queued c t) (is_some_meant meant (request_at c.tokens t)) least.queued is,

@@ -47,7 +47,7 @@ use Rattle.disk_core.proofs.Upcoming.{next-is, legal-in, whole-in, unit-token, u
 use Rattle.history_laws.proofs.QuietLemmas.{done-entry, fault-entry, unstored}
 
 -- what the medium has to do for an entry
-pub record Follows (S : Setup) (H : List Entry) (e : Entry) (result : Result (Unit {0}) BlockFailed) (old new : Device) : Type 0 where
+pub record CommandFollows (S : Setup) (H : List Entry) (e : Entry) (result : Result (Unit {0}) BlockFailed) (old new : Device) : Type 0 where
   pub command : IsCommand old result new
   pub era : MeetsEra S H (media_id_of H) old → MeetsEra S (e ∷ H) (media_id_of H) new
 
@@ -77,7 +77,7 @@ module _ {M : Type 0} (device : M → Device) (prepared : M → ℕ → Type 0) 
   abbrev H : List Entry
   H = c.history.entries
 
-  module _ (drive' : DriveState M) (e : Entry) (result : Result (Unit {0}) BlockFailed) (on : OnMedium device prepared drive drive' (Follows S H e result)) where
+  module _ (drive' : DriveState M) (e : Entry) (result : Result (Unit {0}) BlockFailed) (on : OnMedium device prepared drive drive' (CommandFollows S H e result)) where
     meets-before : MeetsEra S H (media_id_of H) (device on.before)
     unfolding state_of
     meets-before = (let i = device-in device prepared S H drive on.before on.after on.was_in sound.drive_follows in subst (λ k. MeetsEra S H k (device on.before)) (omega arith) (sound.facts.media _ (device on.before) i))
@@ -117,7 +117,7 @@ module _ {M : Type 0} (device : M → Device) (prepared : M → ℕ → Type 0) 
   -- a failed command; by now so many fetches are counted
   pub did-failed : (shaped : (m : M) → IsShaped (device m)) (unit : Sub) (todo : Todo) (first : IsFirst device drive c unit todo) (command : Command) (fault : BlockFailed) (drive' : DriveState M) (mid c' : Core) (n : ℕ)
       → command_of (state_of device drive c) todo ≡ command → StopsAt S command fault.done → length mid.group.items ≡ length c.group.items → n ≡ fetches (Fault todo.token command fault.done ∷ H)
-      → OnMedium device prepared drive drive' (Follows S H (Fault todo.token command fault.done) (Err fault)) → EntersFault (record c { fetched = n; group = mid.group }) c' todo.token command fault.done
+      → OnMedium device prepared drive drive' (CommandFollows S H (Fault todo.token command fault.done) (Err fault)) → EntersFault (record c { fetched = n; group = mid.group }) c' todo.token command fault.done
       → Reaches device prepared drive c drive' c' (λ s s'. StepSays s Did s')
   unfolding state_of StepSays with_entry MayFollow
   did-failed shaped unit todo first command fault drive' mid c' n named stops long counted on fails =
@@ -159,7 +159,7 @@ module _ {M : Type 0} (device : M → Device) (prepared : M → ℕ → Type 0) 
       → command_of (state_of device drive c) todo ≡ command → is_fetch command ≡ false → is_store command ≡ false → length mid.group.items ≡ length c.group.items
       → FinishesTask S H todo.token command r todo.task → RecordsFollow S H mid.tokens → (own : Record) × (record_at mid.tokens todo.token ≡ Some own) → KeptFollow S (Done todo.token command ∷ H) (kept_of mid.tokens)
       → Fills S H todo.token command Made (kept_of c.tokens) (kept_of mid.tokens)
-      → OnMedium device prepared drive drive' (Follows S H (Done todo.token command) (Ok _)) → EntersDone (record c { tokens = mid.tokens; group = mid.group }) c' unit command (task_bytes todo.task)
+      → OnMedium device prepared drive drive' (CommandFollows S H (Done todo.token command) (Ok _)) → EntersDone (record c { tokens = mid.tokens; group = mid.group }) c' unit command (task_bytes todo.task)
       → Reaches device prepared drive c drive' c' (λ s s'. StepSays s Did s')
   unfolding state_of StepSays IsLegal MayFollow
   did-done shaped unit todo first command r drive' mid c' named unfetched other long finishes records recorded kept fills on done =

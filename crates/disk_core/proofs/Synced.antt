@@ -25,11 +25,11 @@ use Rattle.disk_core.specs.Commands.{OnMedium}
 use Rattle.disk_core.specs.Parts.{kept_of, state_of}
 use Rattle.disk_core.specs.Calls.{StepSays, command_of}
 use Rattle.disk_core.specs.Moves.{IsDisk, IsFirst, Reaches, HasPlace, EntersDone, EntersFault, MayEnter, Settles}
-use Rattle.disk_core.proofs.Commanded.{entry_for, sync-era}
+use Rattle.disk_core.proofs.Commanded.{command_entry, sync-era}
 use Rattle.disk_core.proofs.Finished.{kept-done}
 use Rattle.history_laws.proofs.LeftLemmas.{FinishesTask, sync-finishes}
 use Rattle.disk_core.proofs.Opened.{open-record}
-use Rattle.disk_core.proofs.Stepped.{Follows, did-done, did-failed}
+use Rattle.disk_core.proofs.Stepped.{CommandFollows, did-done, did-failed}
 use Rattle.disk_core.proofs.Upcoming.{next-is, is-present, may-fail, may-lower, unit-token}
 
 -- a unit that the queue keeps as a sync is one
@@ -96,8 +96,8 @@ module _ {M : Type 0} (device : M → Device) (prepared : M → ℕ → Type 0) 
       by (Err fault) = tt
 
   module _ (shaped : (m : M) → IsShaped (device m)) (drive' : DriveState M) (c' : Core) where
-    follows : (result : Result (Unit {0}) BlockFailed) → OnMedium device prepared drive drive' (λ d d'. IsSync d result d') → OnMedium device prepared drive drive' (Follows S H (entry_for todo.token Sync result) result)
-    follows result on = on-as device prepared drive drive' (λ d d'. IsSync d result d') (Follows S H (entry_for todo.token Sync result) result)
+    follows : (result : Result (Unit {0}) BlockFailed) → OnMedium device prepared drive drive' (λ d d'. IsSync d result d') → OnMedium device prepared drive drive' (CommandFollows S H (command_entry todo.token Sync result) result)
+    follows result on = on-as device prepared drive drive' (λ d d'. IsSync d result d') (CommandFollows S H (command_entry todo.token Sync result) result)
         (λ d d' does. record { command = does.command; era = λ meets. sync-era S H todo.token d d' few-entries meets result does }) on
 
     sync-done : (done : Unit {0}) → OnMedium device prepared drive drive' (λ d d'. IsSync d (Ok done) d') → EntersDone c c' unit Sync 1 → Reaches device prepared drive c drive' c' (λ s s'. StepSays s Did s')

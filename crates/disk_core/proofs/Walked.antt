@@ -67,7 +67,7 @@ all-below size n [] each = tt
 all-below size n (todo ∷ todos) each = (subst (λ m. m < n) (sym (sub-token size todo)) (each zero todo refl), all-below size n todos (λ k x there. each (suc k) x there))
 
 -- what a walk reads of the parts: the units of the tokens that are open so far, and their records
-pub record Tells (S : Setup) (H G : List Entry) (marks : ℕ → Option Status) (c : Core) : Type 0 where
+pub record TellsParts (S : Setup) (H G : List Entry) (marks : ℕ → Option Status) (c : Core) : Type 0 where
   pub setup : IsSetup S
   pub legal : IsLegal S H
   pub queue : c.queue ≡ map (sub_of (size_of S)) (filter (λ todo. is_none (marks todo.token)) (units_left S H))
@@ -77,7 +77,7 @@ pub record Tells (S : Setup) (H G : List Entry) (marks : ℕ → Option Status) 
   pub same : (t : ℕ) → request G t ≡ request H t
   pub count : token_count G ≡ token_count H
 
-pub closing-tells : (S : Setup) (H : List Entry) (e : Entry) (marks : ℕ → Option Status) (late : ℕ) (c : Core) → is_accept e ≡ false → IsClosing S (e ∷ H) marks (units_left S H) late c → Tells S H (e ∷ H) marks c
+pub closing-tells : (S : Setup) (H : List Entry) (e : Entry) (marks : ℕ → Option Status) (late : ℕ) (c : Core) → is_accept e ≡ false → IsClosing S (e ∷ H) marks (units_left S H) late c → TellsParts S H (e ∷ H) marks c
 unfolding IsLegal
 closing-tells S H e marks late c adds_none closing = record {
   setup = closing.setup;
@@ -90,7 +90,7 @@ closing-tells S H e marks late c adds_none closing = record {
   count = accepted-same H e adds_none;
 }
 
-pub closed-tells : (S : Setup) (H : List Entry) (c : Core) → AreClosed S H c → Tells S H H (mark_of S H) c
+pub closed-tells : (S : Setup) (H : List Entry) (c : Core) → AreClosed S H c → TellsParts S H H (mark_of S H) c
 closed-tells S H c closed = record {
   setup = closed.geometry;
   legal = closed.legal;
@@ -102,7 +102,7 @@ closed-tells S H c closed = record {
   count = refl;
 }
 
-module _ (S : Setup) (H G : List Entry) (marks : ℕ → Option Status) (c : Core) (tells : Tells S H G marks c) where
+module _ (S : Setup) (H G : List Entry) (marks : ℕ → Option Status) (c : Core) (tells : TellsParts S H G marks c) where
   pub queue-sorted : AreSorted c.queue
   queue-sorted =
       subst AreSorted (sym tells.queue) (ordered-map IsBefore (λ one other. token_of one ≤ token_of other) (sub_of (size_of S)) (filter (λ todo. is_none (marks todo.token)) (units_left S H)) in-order

@@ -24,7 +24,7 @@ use Rattle.disk_core.specs.Moves.{Ends, StaysBeside}
 use Rattle.disk_core.specs.Closing.{IsClosing, is_some_meant, is_queued, is_queued_meant, IsNextMeant, AreSorted, IsToEnd, HaveEnded, NoneMeantBefore, marks_below}
 use Rattle.disk_core.proofs.Closed.{kept-ended, closing-step, open-outstanding, open-owed}
 use Rattle.disk_core.proofs.Staying.{revokes, holders-lent}
-use Rattle.disk_core.proofs.Walked.{Tells, closing-tells, queue-sorted, queue-below, queued-open, open-queued, open-answers}
+use Rattle.disk_core.proofs.Walked.{TellsParts, closing-tells, queue-sorted, queue-below, queued-open, open-queued, open-answers}
 use Rattle.history_laws.proofs.EndedLemmas.{ended-none}
 
 below-then : (S : Setup) (H : List Entry) (e : Entry) (n u : ℕ) → u < n → marks_below S H e n u ≡ mark_of S (e ∷ H) u
@@ -92,7 +92,7 @@ module _ (meant : Meant) (status : Status) (S : Setup) (H : List Entry) (e : Ent
   tokens-same : token_count (e ∷ H) ≡ token_count H
   tokens-same = accepted-same H e to_end.adds_none
 
-  tells : Tells S H (e ∷ H) (marks_below S H e from) c
+  tells : TellsParts S H (e ∷ H) (marks_below S H e from) c
   tells = closing-tells S H e (marks_below S H e from) (late - count) c to_end.adds_none so_far.closing
 
   -- what an open token from here on answers is whether the entry ends it

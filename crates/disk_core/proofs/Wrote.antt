@@ -39,7 +39,7 @@ use Rattle.disk_core.specs.Calls.{expected_copy}
 use Rattle.disk_core.specs.Moves.{HasPlace}
 use Rattle.disk_core.specs.Storage.{IsStoring}
 use Rattle.disk_core.proofs.Admitted.{blocks-of}
-use Rattle.disk_core.proofs.Commanded.{entry_for, write-era}
+use Rattle.disk_core.proofs.Commanded.{command_entry, write-era}
 use Rattle.disk_core.proofs.Composed.{part-record, holder-is, part-in-record}
 use Rattle.history_laws.proofs.HoldingLemmas.{part_of_range, part-listed, part-unmoved}
 use Rattle.history_laws.proofs.StoredLemmas.{stored-done, stored-failed}
@@ -48,7 +48,7 @@ use Rattle.history_laws.proofs.LeftLemmas.{FinishesTask, unit-finishes}
 use Rattle.disk_core.proofs.Opened.{IsOpenRecord, IsHolderOf}
 use Rattle.disk_core.proofs.Parted.{part-there, group-there, medium-there}
 use Rattle.disk_core.proofs.Released.{same-but}
-use Rattle.disk_core.proofs.Stepped.{Follows}
+use Rattle.disk_core.proofs.Stepped.{CommandFollows}
 use Rattle.disk_core.proofs.Upcoming.{may-fail, may-lower, whole-in}
 
 module _ {M : Type 0} (device : M → Device) (prepared : M → ℕ → Type 0) (drive : DriveState M) (shaped : (m : M) → IsShaped (device m)) (c : Core) (before : Gates) (part : Part) (g : Gate) (q : Request) (is : IsStoring device prepared drive c before part g q) where
@@ -194,20 +194,20 @@ module _ {M : Type 0} (device : M → Device) (prepared : M → ℕ → Type 0) 
 
   -- the medium holds what the history says, done or failed
   store-contents : (result : Result (Unit {0}) BlockFailed) → IfErr result (λ fault. fault.done ≤ per_of S)
-      → patch_told (contents S (media_id_of H) H) (part.block * size_of S) (written_bytes result (size_of S) c.group.items) ≡ contents S (media_id_of H) (entry_for part.token (Store g.block) result ∷ H)
+      → patch_told (contents S (media_id_of H) H) (part.block * size_of S) (written_bytes result (size_of S) c.group.items) ≡ contents S (media_id_of H) (command_entry part.token (Store g.block) result ∷ H)
   store-contents result few =
-      subst (λ n. patch_told (contents S (media_id_of H) H) (n * size_of S) (written_bytes result (size_of S) c.group.items) ≡ contents S (media_id_of H) (entry_for part.token (Store g.block) result ∷ H)) (sym is.held.block)
-      (subst (λ bytes. patch_told (contents S (media_id_of H) H) (g.block * size_of S) (written_bytes result (size_of S) bytes) ≡ contents S (media_id_of H) (entry_for part.token (Store g.block) result ∷ H)) (sym is.group) (by result few))
+      subst (λ n. patch_told (contents S (media_id_of H) H) (n * size_of S) (written_bytes result (size_of S) c.group.items) ≡ contents S (media_id_of H) (command_entry part.token (Store g.block) result ∷ H)) (sym is.held.block)
+      (subst (λ bytes. patch_told (contents S (media_id_of H) H) (g.block * size_of S) (written_bytes result (size_of S) bytes) ≡ contents S (media_id_of H) (command_entry part.token (Store g.block) result ∷ H)) (sym is.group) (by result few))
     where
       at-bytes : (bytes : List ℕ) → contents S (media_id_of H) H ≡ Some bytes → g.copy ≡ take (length g.copy) (drop (g.block * size_of S) bytes)
       at-bytes bytes told = from-told (contents S (media_id_of H) H) (g.block * size_of S) g.copy bytes copied told
 
       by : (result : Result (Unit {0}) BlockFailed) → IfErr result (λ fault. fault.done ≤ per_of S)
-          → patch_told (contents S (media_id_of H) H) (g.block * size_of S) (written_bytes result (size_of S) (expected_copy S q g)) ≡ contents S (media_id_of H) (entry_for part.token (Store g.block) result ∷ H)
+          → patch_told (contents S (media_id_of H) H) (g.block * size_of S) (written_bytes result (size_of S) (expected_copy S q g)) ≡ contents S (media_id_of H) (command_entry part.token (Store g.block) result ∷ H)
       by (Ok done) few = told-patch _ _ _ ∙ stored-done S H part.token q u is.held.named of-unit g.copy copy-size on-medium at-bytes put-long
       by (Err fault) few = told-patch _ _ _ ∙ stored-failed S H part.token q u is.held.named of-unit g.copy copy-size on-medium at-bytes put-long fault.done few
 
-  pub store-follows : (d d' : Device) (result : Result (Unit {0}) BlockFailed) → d.size ≡ size_of S → IsWrite d part.block c.group.items result d' → Follows S H (entry_for part.token (Store g.block) result) result d d'
+  pub store-follows : (d d' : Device) (result : Result (Unit {0}) BlockFailed) → d.size ≡ size_of S → IsWrite d part.block c.group.items result d' → CommandFollows S H (command_entry part.token (Store g.block) result) result d d'
   store-follows d d' result size write = record {
     command = write.command;
     era = λ meets. write-era S H part.token d d' (let few = is.sound.room.few in omega arith) meets (Store g.block) part.block c.group.items result refl write (store-contents result (few-blocks result write.done));

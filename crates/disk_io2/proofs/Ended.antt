@@ -31,7 +31,7 @@ use Rattle.disk_core.specs.Facts.{AreFacts}
 use Rattle.disk_core.specs.Calls.{asked_of, bytes_of, buffer_of, Accepts, RefusesFor, Collects, SubmitSays, CollectSays, MarkSays}
 use Rattle.disk_core.proofs.GoingOn.{rest_comes_back}
 use Rattle.history_laws.specs.Serving.{AreWhileOpen, ends_in_fault}
-use Rattle.history_laws.proofs.ServingLemmas.{EndsAs, IsWell, ends-so, while-request}
+use Rattle.history_laws.proofs.ServingLemmas.{EndsAs, IsOpenOrWell, ends-so, while-request}
 use Rattle.history_laws.proofs.AloneLemmas.{own-in-order, none-open}
 use Rattle.disk_io2.specs.Blocking.{FaultsRose, Serves, Finishes, CarriesOut, FailsFor, BlockingSays}
 use Rattle.disk_io2.proofs.Faults.{faults-from, faults-to}
@@ -47,7 +47,7 @@ module _ (s : State) (t : ℕ) (uncollected : was_collected s.entries t ≡ fals
       clash e = cc
 
 -- the answer of a served token
-module _ (begun served new : State) (tag t : ℕ) (serves : Serves begun t served) (well : IsWell begun.setup begun.entries t) where
+module _ (begun served new : State) (tag t : ℕ) (serves : Serves begun t served) (well : IsOpenOrWell begun.setup begun.entries t) where
   -- how it was handed back
   abbrev pub Handed : Status → List ℕ → Type 0
   Handed status buffer = ((status ≡ Success) × Finishes begun tag t Success false buffer new) ⊎ ((status ≡ DeviceError) × Finishes begun tag t DeviceError true buffer new)
@@ -110,10 +110,10 @@ module _ (old begun : State) (tag : ℕ) (view : View) (media_id : ℕ) (ask : A
       ap (λ H. was_collected H token.number) begun-is ∙ (collected-same old.entries entry token.number refl
       ∙ untold-collected old.setup old.entries token.number (unaccepted old.setup old.entries token.number facts.legal (omega (arith, accepts.numbered))))
 
-  pub accepted-well : IsWell begun.setup begun.entries token.number
+  pub accepted-well : IsOpenOrWell begun.setup begun.entries token.number
   accepted-well = rw (setup-is, begun-is, accepts.numbered) (by (is_complete old.setup (entry ∷ old.entries) (token_count old.entries)) refl)
     where
-      by : (b : Bool) → is_complete old.setup (entry ∷ old.entries) (token_count old.entries) ≡ b → IsWell old.setup (entry ∷ old.entries) (token_count old.entries)
+      by : (b : Bool) → is_complete old.setup (entry ∷ old.entries) (token_count old.entries) ≡ b → IsOpenOrWell old.setup (entry ∷ old.entries) (token_count old.entries)
       by true complete = inr (mark-accept old.setup old.entries tag view (asked_of ask) (bytes_of ask) facts.legal ∙ ap (λ b. status_if b Success) complete)
       by false complete = inl (mark-accept old.setup old.entries tag view (asked_of ask) (bytes_of ask) facts.legal ∙ ap (λ b. status_if b Success) complete)
 

@@ -102,7 +102,7 @@ fetch-made (Wipe b n) fetched = cc
 fetch-made Sync fetched = cc
 
 -- one step, and the store at once of what it fetched
-pub record Steps (old : State) (t : ℕ) (new : State) : Type 0 where
+pub record ServesOneStep (old : State) (t : ℕ) (new : State) : Type 0 where
   pub gates : KeepsGates old new
   pub serves : Serves old t new
   pub lowers : owed_entries old.setup new.entries + 1 ≤ owed_entries old.setup old.entries
@@ -110,10 +110,10 @@ pub record Steps (old : State) (t : ℕ) (new : State) : Type 0 where
 -- the disk before a step
 module _ (old : State) (t : ℕ) (is : IsSetup old.setup) (facts : AreFacts old) (idle : IsIdle old.gates) (open_ : IsOutstanding old.setup old.entries t) where
   -- a command that was no done fetch
-  pub did : (new : State) → StepSays old step.Did new → Steps old t new
+  pub did : (new : State) → StepSays old step.Did new → ServesOneStep old t new
   did new says = by (steps-turn old new step.Did is facts idle.held idle.free says)
     where
-      by : StepTurns old step.Did new → Steps old t new
+      by : StepTurns old step.Did new → ServesOneStep old t new
       by (turn, outcome, takes, unfetched, revokes) = record {
         gates = record { setup = takes.makes.setup; gates = idle-stays old.gates new.gates idle revokes };
         serves = serves-one old new t turn outcome open_ takes (step_goes_on old new step.Did says);
@@ -121,10 +121,10 @@ module _ (old : State) (t : ℕ) (is : IsSetup old.setup) (facts : AreFacts old)
       }
 
   -- a done fetch, and its store
-  pub stored-at-once : (mid new : State) (w w' : Lent) → StepSays old (step.Lent w) mid → w' ≡ merge_of w → StoreSays mid w' stored.Did new → Steps old t new
+  pub stored-at-once : (mid new : State) (w w' : Lent) → StepSays old (step.Lent w) mid → w' ≡ merge_of w → StoreSays mid w' stored.Did new → ServesOneStep old t new
   stored-at-once mid new w w' says merges stores = by (steps-turn old mid (step.Lent w) is facts idle.held idle.free says) (answered old is facts idle mid new w w' stored.Did says merges stores)
     where
-      by : StepTurns old (step.Lent w) mid → StoresAtOnce old mid stored.Did new → Steps old t new
+      by : StepTurns old (step.Lent w) mid → StoresAtOnce old mid stored.Did new → ServesOneStep old t new
       by (turn, takes, fetched) (turn', outcome, then) =
           let same : mid.setup ≡ old.setup = takes.makes.setup in
           let open_mid : IsOutstanding mid.setup mid.entries t =

@@ -23,17 +23,17 @@ use Rattle.history_laws.proofs.NextLemmas.{find-some}
 use Rattle.history_laws.proofs.PendingLemmas.{IsPending, pending-is}
 
 -- a unit of an open token that is not finished
-pub record IsLeft (S : Setup) (H : List Entry) (t : ℕ) (r : Request) (u : Span) : Type 0 where
+pub record IsLeftUnit (S : Setup) (H : List Entry) (t : ℕ) (r : Request) (u : Span) : Type 0 where
   pub outstanding : IsOutstanding S H t
   pub named : request H t ≡ Some r
   pub unit : IsUnit S.geometry (from_of S r) (until_of S r) u
   pub unmoved : is_moved S H t u.low ≡ false
 
-undone : (S : Setup) (H : List Entry) (t : ℕ) (r : Request) (u : Span) (test : Command → Bool) → IsSetup S → IsLegal S H → IsLeft S H t r u → ((c : Command) → test c ≡ true → is_transfer c ≡ true) → has_done (is_at test u.block) H t ≡ false
+undone : (S : Setup) (H : List Entry) (t : ℕ) (r : Request) (u : Span) (test : Command → Bool) → IsSetup S → IsLegal S H → IsLeftUnit S H t r u → ((c : Command) → test c ≡ true → is_transfer c ≡ true) → has_done (is_at test u.block) H t ≡ false
 undone S H t r u test is legal left only = unmoved-undone S H t r test u is legal left.named left.unit only left.unmoved
 
 -- a runnable part that changes bytes is not fetched
-pub part-unfetched : (S : Setup) (H : List Entry) (t : ℕ) (r : Request) (u : Span) → IsSetup S → IsLegal S H → IsLeft S H t r u → IsKind S.geometry (from_of S r) (until_of S r) false u.block u.count → is_held S H u.block ≡ false → was_fetched H t u.block ≡ false
+pub part-unfetched : (S : Setup) (H : List Entry) (t : ℕ) (r : Request) (u : Span) → IsSetup S → IsLegal S H → IsLeftUnit S H t r u → IsKind S.geometry (from_of S r) (until_of S r) false u.block u.count → is_held S H u.block ≡ false → was_fetched H t u.block ≡ false
 part-unfetched S H t r u is legal left (part, count) unheld = elim (cases_Bool (was_fetched H t u.block)) [
   | inr unfetched ↦ unfetched
   | inl fetched ↦
@@ -41,7 +41,7 @@ part-unfetched S H t r u is legal left (part, count) unheld = elim (cases_Bool (
       absurd (both_ways (is_held S H u.block) unheld (holder-held S H t u.block (rw (group-start-part S.geometry (from_of S r) (until_of S r) u.block is.geometry part) holds)))
 ]
 
-span-may : (S : Setup) (H : List Entry) (t : ℕ) (r : Request) (u : Span) (free : Bool) → IsSetup S → IsLegal S H → IsLeft S H t r u → is_flush r.asked.kind ≡ false → is_task_clear (is_held S H) free r.asked.kind (Moves u) ≡ true
+span-may : (S : Setup) (H : List Entry) (t : ℕ) (r : Request) (u : Span) (free : Bool) → IsSetup S → IsLegal S H → IsLeftUnit S H t r u → is_flush r.asked.kind ≡ false → is_task_clear (is_held S H) free r.asked.kind (Moves u) ≡ true
     → MayCommand S H t (span_command H t r.asked.kind u.whole u.block u.count)
 unfolding MayCommand
 span-may S H t r u free is legal left moving clear = by r.asked.kind refl u.whole moving left.unit.kind clear

@@ -75,8 +75,8 @@ abbrev pub EndsAs : Status → Bool → Type 0
 EndsAs status failed = ((status ≡ Success) × (failed ≡ false)) ⊎ ((status ≡ DeviceError) × (failed ≡ true))
 
 -- it is outstanding or has succeeded
-abbrev pub IsWell : Setup → List Entry → ℕ → Type 0
-IsWell S H t = (mark_of S H t ≡ None) ⊎ (mark_of S H t ≡ Some Success)
+abbrev pub IsOpenOrWell : Setup → List Entry → ℕ → Type 0
+IsOpenOrWell S H t = (mark_of S H t ≡ None) ⊎ (mark_of S H t ≡ Some Success)
 
 if-status : (b : Bool) (s status : Status) → status_if b s ≡ Some status → status ≡ s
 if-status true s status is = cc
@@ -94,7 +94,7 @@ ends-turn S G t turn Made status cs ends = inl (if-status (nat_eq turn.token t &
 ends-turn S G t turn (Failed done) status cs ends = inr (if-status (nat_eq turn.token t) DeviceError status ends, refl)
 
 -- how a token has ended that was served
-pub ends-so : (S : Setup) (H : List Entry) (t : ℕ) (cs : List Entry) (status : Status) → AreWhileOpen S H t cs → IsWell S H t → mark_of S (cs ++ H) t ≡ Some status → EndsAs status (ends_in_fault cs)
+pub ends-so : (S : Setup) (H : List Entry) (t : ℕ) (cs : List Entry) (status : Status) → AreWhileOpen S H t cs → IsOpenOrWell S H t → mark_of S (cs ++ H) t ≡ Some status → EndsAs status (ends_in_fault cs)
 unfolding AreWhileOpen
 ends-so S H t [] status all (inl none) marked = absurd (no-status status (sym none ∙ marked))
 ends-so S H t [] status all (inr well) marked = inl (same-status Success status (sym well ∙ marked), refl)

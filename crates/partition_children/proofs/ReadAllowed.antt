@@ -24,7 +24,7 @@ use Rattle.partition_children.specs.declared.reading.ReadFault.{ReadFault}
 use Rattle.partition_children.specs.declared.reading.ReadFault.TheVariants.{Device, Memory}
 use Rattle.partition_children.specs.Entries.{read_asked}
 use Rattle.partition_children.specs.Probing.{AreUntagged, EndsRead, FailsToRead, IsIn, IsQuiet, Reads, AddsEntriesAlone, read_failures}
-use Rattle.partition_children.proofs.Served.{Served, served}
+use Rattle.partition_children.proofs.Served.{ServedRead, served}
 use Rattle.partition_children.proofs.ReadAnswers.{fails-so, failed-stays, reads-so, stays-so}
 
 unrefused : (S : Setup) (H : List Entry) (k at n : ℕ) → is_present H ≡ true → media_id_of H ≡ k → at + n ≤ blocks_of S k * size_of S → refusal_of S H (whole_view S k) (read_asked (at, n)) k ≡ None
@@ -64,7 +64,7 @@ module _ (old new : State) (view : View) (k at : ℕ) (buffer : Vec ℕ) (n : �
 
   -- a read that succeeded
   module _ (b : Vec ℕ) (says : BlockingSays old 0 view k (ask.Read at buffer) (Ok b) new) where
-    of-success : Served old.setup old.entries (whole_view old.setup k) (at, length buffer.items) Success false b.items new
+    of-success : ServedRead old.setup old.entries (whole_view old.setup k) (at, length buffer.items) Success false b.items new
     unfolding BlockingSays
     of-success = served old new (whole_view old.setup k) k at buffer Success false b.items quiet.drained (subst (λ (v : View). CarriesOut old 0 v k (ask.Read at buffer) Success false b.items new) is_whole says)
 

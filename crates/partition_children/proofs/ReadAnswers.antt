@@ -25,7 +25,7 @@ use Rattle.history_laws.proofs.ClosedLemmas.{legal-tail}
 use Rattle.partition_children.specs.Entries.{get_of, read_asked}
 use Rattle.partition_children.specs.Probing.{FailsToRead, Reads, AddsEntriesAlone}
 use Rattle.partition_children.proofs.Gets.{Got, got-all, next-unit, open-sound}
-use Rattle.partition_children.proofs.Served.{Served}
+use Rattle.partition_children.proofs.Served.{ServedRead}
 use Rattle.partition_children.proofs.Staying.{read-stays}
 use Rattle.partition_children.proofs.ReadBack.{first-left, named, told-back, units-are, whole}
 
@@ -40,7 +40,7 @@ module _ (old new : State) (k : ℕ) (read : ℕ × ℕ) (is : IsSetup old.setup
   view = whole_view old.setup k
 
   -- a read that succeeded
-  module _ (bytes : List ℕ) (s : Served old.setup old.entries view read Success false bytes new) where
+  module _ (bytes : List ℕ) (s : ServedRead old.setup old.entries view read Success false bytes new) where
     all-got : Got old.setup H t view read is s.cs []
     all-got = whole old.setup old.entries k read is drained s.cs s.legal s.open_ s.own s.last Success s.marked
 
@@ -62,7 +62,7 @@ module _ (old new : State) (k : ℕ) (read : ℕ × ℕ) (is : IsSetup old.setup
     stays-so idle = read-stays old new view read Success false bytes 0 s (inl (refl, all-got.gets)) (λ none. refl) idle
 
   -- a read of which a command failed
-  module _ (bytes : List ℕ) (s : Served old.setup old.entries view read DeviceError true bytes new) where
+  module _ (bytes : List ℕ) (s : ServedRead old.setup old.entries view read DeviceError true bytes new) where
     record Broken (cs : List Entry) : Type 0 where
       failed : Span
       rest : List Span

@@ -40,7 +40,7 @@ use Rattle.history_laws.proofs.SameMediaLemmas.{SameMedia, same-on}
 use Rattle.partition_children.specs.Entries.{after_read, get_of, gets_of, read_asked}
 use Rattle.partition_children.specs.Probing.{FailsToRead, Reads}
 use Rattle.partition_children.proofs.Gets.{AreGets, Got, got-all, got-whole, next-unit, open-sound}
-use Rattle.partition_children.proofs.Served.{Served}
+use Rattle.partition_children.proofs.Served.{ServedRead}
 use Rattle.partition_children.proofs.Staying.{Commands, LastFails, same-accept, same-gets}
 
 module _ (S : Setup) (E : List Entry) (k : ℕ) (read : ℕ × ℕ) (is : IsSetup S) (drained : first_open S E ≡ None) where

@@ -23,7 +23,7 @@ use Rattle.history_laws.proofs.ClosedLemmas.{legal-before, while-request}
 use Rattle.partition_children.specs.Entries.{read_asked}
 
 -- the entries of a read that was served until it ended, and was collected
-pub record Served (S : Setup) (E : List Entry) (view : View) (read : ℕ × ℕ) (status : Status) (failed : Bool) (bytes : List ℕ) (new : State) : Type 0 where
+pub record ServedRead (S : Setup) (E : List Entry) (view : View) (read : ℕ × ℕ) (status : Status) (failed : Bool) (bytes : List ℕ) (new : State) : Type 0 where
   pub cs : List Entry
   pub setup : new.setup ≡ S
   pub entries : new.entries ≡ Collect 0 (token_count E) ∷ (cs ++ Accept 0 view (read_asked read) [] ∷ E)
@@ -93,7 +93,7 @@ module _ (old new : State) (view : View) (k at : ℕ) (buffer : Vec ℕ) (status
       subst (λ (x : Request). HasBytesRead old.setup (cs ++ H) (token_count old.entries) x bytes) asked-is
       (cast (λ S E t. HasBytesRead S E t out.finishes.asked bytes) _ _ _ _ _ _ served-setup served-entries out.accepts.numbered (out.finishes.collects.read kind))
 
-  pub served : Served old.setup old.entries view read status failed bytes new
+  pub served : ServedRead old.setup old.entries view read status failed bytes new
   served = record {
     cs = cs;
     setup = new-setup;

@@ -20,7 +20,7 @@ use Rattle.history_laws.proofs.SameMediaLemmas.{SameMedia, same-media, same-on, 
 use Rattle.partition_children.specs.Entries.{get_of, read_asked}
 use Rattle.partition_children.specs.Probing.{IsUntagged, AreUntagged, AddsEntriesAlone}
 use Rattle.partition_children.proofs.Gets.{AreGets}
-use Rattle.partition_children.proofs.Served.{Served}
+use Rattle.partition_children.proofs.Served.{ServedRead}
 
 same-get : (S : Setup) (G : List Entry) (t : ℕ) (u : Span) → SameMedia S G (get_of t u ∷ G)
 same-get S G t u = same-entry S G (get_of t u) refl refl refl (piece-unchanged S G t (Get u.block u.count) refl)
@@ -88,7 +88,7 @@ read-untagged : (view : View) (read : ℕ × ℕ) (t f : ℕ) (cs : List Entry) 
 read-untagged view read t f cs all = (refl, untagged-both cs (Accept 0 view (read_asked read) [] ∷ []) (commands-untagged t f cs all) (refl, tt))
 
 -- what a served read leaves of the disk
-pub read-stays : (old new : State) (view : View) (read : ℕ × ℕ) (status : Status) (failed : Bool) (bytes : List ℕ) (f : ℕ) (s : Served old.setup old.entries view read status failed bytes new)
+pub read-stays : (old new : State) (view : View) (read : ℕ × ℕ) (status : Status) (failed : Bool) (bytes : List ℕ) (f : ℕ) (s : ServedRead old.setup old.entries view read status failed bytes new)
     → Commands (token_count old.entries) f s.cs → (f ≡ 0 → status ≡ Success) → IsIdle new.gates → AddsEntriesAlone old f new
 read-stays old new view read status failed bytes f s all success idle =
     let accept : Entry = Accept 0 view (read_asked read) [] in

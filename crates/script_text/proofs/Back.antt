@@ -68,14 +68,14 @@ pub decimal_lacks : (n : ℕ) → IsWord64 n → lacks is_end (decimal n) ≡ tr
 decimal_lacks n short = digits_lack is_end end_no_digit (decimal n) (decimal_digits n short)
 
 -- what ends a number of a view
-abbrev is_mark : ℕ → Bool
-is_mark c = not (is_ascii_digit c)
+abbrev is_no_digit : ℕ → Bool
+is_no_digit c = not (is_ascii_digit c)
 
-mark_no_digit : (c : ℕ) → is_ascii_digit c ≡ true → not (is_mark c) ≡ true
+mark_no_digit : (c : ℕ) → is_ascii_digit c ≡ true → not (is_no_digit c) ≡ true
 mark_no_digit c digit = rw digit refl
 
-number_lacks : (n : ℕ) → IsWord64 n → lacks is_mark (decimal n) ≡ true
-number_lacks n short = digits_lack is_mark mark_no_digit (decimal n) (decimal_digits n short)
+number_lacks : (n : ℕ) → IsWord64 n → lacks is_no_digit (decimal n) ≡ true
+number_lacks n short = digits_lack is_no_digit mark_no_digit (decimal n) (decimal_digits n short)
 
 -- a number that a word writes, handed on
 abbrev pub with_number : {A : Type 0} → List ℕ → (ℕ → Option A) → Option A
@@ -85,17 +85,17 @@ abbrev view_of_numbers : List (List ℕ) → Option View
 view_of_numbers (a ∷ b ∷ c ∷ d ∷ []) = with_number a (λ start. with_number b (λ count. with_number c (λ id. with_number d (λ i. Some (record { start = start; length = count; media_id = id; index = i })))))
 view_of_numbers words = None
 
-unfoldable pub view_of : List ℕ → Option View
-view_of w = view_of_numbers (slice_split is_mark w)
+unfoldable pub read_view : List ℕ → Option View
+read_view w = view_of_numbers (slice_split is_no_digit w)
 
-pub view_back : (v : View) → IsShortView v → view_of (view_text v) ≡ Some v
-unfolding view_of view_text
+pub view_back : (v : View) → IsShortView v → read_view (view_text v) ≡ Some v
+unfolding read_view view_text
 view_back v s =
     rw (
-      cut_word is_mark (decimal v.start) 43 (decimal v.length ++ (64 ∷ (decimal v.media_id ++ (47 ∷ decimal v.index)))) (number_lacks v.start s.start) refl,
-      cut_word is_mark (decimal v.length) 64 (decimal v.media_id ++ (47 ∷ decimal v.index)) (number_lacks v.length s.length) refl,
-      cut_word is_mark (decimal v.media_id) 47 (decimal v.index) (number_lacks v.media_id s.media_id) refl,
-      last_word is_mark (decimal v.index) (number_lacks v.index s.index),
+      cut_word is_no_digit (decimal v.start) 43 (decimal v.length ++ (64 ∷ (decimal v.media_id ++ (47 ∷ decimal v.index)))) (number_lacks v.start s.start) refl,
+      cut_word is_no_digit (decimal v.length) 64 (decimal v.media_id ++ (47 ∷ decimal v.index)) (number_lacks v.length s.length) refl,
+      cut_word is_no_digit (decimal v.media_id) 47 (decimal v.index) (number_lacks v.media_id s.media_id) refl,
+      last_word is_no_digit (decimal v.index) (number_lacks v.index s.index),
       number_back v.start s.start,
       number_back v.length s.length,
       number_back v.media_id s.media_id,

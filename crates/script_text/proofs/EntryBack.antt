@@ -18,7 +18,7 @@ use Rattle.script_text.specs.Words.{number_of, hex_of}
 use Rattle.script_text.specs.Text.{line_of, hex_text, view_text, asked_text, kind_text, unit_text}
 use Rattle.script_text.specs.Entries.{line_text, entry_words, accepted_words, done_words, failed_words, switch_text}
 use Rattle.script_text.specs.Law.{IsWord64, IsShortAsked, AsksWell, IsWell, LinesTellEntries}
-use Rattle.script_text.proofs.Back.{lacks, is_end, cut_word, number_back, decimal_lacks, with_number, view_of, view_back, view_lacks, hex_back, hex_lacks}
+use Rattle.script_text.proofs.Back.{lacks, is_end, cut_word, number_back, decimal_lacks, with_number, read_view, view_back, view_lacks, hex_back, hex_lacks}
 
 -- the words of what was asked
 abbrev asked_words : Asked → List (List ℕ) → List (List ℕ)
@@ -204,7 +204,7 @@ asked_back : {A : Type 0} (asked : Asked) (f : Asked → Option A) → IsShortAs
 asked_back asked f s = rw (kind_back asked.kind, unit_back asked.unit, number_back asked.at s.at, number_back asked.length s.length) refl
 
 abbrev with_view : {A : Type 0} → List ℕ → (View → Option A) → Option A
-with_view w f = option_and_then f (view_of w)
+with_view w f = option_and_then f (read_view w)
 
 flush_is : (asked : Asked) → asked.kind ≡ Flush → asked.unit ≡ Bytes → asked.at ≡ 0 → asked.length ≡ 0 → record { kind = Flush; unit = Bytes; at = 0; length = 0 } ≡ asked
 flush_is asked kind units at count =

@@ -14,10 +14,10 @@ lines_of_both line p (x ∷ xs) ys =
     ∙ (let at : p + 1 + length xs ≡ p + length (x ∷ xs) = omega arith in rw at (sym (append_assoc (line p x) (lines_text line (p + 1) xs) (lines_text line (p + length (x ∷ xs)) ys))))
 
 -- how far a loop came: the lines of the first i items were added
-pub record HasAdded {X : Type 0} (line : ℕ → X → List ℕ) (p : ℕ) (items : List X) (i : ℕ) (w0 w : Option (List ℕ)) (h0 h : List ℕ) : Type 0 where
+pub record AddedUpTo {X : Type 0} (line : ℕ → X → List ℕ) (p : ℕ) (items : List X) (i : ℕ) (w0 w : Option (List ℕ)) (h0 h : List ℕ) : Type 0 where
   pub added : AppendsUpTo w0 w (h0 ++ lines_text line p (take i items)) h
 
-pub none_added : {X : Type 0} (line : ℕ → X → List ℕ) (p : ℕ) (items : List X) (w : Option (List ℕ)) (h : List ℕ) → HasAdded line p items 0 w w h h
+pub none_added : {X : Type 0} (line : ℕ → X → List ℕ) (p : ℕ) (items : List X) (w : Option (List ℕ)) (h : List ℕ) → AddedUpTo line p items 0 w w h h
 unfolding lines_text
 none_added line p items w h = record { added = still_held w _ h (sym (append-nil h)) }
 
@@ -34,7 +34,7 @@ lines_up_to line p items i =
     ap (lines_text line p) (sym (take-append-drop i items)) ∙ lines_of_both line p (take i items) (drop i items)
 
 -- one more item
-pub one_added : {X : Type 0} (line : ℕ → X → List ℕ) (p : ℕ) (items : List X) (i q : ℕ) (x : X) (w0 w w' : Option (List ℕ)) (h0 h h' : List ℕ) → HasAdded line p items i w0 w h0 h → i < length items → x ≡ get_or items i x → p + i ≡ q → AppendsUpTo w w' (h ++ line q x) h' → HasAdded line p items (i + 1) w0 w' h0 h'
+pub one_added : {X : Type 0} (line : ℕ → X → List ℕ) (p : ℕ) (items : List X) (i q : ℕ) (x : X) (w0 w w' : Option (List ℕ)) (h0 h h' : List ℕ) → AddedUpTo line p items i w0 w h0 h → i < length items → x ≡ get_or items i x → p + i ≡ q → AppendsUpTo w w' (h ++ line q x) h' → AddedUpTo line p items (i + 1) w0 w' h0 h'
 one_added line p items i q x w0 w w' h0 h h' so_far inside is at put = record {
   added =
       rw (lines_at line p items i x inside is, at, ← append_assoc h0 (lines_text line p (take i items)) (line q x))
@@ -42,17 +42,17 @@ one_added line p items i q x w0 w w' h0 h h' so_far inside is at put = record {
 }
 
 -- what was put where a loop stops is a front of the whole
-pub stopped : {X : Type 0} (line : ℕ → X → List ℕ) (p : ℕ) (items : List X) (i : ℕ) (w0 w : Option (List ℕ)) (h0 h : List ℕ) → HasAdded line p items i w0 w h0 h → AppendsFront w0 w (h0 ++ lines_text line p items)
+pub stopped : {X : Type 0} (line : ℕ → X → List ℕ) (p : ℕ) (items : List X) (i : ℕ) (w0 w : Option (List ℕ)) (h0 h : List ℕ) → AddedUpTo line p items i w0 w h0 h → AppendsFront w0 w (h0 ++ lines_text line p items)
 stopped line p items i w0 w h0 h so_far =
     rw (lines_up_to line p items i, ← append_assoc h0 (lines_text line p (take i items)) (lines_text line (p + length (take i items)) (drop i items)))
     (front_of_more w0 w (h0 ++ lines_text line p (take i items)) _ (h, so_far.added))
 
-pub stopped_in : {X : Type 0} (line : ℕ → X → List ℕ) (p : ℕ) (items : List X) (i q : ℕ) (x : X) (w0 w w' : Option (List ℕ)) (h0 h : List ℕ) → HasAdded line p items i w0 w h0 h → i < length items → x ≡ get_or items i x → p + i ≡ q → AppendsFront w w' (h ++ line q x) → AppendsFront w0 w' (h0 ++ lines_text line p items)
+pub stopped_in : {X : Type 0} (line : ℕ → X → List ℕ) (p : ℕ) (items : List X) (i q : ℕ) (x : X) (w0 w w' : Option (List ℕ)) (h0 h : List ℕ) → AddedUpTo line p items i w0 w h0 h → i < length items → x ≡ get_or items i x → p + i ≡ q → AppendsFront w w' (h ++ line q x) → AppendsFront w0 w' (h0 ++ lines_text line p items)
 stopped_in line p items i q x w0 w w' h0 h so_far inside is at (rest, up) =
     stopped line p items (i + 1) w0 w' h0 rest (one_added line p items i q x w0 w w' h0 h rest so_far inside is at up)
 
 -- all items
-pub all_added : {X : Type 0} (line : ℕ → X → List ℕ) (p : ℕ) (items : List X) (i : ℕ) (w0 w : Option (List ℕ)) (h0 h : List ℕ) → HasAdded line p items i w0 w h0 h → length items ≤ i → AppendsUpTo w0 w (h0 ++ lines_text line p items) h
+pub all_added : {X : Type 0} (line : ℕ → X → List ℕ) (p : ℕ) (items : List X) (i : ℕ) (w0 w : Option (List ℕ)) (h0 h : List ℕ) → AddedUpTo line p items i w0 w h0 h → length items ≤ i → AppendsUpTo w0 w (h0 ++ lines_text line p items) h
 all_added line p items i w0 w h0 h so_far end =
     let all : take i items ≡ items = take_all i items end in
     rw all at so_far.added

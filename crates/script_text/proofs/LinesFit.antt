@@ -54,11 +54,11 @@ lines_disk disk plans none =
     sum_by_push disk_lines plans disk ∙ ap (λ n. sum_by disk_lines plans + n) nothing ∙ omega arith
 
 -- the disks are lines too
-abbrev count_of : List DiskPlan → ℕ
-count_of plans = planned_lines plans + length plans
+abbrev line_count : List DiskPlan → ℕ
+line_count plans = planned_lines plans + length plans
 
 abbrev AtMostOneMore : List DiskPlan → List DiskPlan → Type 0
-AtMostOneMore plans next = count_of next ≤ count_of plans + 1
+AtMostOneMore plans next = line_count next ≤ line_count plans + 1
 
 disk_more : (plans next : List DiskPlan) (image : List ℕ) (size workers : ℕ) (flags : Flags) → planned_disk plans image size workers flags ≡ Ok next → AtMostOneMore plans next
 unfolding planned_disk
@@ -112,7 +112,7 @@ says_more number plans next line is =
     let (said, read, rest) = next_ok (line_of_bytes line) (λ said. planned_if number plans said) next is in
     said_more number plans next said rest
 
-lines_more : (n : ℕ) (plans next : List DiskPlan) (lines : List (List ℕ)) → lines_say n plans lines ≡ Ok next → count_of next ≤ count_of plans + length lines
+lines_more : (n : ℕ) (plans next : List DiskPlan) (lines : List (List ℕ)) → lines_say n plans lines ≡ Ok next → line_count next ≤ line_count plans + length lines
 unfolding lines_say
 lines_more n plans next [] is = rw (← ok_same plans next is) (omega arith)
 lines_more n plans next (line ∷ rest) is =
@@ -134,7 +134,7 @@ none_planned : planned_lines [] ≡ 0
 unfolding planned_lines
 none_planned = refl
 
-within : (plans : List DiskPlan) (n : ℕ) → count_of plans ≤ n + 1 → planned_lines plans ≤ n
+within : (plans : List DiskPlan) (n : ℕ) → line_count plans ≤ n + 1 → planned_lines plans ≤ n
 within [] n most = omega (arith, none_planned)
 within (disk ∷ more) n most = omega (arith, most)
 

@@ -18,7 +18,7 @@ use Rattle.script_text.proofs.Back.{lacks, is_end, cut_word, decimal_digits, dec
 use Rattle.script_text.proofs.EntryBack.{AreWords, spread, line_is, are_words, lines_tell_entries}
 
 -- a line without its line feed
-record IsCut (line : List ℕ) : Type 0 where
+record IsCutLine (line : List ℕ) : Type 0 where
   front : List ℕ
   is : line ≡ front ++ 10 ∷ []
   clean : lacks (λ c. c == 10) front ≡ true
@@ -40,18 +40,18 @@ no_feed (c ∷ w) is =
     let (one, more) = both_true (not (is_end c)) (lacks is_end w) is in
     rw (end_or c (c == 10) refl one, no_feed w more) refl
 
-cut_line : (word : List ℕ) (more : List (List ℕ)) → AreWords (word ∷ more) → IsCut (line_of (word ∷ more))
+cut_line : (word : List ℕ) (more : List (List ℕ)) → AreWords (word ∷ more) → IsCutLine (line_of (word ∷ more))
 unfolding line_of
 cut_line word [] all = record { front = word; is = refl; clean = no_feed word all.0 }
 cut_line word (next ∷ more) all =
-    let rest : IsCut (line_of (next ∷ more)) = cut_line next more all.1 in
+    let rest : IsCutLine (line_of (next ∷ more)) = cut_line next more all.1 in
     record {
       front = word ++ (32 ∷ rest.front);
       is = ap (λ l. word ++ (32 ∷ l)) rest.is ∙ sym (append_assoc word (32 ∷ rest.front) (10 ∷ []));
       clean = lacks_both (λ c. c == 10) word (32 ∷ rest.front) (no_feed word all.0) rest.clean;
     }
 
-entry_cut : (per place : ℕ) (e : Entry) → IsWord64 per → IsWord64 place → IsWell e → IsCut (line_text per place e)
+entry_cut : (per place : ℕ) (e : Entry) → IsWord64 per → IsWord64 place → IsWell e → IsCutLine (line_text per place e)
 entry_cut per place e few short well = rw (line_is per place e) (cut_line (decimal place) (spread per e) (decimal_lacks place short, are_words per few e well))
 
 -- two texts that begin with a line each
@@ -76,7 +76,7 @@ same_rest (x ∷ a) s t same = same_rest a s t (ap tail_of same)
 feed_behind : (a s : List ℕ) → (a ++ 10 ∷ []) ++ s ≡ a ++ 10 ∷ s
 feed_behind a s = append_assoc a (10 ∷ []) s
 
-same_lines : (x y s t : List ℕ) → IsCut x → IsCut y → x ++ s ≡ y ++ t → x ≡ y
+same_lines : (x y s t : List ℕ) → IsCutLine x → IsCutLine y → x ++ s ≡ y ++ t → x ≡ y
 same_lines x y s t one two same =
     let fronts : one.front ≡ two.front =
     same_front one.front two.front s t one.clean two.clean

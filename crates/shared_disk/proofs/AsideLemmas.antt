@@ -21,7 +21,7 @@ use Rattle.atomic_table.specs.Seated.{TableId}
 use Rattle.history.specs.Setup.{Setup}
 use Rattle.shared_disk.specs.Pens.{PenEnd}
 use Rattle.shared_disk.specs.Holding.{Logs}
-use Rattle.shared_disk.proofs.HoldLemmas.{IsBehind, logs-grow}
+use Rattle.shared_disk.proofs.HoldLemmas.{IsBehindLock, logs-grow}
 use Rattle.shared_disk.specs.Lines.{with_line_entry}
 use Rattle.shared_disk.specs.Script.{Script}
 use Rattle.shared_disk.specs.Desk.{DeskState, Keeps}
@@ -49,14 +49,14 @@ beside-same old new b b' Says same still says = record {
 }
 
 -- the desk after a call of the disk beside the lines
-pub record IsBeside (old : State) (b : Books) (new : State) (b' : Books) (Says : State → State → Type 0) : Type 0 where
+pub record CallsBeside (old : State) (b : Books) (new : State) (b' : Books) (Says : State → State → Type 0) : Type 0 where
   pub beside : BesideLines (desk_state old b) (desk_state new b') Says
   pub sound : AreBooksOf new b'
 
-by-does : (old new : State) (b b' : Books) (e : Option Entry) (token : Option Token) (Says : State → State → Type 0) → AreBooksOf old b → DoesOn old b new b' e token → Says old new → IsBeside old b new b' Says
+by-does : (old new : State) (b b' : Books) (e : Option Entry) (token : Option Token) (Says : State → State → Type 0) → AreBooksOf old b → DoesOn old b new b' e token → Says old new → CallsBeside old b new b' Says
 by-does old new b b' e token Says sound does says = record { beside = beside-does old new b b' e token Says sound does says; sound = does.sound }
 
-by-same : (old new : State) (b b' : Books) (place : ℕ) (Says : State → State → Type 0) → AreBooksOf old b → ChangesCourse b place IsRoomy b' → new ≡ old → Says old new → IsBeside old b new b' Says
+by-same : (old new : State) (b b' : Books) (place : ℕ) (Says : State → State → Type 0) → AreBooksOf old b → ChangesCourse b place IsRoomy b' → new ≡ old → Says old new → CallsBeside old b new b' Says
 by-same old new b b' place Says sound change still says = record {
   beside = beside-same old new b b' Says (roomy-same b b' place change) still says;
   sound = subst (λ (s : State). AreBooksSound s.setup s.entries b') (sym still) (roomy-sound old.setup old.entries b b' place sound change);
@@ -66,36 +66,36 @@ module _ (old new : State) (b roomy : Books) (place tag : ℕ) (view : View) (me
   abbrev pub SaysOf : Result Token Refused → State → State → Type 0
   SaysOf result a c = SubmitSays a tag view media_id ask result c
 
-  pub accepted-beside : (b' : Books) (token : Token) → SubmitSays old tag view media_id ask (Ok token) new → AddsToken roomy place tag token.number b' → IsBeside old b new b' (SaysOf (Ok token))
+  pub accepted-beside : (b' : Books) (token : Token) → SubmitSays old tag view media_id ask (Ok token) new → AddsToken roomy place tag token.number b' → CallsBeside old b new b' (SaysOf (Ok token))
   unfolding SubmitSays
   accepted-beside b' token says adds = by-does old new b b' _ (Some token) (SaysOf (Ok token)) sound
       (does-accept old new b roomy b' place tag view media_id (asked_of ask) (bytes_of ask) (buffer_of ask) token tagged sound change says (submit_goes_on old new tag view media_id ask (Ok token) says) adds) says
 
-  pub refused-beside : (refused : Refused) → SubmitSays old tag view media_id ask (Err refused) new → IsBeside old b new roomy (SaysOf (Err refused))
+  pub refused-beside : (refused : Refused) → SubmitSays old tag view media_id ask (Err refused) new → CallsBeside old b new roomy (SaysOf (Err refused))
   unfolding SubmitSays
   refused-beside refused says = by refused.why says
     where
       goes : GoesOn old new
       goes = submit_goes_on old new tag view media_id ask (Err refused) says
 
-      by : (w : Why) → RefusesFor old tag view media_id (asked_of ask) (buffer_of ask) w refused.buffer.items new → IsBeside old b new roomy (SaysOf (Err refused))
+      by : (w : Why) → RefusesFor old tag view media_id (asked_of ask) (buffer_of ask) w refused.buffer.items new → CallsBeside old b new roomy (SaysOf (Err refused))
       by (why.Status status) refuses = by-does old new b roomy _ None (SaysOf (Err refused)) sound
           (does-refuse old new b roomy place tag view media_id (asked_of ask) (bytes_of ask) (buffer_of ask) refused.buffer.items status sound change refuses goes) says
       by why.Memory forgets = by-same old new b roomy place (SaysOf (Err refused)) sound change forgets.same says
 
 -- no memory was left for the books
 pub wanted-beside : (old : State) (b roomy : Books) (place tag : ℕ) (view : View) (media_id : ℕ) (ask : Ask) (refused : Refused) → AreBooksOf old b → ChangesCourse b place IsRoomy roomy → refused.why ≡ why.Memory → refused.buffer.items ≡ buffer_of ask
-    → IsBeside old b old roomy (λ a c. SubmitSays a tag view media_id ask (Err refused) c)
+    → CallsBeside old b old roomy (λ a c. SubmitSays a tag view media_id ask (Err refused) c)
 unfolding SubmitSays
 wanted-beside old b roomy place tag view media_id ask refused sound change memory back = by-same old old b roomy place (λ a c. SubmitSays a tag view media_id ask (Err refused) c) sound change refl (rw memory (record { same = refl; handed_back = back }))
 
-pub cancelled-beside : (old new : State) (b : Books) (tag : ℕ) (view : View) (count : ℕ) → AreBooksOf old b → EndSays old (Cancel tag view) count new → IsBeside old b new b (λ a c. EndSays a (Cancel tag view) count c)
+pub cancelled-beside : (old new : State) (b : Books) (tag : ℕ) (view : View) (count : ℕ) → AreBooksOf old b → EndSays old (Cancel tag view) count new → CallsBeside old b new b (λ a c. EndSays a (Cancel tag view) count c)
 unfolding EndSays
 cancelled-beside old new b tag view zero sound says = by-does old new b b None None (λ a c. EndSays a (Cancel tag view) zero c) sound (does-nothing old new b sound says.1 (end_goes_on old new (Cancel tag view) zero says)) says
 cancelled-beside old new b tag view (suc n) sound says = by-does old new b b (Some (Cancel tag view)) None (λ a c. EndSays a (Cancel tag view) (suc n) c) sound
     (does-entry old new b (Cancel tag view) sound refl (λ t. refl) refl says.setup says.entries says.legal says.devices says.gates (end_goes_on old new (Cancel tag view) (suc n) says)) says
 
-pub uncollected-beside : (old new : State) (b : Books) (tag number : ℕ) (fault : NotThere) → AreBooksOf old b → CollectSays old tag number (Err fault) new → IsBeside old b new b (λ a c. CollectSays a tag number (Err fault) c)
+pub uncollected-beside : (old new : State) (b : Books) (tag number : ℕ) (fault : NotThere) → AreBooksOf old b → CollectSays old tag number (Err fault) new → CallsBeside old b new b (λ a c. CollectSays a tag number (Err fault) c)
 unfolding CollectSays
 uncollected-beside old new b tag number not_there.Outstanding sound says = record {
   beside = beside-same old new b b (λ a c. CollectSays a tag number (Err not_there.Outstanding) c) (record { opened = refl; clients = refl; places = refl; given = refl }) says.2 says;
@@ -150,8 +150,8 @@ no-more H H' None is long = is
 no-more H H' (Some x) is long = absurd (let more : length H' ≡ length H + 1 = rw is (omega arith) in omega (arith, more, long))
 
 -- what holds behind the lock after a call that was counted; a note was renewed before it and after it
-pub counts-behind : (T : TableId) (S : Setup) (d : Script) (sum sum' parts amount : ℕ) (desk desk' : DeskState) (p q r t : PenEnd) (count n : ℕ) (Says : State → State → Type 0) → IsBehind T S d sum parts amount desk p count
-    → q ≡ p → Logs desk q.log None desk' r.log → r.table ≡ q.table → t ≡ r → BesideLines desk desk' Says → length desk'.disk.entries ≡ length desk.disk.entries + n → sum' ≡ sum + n → IsBehind T S d sum' parts amount desk' t (count + n)
+pub counts-behind : (T : TableId) (S : Setup) (d : Script) (sum sum' parts amount : ℕ) (desk desk' : DeskState) (p q r t : PenEnd) (count n : ℕ) (Says : State → State → Type 0) → IsBehindLock T S d sum parts amount desk p count
+    → q ≡ p → Logs desk q.log None desk' r.log → r.table ≡ q.table → t ≡ r → BesideLines desk desk' Says → length desk'.disk.entries ≡ length desk.disk.entries + n → sum' ≡ sum + n → IsBehindLock T S d sum' parts amount desk' t (count + n)
 counts-behind T S d sum sum' parts amount desk desk' p q r t count n Says behind same logs table again beside long added =
     let logs_p : Logs desk p.log None desk' r.log = subst (λ (x : PenEnd). Logs desk x.log None desk' r.log) same logs in
     let logs_t : Logs desk p.log None desk' t.log = subst (λ (x : PenEnd). Logs desk p.log None desk' x.log) (sym again) logs_p in

@@ -154,12 +154,12 @@ left-by S d log s at b left is =
     let there = left is in (there.0, rw (at.is_log.lines there.0) (subst (λ (e : Script). IsSome (next_order e.roles there.0 (length (places_at s.places there.0)))) at.script there.1))
 
 -- what holds of the desk and the pen behind the lock
-abbrev pub IsBehind : TableId → Setup → Script → ℕ → ℕ → ℕ → DeskState → PenEnd → ℕ → Type 0
-IsBehind T S d sum parts amount desk pen count = (pen.table ≡ T) × IsShared S d (record { desk = desk; log = pen.log; count = count }) × IsCounted sum parts amount (record { desk = desk; log = pen.log; count = count })
+abbrev pub IsBehindLock : TableId → Setup → Script → ℕ → ℕ → ℕ → DeskState → PenEnd → ℕ → Type 0
+IsBehindLock T S d sum parts amount desk pen count = (pen.table ≡ T) × IsShared S d (record { desk = desk; log = pen.log; count = count }) × IsCounted sum parts amount (record { desk = desk; log = pen.log; count = count })
 
 -- it still holds after a call that was not counted; a note was renewed before it and after it
-pub stays-behind : (T : TableId) (S : Setup) (d : Script) (sum parts amount : ℕ) (desk desk' : DeskState) (p q r t : PenEnd) (count : ℕ) (line : Option ℕ) → IsBehind T S d sum parts amount desk p count
-    → q ≡ p → Logs desk q.log line desk' r.log → r.table ≡ q.table → t ≡ r → (Keeps desk → Keeps desk') → IsBehind T S d sum parts amount desk' t count
+pub stays-behind : (T : TableId) (S : Setup) (d : Script) (sum parts amount : ℕ) (desk desk' : DeskState) (p q r t : PenEnd) (count : ℕ) (line : Option ℕ) → IsBehindLock T S d sum parts amount desk p count
+    → q ≡ p → Logs desk q.log line desk' r.log → r.table ≡ q.table → t ≡ r → (Keeps desk → Keeps desk') → IsBehindLock T S d sum parts amount desk' t count
 stays-behind T S d sum parts amount desk desk' p q r t count line behind same logs table again keeps =
     let logs_p : Logs desk p.log line desk' r.log = subst (λ (x : PenEnd). Logs desk x.log line desk' r.log) same logs in
     let logs_t : Logs desk p.log line desk' t.log = subst (λ (x : PenEnd). Logs desk p.log line desk' x.log) (sym again) logs_p in (
@@ -170,7 +170,7 @@ stays-behind T S d sum parts amount desk desk' p q r t count line behind same lo
 
 -- and its caller has seen it
 pub sees-behind : (T : TableId) (S : Setup) (d : Script) (sum parts amount : ℕ) (desk desk' : DeskState) (p q r : PenEnd) (count : ℕ) (line : Option ℕ) (old new : List Item) (Says : DeskState → DeskState → Type 0)
-    → IsBehind T S d sum parts amount desk p count → q ≡ p → IsOld old p.log → Logs desk q.log line desk' r.log → new ≡ r.log → Says desk desk' → Sees S d old line new Says
+    → IsBehindLock T S d sum parts amount desk p count → q ≡ p → IsOld old p.log → Logs desk q.log line desk' r.log → new ≡ r.log → Says desk desk' → Sees S d old line new Says
 sees-behind T S d sum parts amount desk desk' p q r count line old new Says behind same older logs seen says =
     subst (λ l. Sees S d old line l Says) (sym seen)
     (sees-on S d (record { desk = desk; log = p.log; count = count }) desk' r.log old line Says behind.1 older (subst (λ (x : PenEnd). Logs desk x.log line desk' r.log) same logs) says)

@@ -18,12 +18,12 @@ use Rattle.stack_run.proofs.EraLemmas.{eras-follow}
 use Rattle.stack_run.proofs.RanLemmas.{nothing-done}
 
 -- what the disks that are left will do is what all do, behind those that ran
-pub record GoesOn (plans ran left : List DiskPlan) (before media done : List Device) (runs : List Run) : Type 0 where
+pub record DisksGoOn (plans ran left : List DiskPlan) (before media done : List Device) (runs : List Run) : Type 0 where
   pub are : plans ≡ ran ++ left
   pub all : (after : List Device) (more : List Run) → RanAll left media after more → RanAll plans before (done ++ after) (runs ++ more)
   pub some : (more rest : List DiskPlan) (after : List Device) → RanSomeOfAll more rest media after → RanSomeOfAll (ran ++ more) rest before (done ++ after)
 
-pub goes-first : (plans : List DiskPlan) (before : List Device) → GoesOn plans [] plans before before [] []
+pub goes-first : (plans : List DiskPlan) (before : List Device) → DisksGoOn plans [] plans before before [] []
 goes-first plans before = record { are = refl; all = λ after more all. all; some = λ more rest after some. some }
 
 -- the media that are made for two lists of images
@@ -120,8 +120,8 @@ unfolding RanSomeOfAll
 stops-first plans ds made = record { ran = []; left = plans; are = refl; some = λ none. refl; media = none-of-all plans ds made }
 
 -- one more disk
-pub goes-next : (plans ran left rest : List DiskPlan) (plan : DiskPlan) (before media media' done own own' : List Device) (runs : List Run) (run : Run) → GoesOn plans ran left before media done runs → left ≡ plan ∷ rest → media ≡ own ++ media'
-    → RanDisk plan own own' run → GoesOn plans (ran ++ plan ∷ []) rest before media' (done ++ own') (runs ++ run ∷ [])
+pub goes-next : (plans ran left rest : List DiskPlan) (plan : DiskPlan) (before media media' done own own' : List Device) (runs : List Run) (run : Run) → DisksGoOn plans ran left before media done runs → left ≡ plan ∷ rest → media ≡ own ++ media'
+    → RanDisk plan own own' run → DisksGoOn plans (ran ++ plan ∷ []) rest before media' (done ++ own') (runs ++ run ∷ [])
 unfolding RanAll RanSomeOfAll
 goes-next plans ran left rest plan before media media' done own own' runs run goes next cut disk = record {
   are = goes.are ∙ (ap (λ l. ran ++ l) next ∙ sym (append_assoc ran (plan ∷ []) rest));
@@ -138,7 +138,7 @@ goes-next plans ran left rest plan before media media' done own own' runs run go
 }
 
 -- the disks that are left stop
-stops-so : (plans ran left : List DiskPlan) (before media done after : List Device) (runs : List Run) → GoesOn plans ran left before media done runs → (left ≡ [] → ⊥) → AllInPart left media after → RunsStop plans before (done ++ after)
+stops-so : (plans ran left : List DiskPlan) (before media done after : List Device) (runs : List Run) → DisksGoOn plans ran left before media done runs → (left ≡ [] → ⊥) → AllInPart left media after → RunsStop plans before (done ++ after)
 unfolding RanSomeOfAll
 stops-so plans ran left before media done after runs goes some part = record {
   ran = ran;
@@ -152,12 +152,12 @@ no-nil : {X : Type 0} (x : X) (xs : List X) → x ∷ xs ≡ [] → ⊥
 no-nil x xs is = cc
 
 -- before the next one
-pub stops-here : (plans ran left rest : List DiskPlan) (plan : DiskPlan) (before media done : List Device) (runs : List Run) → GoesOn plans ran left before media done runs → left ≡ plan ∷ rest → AreMade (wanted_of left) media → RunsStop plans before (done ++ media)
+pub stops-here : (plans ran left rest : List DiskPlan) (plan : DiskPlan) (before media done : List Device) (runs : List Run) → DisksGoOn plans ran left before media done runs → left ≡ plan ∷ rest → AreMade (wanted_of left) media → RunsStop plans before (done ++ media)
 stops-here plans ran left rest plan before media done runs goes next made =
     stops-so plans ran left before media done media runs goes (λ none. no-nil plan rest (sym next ∙ none)) (none-of-all left media made)
 
 -- or this disk ran in part, and those behind it did not
-pub stops-next : (plans ran left rest : List DiskPlan) (plan : DiskPlan) (before media media' done own own' : List Device) (runs : List Run) → GoesOn plans ran left before media done runs → left ≡ plan ∷ rest → media ≡ own ++ media'
+pub stops-next : (plans ran left rest : List DiskPlan) (plan : DiskPlan) (before media media' done own own' : List Device) (runs : List Run) → DisksGoOn plans ran left before media done runs → left ≡ plan ∷ rest → media ≡ own ++ media'
     → RanSome plan own own' → AreMade (wanted_of rest) media' → RunsStop plans before ((done ++ own') ++ media')
 unfolding AllInPart
 stops-next plans ran left rest plan before media media' done own own' runs goes next cut some made =
@@ -170,7 +170,7 @@ pub last-made : (left : List DiskPlan) (ds : List Device) → left ≡ [] → Ar
 unfolding wanted_of
 last-made left ds none made = made-none ds (subst (λ (l : List DiskPlan). AreMade (wanted_of l) ds) none made)
 
-pub goes-last : (plans ran left : List DiskPlan) (before media done : List Device) (runs : List Run) → GoesOn plans ran left before media done runs → left ≡ [] → media ≡ [] → RanAll plans before done runs
+pub goes-last : (plans ran left : List DiskPlan) (before media done : List Device) (runs : List Run) → DisksGoOn plans ran left before media done runs → left ≡ [] → media ≡ [] → RanAll plans before done runs
 unfolding RanAll
 goes-last plans ran left before media done runs goes none empty =
     let all : RanAll left media [] [] = subst (λ l. RanAll l media [] []) (sym none) (empty, refl, refl) in

@@ -29,7 +29,7 @@ use Rattle.script_text.proofs.Pieces.{last_said, short_says}
 use Rattle.script_text.proofs.PlannedSums.{requested_order, requested_client}
 use Rattle.stack_run.specs.Generated.{Made, place_of, length_of, drawn_byte, fill_text, read_text, request_text, with_text, with_request, with_line, with_lines, with_client, with_clients, opening, generated_text, are_whole, generated_disk, IsGeneratedScript}
 use Rattle.stack_run.proofs.Drafts.{lines-next, clients-next}
-use Rattle.stack_run.proofs.Spaced.{IsWord, AreWords, spaced, Reads, reads-line}
+use Rattle.stack_run.proofs.Spaced.{IsWord, AreWords, spaced, ReadsPlans, reads-line}
 use Rattle.stack_run.proofs.WordsOf.{SaysNumber, SaysByte, decimal-says, byte-says, fill-kind, read-kind, flush-kind, wait-kind, client-kind, disk-kind}
 
 -- the plans of the clients so far
@@ -40,7 +40,7 @@ plans_of clients = generated_disk clients ∷ []
 record IsDraft (d : Made) (c r : ℕ) : Type 0 where
   pub number : ℕ
   pub clients : List ClientPlan
-  pub reads : Reads d.text number (plans_of clients)
+  pub reads : ReadsPlans d.text number (plans_of clients)
   pub count : length clients ≡ c
   pub whole : are_whole clients ≡ true
   pub asked : total_asked_bytes (plans_of clients) ≤ 2048 * r

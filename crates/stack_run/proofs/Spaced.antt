@@ -88,11 +88,11 @@ unfolding line_of_bytes line_of_words
 line-says w more one word rest comment kind = rw (comment, line-clean w more word rest, words-spaced w more word rest, kind) refl
 
 -- whatever follows, the text says first what led to these plans, and the line that comes next has this number
-pub record Reads (text : List ℕ) (n : ℕ) (plans : List DiskPlan) : Type 0 where
+pub record ReadsPlans (text : List ℕ) (n : ℕ) (plans : List DiskPlan) : Type 0 where
   pub said : (more : List ℕ) → lines_say 1 [] (lines_of (text ++ more)) ≡ lines_say n plans (lines_of more)
 
 -- a line more
-pub reads-line : (text : List ℕ) (n : ℕ) (plans next : List DiskPlan) (w : List ℕ) (more : List (List ℕ)) (one : Line) → Reads text n plans → IsWord w → AreWords more → is_comment (spaced w more) ≡ false → line_of_kind w more ≡ Ok one → plans_behind n plans one ≡ Ok next → Reads (text ++ line_of (w ∷ more)) (n + 1) next
+pub reads-line : (text : List ℕ) (n : ℕ) (plans next : List DiskPlan) (w : List ℕ) (more : List (List ℕ)) (one : Line) → ReadsPlans text n plans → IsWord w → AreWords more → is_comment (spaced w more) ≡ false → line_of_kind w more ≡ Ok one → plans_behind n plans one ≡ Ok next → ReadsPlans (text ++ line_of (w ∷ more)) (n + 1) next
 unfolding line_says
 reads-line text n plans next w more one reads word rest comment kind plan = record {
   said = λ behind.

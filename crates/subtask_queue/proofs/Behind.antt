@@ -7,10 +7,10 @@ use Rattle.index_links.specs.Lists.{LinkedLists, list_at, is_among, is_listed, w
 use Rattle.index_links.proofs.LinkedListsLemmas.{listed-in, listed-from, among-append, pushed-here, pushed-other}
 use Rattle.subtask_queue.specs.declared.sub.Sub.{Sub}
 use Rattle.subtask_queue.specs.declared.sub.Sub.TheVariants.{Part}
-use Rattle.subtask_queue.specs.Owned.{sub_at, units_at, subs_in, IsBehind}
+use Rattle.subtask_queue.specs.Owned.{sub_at, units_at, subs_in, AreAppended}
 use Rattle.subtask_queue.proofs.Leading.{subs-append}
 
-pub behind-none : (old : List (ℕ × Sub)) → IsBehind [] None old old
+pub behind-none : (old : List (ℕ × Sub)) → AreAppended [] None old old
 unfolding subs_in
 behind-none old = record { units = []; value = sym (append-nil old); subs_is = refl; first_is = refl }
 
@@ -19,8 +19,8 @@ head-of : (first either : Option ℕ) (us : List (ℕ × Sub)) (x : ℕ) (s : Su
 head-of first either [] x s is none some = none is
 head-of first either (e ∷ us) x s is none some = some e.0 is
 
-pub behind-more : (subs : List Sub) (i x : ℕ) (s : Sub) (first either : Option ℕ) (old now new : List (ℕ × Sub)) → i < length subs → IsBehind (take i subs) first old now → new ≡ now ++ (x, s) ∷ [] → s ≡ get_or subs i (Part 0 0 0 0 false)
-    → (first ≡ None → either ≡ Some x) → ((y : ℕ) → first ≡ Some y → either ≡ Some y) → IsBehind (take (i + 1) subs) either old new
+pub behind-more : (subs : List Sub) (i x : ℕ) (s : Sub) (first either : Option ℕ) (old now new : List (ℕ × Sub)) → i < length subs → AreAppended (take i subs) first old now → new ≡ now ++ (x, s) ∷ [] → s ≡ get_or subs i (Part 0 0 0 0 false)
+    → (first ≡ None → either ≡ Some x) → ((y : ℕ) → first ≡ Some y → either ≡ Some y) → AreAppended (take (i + 1) subs) either old new
 unfolding subs_in
 behind-more subs i x s first either old now new inside is more read none some = record {
   units = is.units ++ (x, s) ∷ [];

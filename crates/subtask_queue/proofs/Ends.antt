@@ -6,7 +6,7 @@ use Rattle.std.proofs.lemmas.Bool.{cases_Bool, cases_lt, cases_eq, ne_eqb}
 use Rattle.std.proofs.lemmas.Bool.Decides.{nat_tests}
 use Rattle.subtask_queue.specs.declared.sub.Sub.{Sub}
 use Rattle.subtask_queue.specs.Subs.{token_of, is_of, is_from, is_unit, without_first, without_token, AreBelow}
-use Rattle.subtask_queue.specs.Owned.{subs_in, is_own, is_node, first_node, without_one, AreOf, AreRising, IsBehind, waiting_in}
+use Rattle.subtask_queue.specs.Owned.{subs_in, is_own, is_node, first_node, without_one, AreOf, AreRising, AreAppended, waiting_in}
 use Rattle.subtask_queue.specs.Firsts.{FirstNodes, first_at, IsLeast, AreLed}
 use Rattle.subtask_queue.proofs.Walks.{not-of, node-own, later-none}
 use Rattle.subtask_queue.proofs.Places.{place-of}
@@ -101,7 +101,7 @@ led-dropped token us vs firsts after led is at = record {
       (λ differ. led.first t ∙ first-filter token t us differ ∙ ap (first_node (is_own t)) (sym is));
 }
 
-pub led-added : (token : ℕ) (subs : List Sub) (us vs : List (ℕ × Sub)) (firsts mid after : FirstNodes) (first : Option ℕ) → AreLed us firsts → AreBelow token (subs_in us) → AreOf token subs → IsBehind subs first us vs
+pub led-added : (token : ℕ) (subs : List Sub) (us vs : List (ℕ × Sub)) (firsts mid after : FirstNodes) (first : Option ℕ) → AreLed us firsts → AreBelow token (subs_in us) → AreOf token subs → AreAppended subs first us vs
     → ((t : ℕ) → first_at mid t ≡ first_at firsts t) → ((t : ℕ) → first_at after t ≡ cond (nat_eq t token) first (first_at mid t)) → AreLed vs after
 led-added token subs us vs firsts mid after first led below of behind same at =
     let own : AreOf token (subs_in behind.units) = subst (AreOf token) (sym behind.subs_is) of in

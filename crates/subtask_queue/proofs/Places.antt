@@ -5,7 +5,7 @@ use Rattle.std.proofs.lemmas.Bool.Decides.{nat_tests}
 use Rattle.std.proofs.lemmas.List.{get_or_default, get_or-set_same, get_or-set_other, get_or_append_left}
 use Rattle.std.proofs.Math.ListN.{get_or-eq_default}
 use Rattle.std.proofs.Math.Seq.{get_or-append_seam}
-use Rattle.subtask_queue.specs.Firsts.{FirstNodes, first_at, HasPlace, IsLeast}
+use Rattle.subtask_queue.specs.Firsts.{FirstNodes, first_at, HasSlot, IsLeast}
 
 low : (a b : ℕ) → a < b → nat_lt a b ≡ true
 low a b is = grind (arith, nat_tests)
@@ -31,7 +31,7 @@ pub at-empty : (b : ℕ) (nodes : List (Option ℕ)) (token : ℕ) → nodes ≡
 at-empty b nodes token is = at-past (record { base = b; nodes = nodes }) token (rw is (omega arith))
 
 -- a token that has a unit has a place
-pub place-of : (f : FirstNodes) (token n : ℕ) → first_at f token ≡ Some n → HasPlace f token
+pub place-of : (f : FirstNodes) (token n : ℕ) → first_at f token ≡ Some n → HasSlot f token
 place-of f token n is = elim (cases_lt token f.base) [
   | inl before ↦ let never : Some n ≡ None = sym is ∙ at-before f token before in cc
   | inr after ↦ elim (cases_lt (token - f.base) (length f.nodes)) [
@@ -40,7 +40,7 @@ place-of f token n is = elim (cases_lt token f.base) [
   ]
 ]
 
-pub at-set : (f : FirstNodes) (token t : ℕ) (node : Option ℕ) → HasPlace f token → first_at (record { base = f.base; nodes = set f.nodes (token - f.base) node }) t ≡ cond (nat_eq t token) node (first_at f t)
+pub at-set : (f : FirstNodes) (token t : ℕ) (node : Option ℕ) → HasSlot f token → first_at (record { base = f.base; nodes = set f.nodes (token - f.base) node }) t ≡ cond (nat_eq t token) node (first_at f t)
 at-set f token t node has = elim (cases_eq t token) [
   | inl same ↦ rw (eq-eqb t token same) (at-place (record { base = f.base; nodes = set f.nodes (token - f.base) node }) t (let after = has.after in omega arith)
       ∙ ap (λ k. get_or (set f.nodes (token - f.base) node) (k - f.base) None) same ∙ get_or-set_same f.nodes (token - f.base) node None has.inside)

@@ -15,7 +15,7 @@ unfoldable pub first_at : FirstNodes → ℕ → Option ℕ
 first_at firsts token = cond (nat_lt token firsts.base) None (slice_index_or firsts.nodes (token - firsts.base) None)
 
 -- a token has a place
-pub record HasPlace (firsts : FirstNodes) (token : ℕ) : Type 0 where
+pub record HasSlot (firsts : FirstNodes) (token : ℕ) : Type 0 where
   pub after : firsts.base ≤ token
   pub inside : token - firsts.base < length firsts.nodes
 

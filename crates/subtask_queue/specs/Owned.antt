@@ -53,7 +53,7 @@ pub record AreNodes (subs : List Sub) (links : LinkedLists) (spare : ℕ) : Type
   pub enough : spare ≤ length (list_at links 1)
 
 -- these units stand behind the others, the first one in this node
-pub record IsBehind (subs : List Sub) (first : Option ℕ) (old new : List (ℕ × Sub)) : Type 0 where
+pub record AreAppended (subs : List Sub) (first : Option ℕ) (old new : List (ℕ × Sub)) : Type 0 where
   pub units : List (ℕ × Sub)
   pub value : new ≡ old ++ units
   pub subs_is : subs_in units ≡ subs

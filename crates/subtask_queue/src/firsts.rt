@@ -1,5 +1,5 @@
 ghost use Rattle.std.specs.Prelude.{◌≡◌, ℕ, ◌+◌, ◌≤◌, ◌<◌, cond, nat_eq, true, None, is_some, length, IfSome, OnOk, IfOk, IfNone};
-ghost use Rattle.subtask_queue.specs.Firsts.{first_at, HasPlace, IsLeast};
+ghost use Rattle.subtask_queue.specs.Firsts.{first_at, HasSlot, IsLeast};
 
 use crate::nodes::{FREE, relink};
 use index_links::Links;
@@ -64,7 +64,7 @@ impl Firsts {
     pub fn reserve(&mut self, token: u64) -> Result<(), AllocError>
         requires { self.old.base ≤ token }
         ensures same { (t : ℕ) → first_at self.new t ≡ first_at self.old t }
-        ensures ok { OnOk result (HasPlace self.new token) }
+        ensures ok { OnOk result (HasSlot self.new token) }
     {
         let place = (token - self.base) as usize;
         let long = self.nodes.len();
@@ -96,7 +96,7 @@ impl Firsts {
 
     /// Sets the node of a token's first unit, or that it has no unit. A token that had none is above those that have one.
     pub fn set(&mut self, token: u64, node: Option<u32>)
-        requires place { HasPlace self.old token }
+        requires place { HasSlot self.old token }
         requires last { first_at self.old token ≡ None → (t : ℕ) → token ≤ t → first_at self.old t ≡ None }
         ensures { (t : ℕ) → first_at self.new t ≡ cond (nat_eq t token) node (first_at self.old t) }
     {

@@ -2,7 +2,7 @@ ghost use Rattle.std.specs.Prelude.{◌≡◌, ℕ, ◌<◌, ◌≤◌, ◌++◌
 ghost use Rattle.std.specs.List.{count_by};
 ghost use Rattle.std.specs.Option.{option_map};
 ghost use Rattle.block_gate.specs.Gates.{is_block_held};
-ghost use Rattle.subtask_queue.specs.Firsts.{first_at, HasPlace};
+ghost use Rattle.subtask_queue.specs.Firsts.{first_at, HasSlot};
 ghost use Rattle.subtask_queue.specs.Owned.{AreOf};
 ghost use Rattle.subtask_queue.specs.Subs.{token_of, is_unit, is_of, is_from, may_run, without_first, without_token, AreBelow};
 
@@ -105,7 +105,7 @@ fn place_for(firsts: &mut Firsts, empty: bool, token: u64) -> Result<(), AllocEr
     requires none { empty ≡ true → (t : ℕ) → first_at firsts.old t ≡ None }
     requires base { empty ≡ false → firsts.old.base ≤ token }
     ensures same { (t : ℕ) → first_at firsts.new t ≡ first_at firsts.old t }
-    ensures ok { OnOk result (HasPlace firsts.new token) }
+    ensures ok { OnOk result (HasSlot firsts.new token) }
 {
     if empty {
         firsts.restart(token);

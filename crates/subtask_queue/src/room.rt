@@ -1,7 +1,7 @@
 //! Nodes for more units.
 ghost use Rattle.std.specs.Prelude.{◌≡◌, ◌+◌, ◌≤◌, ◌<◌, ◌++◌, ◌∷◌, [], true, length, OnOk, OnErr};
 ghost use Rattle.index_links.specs.Lists.{list_at, is_among};
-ghost use Rattle.subtask_queue.specs.Owned.{units_at, AreNodes, IsBehind};
+ghost use Rattle.subtask_queue.specs.Owned.{units_at, AreNodes, AreAppended};
 
 use crate::nodes::{FREE, take_free};
 use crate::sub::Sub;
@@ -46,7 +46,7 @@ pub fn put_all(links: &mut Links, subs: &mut Vec<Sub>, units: &[Sub]) -> Option<
     requires nodes { AreNodes subs.old.items links.old (length units.now) }
     ensures nodes { AreNodes subs.new.items links.new 0 }
     ensures free { length (list_at links.old 1) ≡ length (list_at links.new 1) + length units.now }
-    ensures units { IsBehind units.now result (units_at subs.old.items (list_at links.old 0)) (units_at subs.new.items (list_at links.new 0)) }
+    ensures units { AreAppended units.now result (units_at subs.old.items (list_at links.old 0)) (units_at subs.new.items (list_at links.new 0)) }
 {
     let mut first = None;
     for sub in units {

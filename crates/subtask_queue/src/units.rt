@@ -1,7 +1,7 @@
 ghost use Rattle.std.specs.Prelude.{◌≡◌, ℕ, ◌+◌, ◌<◌, ◌≤◌, ◌++◌, [], Some, true, false, not, find, filter, length, slice_get, nat_lt, IfOk, OnErr};
 ghost use Rattle.std.specs.List.{count_by};
 ghost use Rattle.block_gate.specs.Gates.{is_block_held};
-ghost use Rattle.subtask_queue.specs.Owned.{subs_in, is_own, is_node, first_node, without_one, AreRising, IsBehind};
+ghost use Rattle.subtask_queue.specs.Owned.{subs_in, is_own, is_node, first_node, without_one, AreRising, AreAppended};
 ghost use Rattle.subtask_queue.specs.Subs.{may_run};
 
 use crate::nodes::{WAITING, find_runnable, find_unit, second_own, set_free};
@@ -115,7 +115,7 @@ impl Units {
     /// Appends some units, for which there are nodes or memory for more, and answers the node of the first one. The error is
     /// want of memory, or that there would be 2^32 nodes, and no unit has then changed.
     pub fn append(&mut self, units: &[Sub]) -> Result<Option<u32>, AllocError>
-        ensures ok { IfOk result (λ first. IsBehind units.now first self.old self.new) }
+        ensures ok { IfOk result (λ first. AreAppended units.now first self.old self.new) }
         ensures err { OnErr result (self.new ≡ self.old) }
     {
         let count = u32::try_from(units.len()).map_err(|_| AllocError)?;

@@ -1,12 +1,12 @@
 use Rattle.std.proofs.Common.{◌-◌}
 use Rattle.history.specs.Room.{owed_entries}
 use Rattle.shared_disk.specs.Desk.{Keeps}
-use Rattle.device_workers.proofs.Taking.{IsTaking}
+use Rattle.device_workers.proofs.Taking.{CollectsBack}
 use Rattle.device_workers.proofs.plain_run.take_line.Given as goal
 
 abbrev pub invariant-loop : goal.invariant-loop
 invariant-loop g l = record {
-  taking : IsTaking l.initial.desk (l.client - 1) l.desk;
+  taking : CollectsBack l.initial.desk (l.client - 1) l.desk;
   keeps : Keeps l.desk;
 }
 
