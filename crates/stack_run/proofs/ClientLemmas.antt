@@ -1,5 +1,5 @@
 -- The clients of a disk of a script are clients for its desk.
-use Rattle.std.proofs.Common.{◌≡◌, ℕ, zero, suc, ◌+◌, ◌^◌, ◌<◌, ◌≤◌, List, [], ◌∷◌, map, length, sum_by, take, drop, get_or, All, refl, sym, ◌∙◌, ap, subst, arith}
+use Rattle.std.proofs.Common.{◌≡◌, ℕ, zero, suc, ◌+◌, ◌<◌, ◌≤◌, List, [], ◌∷◌, map, length, sum_by, get_or, All, refl, sym, ◌∙◌, ap, subst, arith}
 use Rattle.std.specs.List.{AllByRecursion}
 use Rattle.std.proofs.lemmas.List.{length-map}
 use Rattle.std.proofs.lemmas.List.Sums.{sum_by-cons}
@@ -20,8 +20,9 @@ use Rattle.script_text.specs.declared.language.plans.ClientPlan.{ClientPlan}
 use Rattle.script_text.specs.Fitting as fit
 use Rattle.script_text.specs.Fitting.{IsDiskPlan}
 use Rattle.script_text.specs.Limits.{most_script_bytes}
-use Rattle.script_text.specs.Planned.{client_lines, disk_lines, planned_lines}
-use Rattle.stack_run.specs.Clients.{script_roles}
+use Rattle.script_text.specs.Planned.{disk_lines, planned_lines}
+use Rattle.partition_tables.specs.declared.table.Child.{Child}
+use Rattle.stack_run.specs.Clients.{role_in, script_roles}
 use Rattle.stack_run.proofs.DiskLoops.{all-from-rec}
 
 -- a line as a desk takes it
@@ -77,13 +78,13 @@ sum-mapped : {X : Type 0} (f : X → List Order) (xs : List X) → sum_by (λ x.
 sum-mapped f [] = refl
 sum-mapped f (x ∷ xs) = rw (sum_by-cons (λ y. length (f y)) x xs, sum_by-cons length (f x) (map f xs), sum-mapped f xs) refl
 
-module _ (plan : DiskPlan) (clients : List Client) (same : roles_of clients ≡ script_roles plan.clients) where
+module _ (plan : DiskPlan) (clients : List Client) (children : List Child) (same : roles_of clients ≡ script_roles plan.size children plan.clients) where
   orders-same : map (λ (client : Client). client.orders.items) clients ≡ map (λ (client : ClientPlan). client.orders) plan.clients
   orders-same = sym (map-map (λ (role : Role). role.orders) _ clients) ∙ (ap (map (λ (role : Role). role.orders)) same ∙ map-map (λ (role : Role). role.orders) _ plan.clients)
 
   pub clients-fit : IsDiskPlan plan → disk_lines plan ≤ most_script_bytes → AreDeskClients clients
   clients-fit fits few = record {
-    few = omega (arith, length-map clients (Rattle.shared_disk.specs.Lines.role_of), ap length same, length-map plan.clients (Rattle.stack_run.specs.Clients.role_in), fits.count);
+    few = omega (arith, length-map clients (Rattle.shared_disk.specs.Lines.role_of), ap length same, length-map plan.clients (role_in plan.size children), fits.count);
     lines = omega (arith, few, sum-mapped (λ (client : Client). client.orders.items) clients, ap (sum_by length) orders-same, sum-mapped (λ (client : ClientPlan). client.orders) plan.clients);
     orders = all-from-rec (λ orders. All IsDeskOrder orders) (λ (client : Client). client.orders.items) clients
         (subst (AllByRecursion (λ orders. All IsDeskOrder orders)) (sym orders-same) (each-fits (length plan.spares + 1) plan.clients fits.clients));

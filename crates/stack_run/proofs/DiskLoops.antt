@@ -1,5 +1,5 @@
 -- One disk after the other.
-use Rattle.std.proofs.Common.{◌≡◌, ℕ, zero, suc, ◌+◌, ◌<◌, ◌≤◌, List, [], ◌∷◌, ◌++◌, map, length, take, drop, get_or, slice_get, Some, option_map, All, refl, sym, ◌∙◌, ap, subst, arith, append_assoc, length-append, length-take}
+use Rattle.std.proofs.Common.{◌≡◌, ℕ, zero, suc, ◌+◌, ◌<◌, ◌≤◌, List, [], ◌∷◌, ◌++◌, map, length, take, drop, get_or, slice_get, Some, None, option_map, All, refl, sym, ◌∙◌, ap, subst, arith, append_assoc, length-append, length-take}
 use Rattle.std.proofs.lemmas.Option.{slice_get-map}
 use Rattle.std.specs.List.{AllByRecursion, drop-map}
 use Rattle.std.proofs.lemmas.List.{append-nil, length-map, take-append-drop, map-append, take-map, length-drop}
@@ -15,7 +15,9 @@ use Rattle.stack_run.specs.Chains.{IsMediumOf, AreMade}
 use Rattle.stack_run.specs.Runs.{setup_over, Follow, RanDisk, RanSome, RanAll, AllInPart, RanSomeOfAll, RunsStop}
 use Rattle.stack_run.proofs.ChainLemmas.{drop-next}
 use Rattle.stack_run.proofs.EraLemmas.{eras-follow}
-use Rattle.stack_run.proofs.RanLemmas.{nothing-done}
+use Rattle.stack_run.specs.Clients.{unprobed}
+use Rattle.stack_run.specs.Starting.{part_line, AreWhole}
+use Rattle.stack_run.proofs.StartLemmas.{nothing-begun}
 
 -- what the disks that are left will do is what all do, behind those that ran
 pub record DisksGoOn (plans ran left : List DiskPlan) (before media done : List Device) (runs : List Run) : Type 0 where
@@ -64,6 +66,10 @@ all-from-rec P f [] all k d inside = absurd (omega (arith, inside))
 all-from-rec P f (x ∷ xs) all zero d inside = all.0
 all-from-rec P f (x ∷ xs) all (suc k) d inside = all-from-rec P f xs all.1 k d (omega (arith, inside))
 
+pub rec-from-all : {X Y : Type 0} (P : Y → Type 0) (f : X → Y) (xs : List X) → All (λ x. P (f x)) xs → AllByRecursion P (map f xs)
+rec-from-all P f [] all = tt
+rec-from-all P f (x ∷ xs) all = (all 0 x (omega arith), rec-from-all P f xs (λ k d inside. all (suc k) d (omega (arith, inside))))
+
 -- the images of a disk
 pub count-named : (plan : DiskPlan) → length (map (wanted_by plan) (media_names plan)) ≡ length plan.spares + 1
 count-named plan = omega (arith, length-map plan.spares (wanted_by plan))
@@ -96,13 +102,13 @@ fresh-follow plan ds made = record {
       fresh-era (setup_over plan ds) (suc i) d of.fresh (slice_get-map opening_from ds i ∙ ap (option_map opening_from) there) of.size of.cached;
 }
 
-fresh-some : (plan : DiskPlan) (ds : List Device) → length ds ≡ length plan.spares + 1 → AllByRecursion (IsMediumOf plan) ds → RanSome plan ds ds
-fresh-some plan ds count made = record { count = count; history = []; part = nothing-done plan (setup_over plan ds); media = eras-follow plan [] ds ds (fresh-follow plan ds made) }
+pub fresh-some : (plan : DiskPlan) (ds : List Device) → part_line plan ≡ None → length ds ≡ length plan.spares + 1 → AllByRecursion (IsMediumOf plan) ds → RanSome plan ds ds
+fresh-some plan ds whole count made = record { count = count; start = unprobed; history = []; part = nothing-begun plan (setup_over plan ds) whole; media = eras-follow plan [] ds ds (fresh-follow plan ds made) }
 
-none-of-all : (plans : List DiskPlan) (ds : List Device) → AreMade (wanted_of plans) ds → AllInPart plans ds ds
-unfolding AllInPart wanted_of
-none-of-all [] ds made = (made-none ds made, made-none ds made)
-none-of-all (plan ∷ plans) ds made =
+none-of-all : (plans : List DiskPlan) (ds : List Device) → AreWhole plans → AreMade (wanted_of plans) ds → AllInPart plans ds ds
+unfolding AllInPart wanted_of AreWhole
+none-of-all [] ds whole made = (made-none ds made, made-none ds made)
+none-of-all (plan ∷ plans) ds whole made =
     let (front, back) = made-split (map (wanted_by plan) (media_names plan)) (wanted_of plans) ds made in
     let n = length (map (wanted_by plan) (media_names plan)) in (
       take n ds,
@@ -110,14 +116,14 @@ none-of-all (plan ∷ plans) ds made =
       drop n ds,
       drop n ds,
       record { taken = sym (take-append-drop n ds); back = sym (take-append-drop n ds) },
-      fresh-some plan (take n ds) (made-count (map (wanted_by plan) (media_names plan)) (take n ds) front ∙ count-named plan) (made-of plan (media_names plan) (take n ds) front),
-      none-of-all plans (drop n ds) back,
+      fresh-some plan (take n ds) whole.0 (made-count (map (wanted_by plan) (media_names plan)) (take n ds) front ∙ count-named plan) (made-of plan (media_names plan) (take n ds) front),
+      none-of-all plans (drop n ds) whole.1 back,
     )
 
 -- before the first disk
-pub stops-first : (plans : List DiskPlan) (ds : List Device) → AreMade (wanted_of plans) ds → RunsStop plans ds ds
+pub stops-first : (plans : List DiskPlan) (ds : List Device) → AreWhole plans → AreMade (wanted_of plans) ds → RunsStop plans ds ds
 unfolding RanSomeOfAll
-stops-first plans ds made = record { ran = []; left = plans; are = refl; some = λ none. refl; media = none-of-all plans ds made }
+stops-first plans ds whole made = record { ran = []; left = plans; are = refl; some = λ none. refl; media = none-of-all plans ds whole made }
 
 -- one more disk
 pub goes-next : (plans ran left rest : List DiskPlan) (plan : DiskPlan) (before media media' done own own' : List Device) (runs : List Run) (run : Run) → DisksGoOn plans ran left before media done runs → left ≡ plan ∷ rest → media ≡ own ++ media'
@@ -152,16 +158,16 @@ no-nil : {X : Type 0} (x : X) (xs : List X) → x ∷ xs ≡ [] → ⊥
 no-nil x xs is = cc
 
 -- before the next one
-pub stops-here : (plans ran left rest : List DiskPlan) (plan : DiskPlan) (before media done : List Device) (runs : List Run) → DisksGoOn plans ran left before media done runs → left ≡ plan ∷ rest → AreMade (wanted_of left) media → RunsStop plans before (done ++ media)
-stops-here plans ran left rest plan before media done runs goes next made =
-    stops-so plans ran left before media done media runs goes (λ none. no-nil plan rest (sym next ∙ none)) (none-of-all left media made)
+pub stops-here : (plans ran left rest : List DiskPlan) (plan : DiskPlan) (before media done : List Device) (runs : List Run) → DisksGoOn plans ran left before media done runs → left ≡ plan ∷ rest → AreWhole left → AreMade (wanted_of left) media → RunsStop plans before (done ++ media)
+stops-here plans ran left rest plan before media done runs goes next all made =
+    stops-so plans ran left before media done media runs goes (λ none. no-nil plan rest (sym next ∙ none)) (none-of-all left media all made)
 
 -- or this disk ran in part, and those behind it did not
 pub stops-next : (plans ran left rest : List DiskPlan) (plan : DiskPlan) (before media media' done own own' : List Device) (runs : List Run) → DisksGoOn plans ran left before media done runs → left ≡ plan ∷ rest → media ≡ own ++ media'
-    → RanSome plan own own' → AreMade (wanted_of rest) media' → RunsStop plans before ((done ++ own') ++ media')
+    → RanSome plan own own' → AreWhole rest → AreMade (wanted_of rest) media' → RunsStop plans before ((done ++ own') ++ media')
 unfolding AllInPart
-stops-next plans ran left rest plan before media media' done own own' runs goes next cut some made =
-    let whole : AllInPart (plan ∷ rest) media (own' ++ media') = (own, own', media', media', record { taken = cut; back = refl }, some, none-of-all rest media' made) in
+stops-next plans ran left rest plan before media media' done own own' runs goes next cut some all made =
+    let whole : AllInPart (plan ∷ rest) media (own' ++ media') = (own, own', media', media', record { taken = cut; back = refl }, some, none-of-all rest media' all made) in
     subst (λ l. RunsStop plans before l) (sym (append_assoc done own' media'))
     (stops-so plans ran left before media done (own' ++ media') runs goes (λ none. no-nil plan rest (sym next ∙ none)) (subst (λ l. AllInPart l media (own' ++ media')) (sym next) whole))
 

@@ -1,7 +1,9 @@
 -- The lines that tell how tokens ended are those of the history.
-use Rattle.std.proofs.Common.{◌≡◌, ℕ, zero, suc, ◌+◌, ◌-◌, ◌<◌, ◌≤◌, Bool, true, false, ◌&&◌, List, [], ◌∷◌, ◌++◌, length, map, reverse, take, drop, get_or, slice_get, slice_index, slice_index_or, Option, None, Some, IsSome, IfSome, is_some, option_map, All, refl, sym, ◌∙◌, ap, subst, arith, length-append}
+use Rattle.std.proofs.Common.{◌≡◌, ℕ, zero, suc, ◌+◌, ◌-◌, ◌<◌, ◌≤◌, Bool, true, false, ◌&&◌, List, [], ◌∷◌, ◌++◌, length, reverse, take, drop, get_or, slice_get, slice_index, Option, None, Some, IsSome, IfSome, is_some, option_map, refl, sym, ◌∙◌, ap, subst, arith, length-append}
 use Rattle.std.proofs.lemmas.List.{append-nil, length-map, take-append-drop}
 use Rattle.std.proofs.lemmas.Option.{get_or_from_slice_get, slice_get-map, slice_get_within}
+use Rattle.std.proofs.lemmas.Bool.{false≢true}
+use Rattle.efi_status.specs.declared.Status.TheVariants.{Success}
 use Rattle.history.specs.declared.entry.Kind.{Kind}
 use Rattle.history.specs.declared.entry.Kind.TheVariants.{Read, Write, Flush, Erase}
 use Rattle.history.specs.declared.entry.Entry.{Entry}
@@ -19,7 +21,7 @@ use Rattle.shared_disk.specs.Slots.{buffer_in, buffers_of, IsBufferOf, AreSlots}
 use Rattle.script_text.specs.declared.report.parts.TokenLine.{TokenLine}
 use Rattle.script_text.specs.Report.{is_success, is_tagged_read, gives_bytes, given_if, tagged_read, tagged_reads, is_tagged, givens_of, AreEnds, AreBytesRead, IsGiven, AreGiven}
 use Rattle.script_text.proofs.TaggedReads.{map_both, counted, tagged_is}
-use Rattle.stack_run.specs.EndLines.{line_told, lines_told}
+use Rattle.stack_run.specs.EndLines.{IsCollected, line_told, lines_told}
 use Rattle.stack_run.proofs.ChainLemmas.{take-next}
 
 -- one line more
@@ -124,7 +126,17 @@ module _ (S : Setup) (H : List Entry) (t : ℕ) (q : Request) (done : Done) (giv
           read-bytes S H t q done.buffer (given.read kind) (given.long ∙ ap (λ k. buffer_length k q.asked.length) kind)
       by false is = tt
 
-module _ (S : Setup) (H : List Entry) (slots : List Slot) (are : AreSlots S H slots) (kept : (t : ℕ) (slot : Slot) → slice_get slots t ≡ Some slot → IsSome (buffer_in slot.buffer)) where
+-- a request of no client gives nothing back
+nothing-given : (S : Setup) (H : List Entry) (t : ℕ) → is_tagged_read (request H t) ≡ false → IsGiven S H t None
+unfolding gives_bytes
+nothing-given S H t untagged = record { where_read = rw untagged refl; bytes = by (request H t) }
+  where
+    by : (o : Option Request) → IfSome o (λ r. IfSome None (AreBytesRead S H t r))
+    by None = tt
+    by (Some r) = tt
+
+module _ (S : Setup) (H : List Entry) (slots : List Slot) (are : AreSlots S H slots) (collected : (t : ℕ) → t < token_count H → was_collected H t ≡ true)
+    (gone : (t : ℕ) (slot : Slot) → slice_get slots t ≡ Some slot → slot.buffer ≡ Gone → (mark_of S H t ≡ Some Success) × (is_tagged_read (request H t) ≡ false)) where
   flags : List Bool
   flags = tagged_reads (reverse H)
 
@@ -136,15 +148,17 @@ module _ (S : Setup) (H : List Entry) (slots : List Slot) (are : AreSlots S H sl
     marked : mark_of S H t ≡ Some line.status
     gives : IsGiven S H t line.given
 
-  kept-told : (t : ℕ) (buffer : Buffer) → IsSome (buffer_in buffer) → IsBufferOf S H t buffer → IsTold t (line_told (is_tagged (tagged_reads (reverse H)) t) buffer)
-  kept-told t Awaited some is = absurd (cc)
-  kept-told t (Kept done) some (q, given) = record { marked = given.marked; gives = is-given S H t q done given (is_tagged (tagged_reads (reverse H)) t) (tagged_is H t) }
-  kept-told t Gone some is = absurd (cc)
+  kept-told : (t : ℕ) (buffer : Buffer) → t < token_count H → (buffer ≡ Gone → (mark_of S H t ≡ Some Success) × (is_tagged_read (request H t) ≡ false)) → IsBufferOf S H t buffer → IsTold t (line_told (is_tagged (tagged_reads (reverse H)) t) buffer)
+  kept-told t Awaited inside others is = absurd (false≢true (sym is ∙ collected t inside))
+  kept-told t (Kept done) inside others (q, given) = record { marked = given.marked; gives = is-given S H t q done given (is_tagged (tagged_reads (reverse H)) t) (tagged_is H t) }
+  kept-told t Gone inside others is =
+      let (marked, untagged) = others refl in
+      record { marked = marked; gives = nothing-given S H t untagged }
 
   told : (t : ℕ) (line : TokenLine) → slice_get (lines_told (tagged_reads (reverse H)) slots) t ≡ Some line → IsTold t line
   told t line there =
       let (slot, at, is) = told-at (tagged_reads (reverse H)) slots t line there in
-      rw is (kept-told t slot.buffer (kept t slot at) (are.each t slot at).buffer)
+      rw is (kept-told t slot.buffer (omega (arith, slice_get_within slots t slot at, are.counted)) (gone t slot at) (are.each t slot at).buffer)
 
   count : length (lines_told (tagged_reads (reverse H)) slots) ≡ token_count H
   count = told-count (tagged_reads (reverse H)) slots (omega (arith, counted H, are.counted)) ∙ counted H
@@ -166,9 +180,18 @@ module _ (S : Setup) (H : List Entry) (slots : List Slot) (are : AreSlots S H sl
       by t None is = tt
       by t (Some line) is = (told t line is).gives
 
--- each token that was collected is kept
-pub all-kept : (slots : List Slot) (given : List (Option (List ℕ))) → buffers_of slots ≡ given → ((t : ℕ) → t < length slots → IsSome (given_at given t)) → (t : ℕ) (slot : Slot) → slice_get slots t ≡ Some slot → IsSome (buffer_in slot.buffer)
-all-kept slots given same each t slot there =
-    let some : IsSome (given_at (buffers_of slots) t) = subst (λ l. IsSome (given_at l t)) (sym same) (each t (slice_get_within slots t slot there)) in
+-- where all tokens were collected, each buffer is kept or gone
+pub all-collected : (S : Setup) (H : List Entry) (slots : List Slot) → AreSlots S H slots → ((t : ℕ) → t < token_count H → was_collected H t ≡ true) → (t : ℕ) (slot : Slot) → slice_get slots t ≡ Some slot → IsCollected slot.buffer
+all-collected S H slots are collected t slot there = by slot.buffer (are.each t slot there).buffer
+  where
+    by : (b : Buffer) → IsBufferOf S H t b → IsCollected b
+    by Awaited is = absurd (false≢true (sym is ∙ collected t (omega (arith, slice_get_within slots t slot there, are.counted))))
+    by (Kept done) is = tt
+    by Gone is = tt
+
+-- what the desk gives is not gone
+pub kept-given : (slots : List Slot) (given : List (Option (List ℕ))) → buffers_of slots ≡ given → (t : ℕ) (slot : Slot) → slice_get slots t ≡ Some slot → IsSome (given_at given t) → slot.buffer ≡ Gone → ⊥
+kept-given slots given same t slot there some gone =
     let at : slice_get (buffers_of slots) t ≡ Some (buffer_in slot.buffer) = slice_get-map (λ (s : Slot). buffer_in s.buffer) slots t ∙ ap (option_map (λ (s : Slot). buffer_in s.buffer)) there in
-    subst IsSome (get_or_from_slice_get (buffers_of slots) t (buffer_in slot.buffer) None at) some
+    let here : given_at given t ≡ None = ap (λ l. given_at l t) (sym same) ∙ (get_or_from_slice_get (buffers_of slots) t (buffer_in slot.buffer) None at ∙ ap buffer_in gone) in
+    false≢true (rw here at some)

@@ -13,6 +13,7 @@ use Rattle.disk_core.specs.Facts.{MeetsEra}
 use Rattle.script_text.specs.declared.language.plans.DiskPlan.{DiskPlan}
 use Rattle.stack_run.specs.declared.desk_run.Run.{Run}
 use Rattle.stack_run.specs.Chains.{IsMediumOf}
+use Rattle.stack_run.specs.Clients.{Start}
 use Rattle.stack_run.specs.Runs.{setup_over, AreEras, Follow, RanOver, RanSomeOver, RanDisk, RanSome}
 use Rattle.stack_run.proofs.RanLemmas.{all-at}
 
@@ -73,11 +74,13 @@ eras-fit S H k size (b ∷ before) (a ∷ after) is eras fits =
     (subst (λ n. a.blocks * n < 2 ^ 64) sized fits.0, eras-fit S H (k + 1) size before after is eras.1 fits.1)
 
 -- the lines of a disk ran over its media
-pub disk-ran : (plan : DiskPlan) (before after : List Device) (run : Run) → length before ≡ length plan.spares + 1 → RanOver plan (setup_over plan before) after run → RanDisk plan before after run
-disk-ran plan before after run count over =
+pub disk-ran : (plan : DiskPlan) (before after : List Device) (start : Start) (run : Run) → length before ≡ length plan.spares + 1 → start.found ≡ run.table → RanOver plan (setup_over plan before) start after run → RanDisk plan before after run
+disk-ran plan before after start run count table over =
     let eras = eras-follow plan run.history.entries before after over.follow in
     record {
       count = count;
+      start = start;
+      table = table;
       ran = over.ran;
       ends = over.ends;
       media = eras;
@@ -85,8 +88,8 @@ disk-ran plan before after run count over =
       fits = subst (AllByRecursion (λ b. b * plan.size < 2 ^ 64)) (sym over.blocks) (eras-fit (setup_over plan before) run.history.entries 1 plan.size before after refl eras over.fits);
     }
 
-pub disk-ran-some : (plan : DiskPlan) (before after : List Device) → length before ≡ length plan.spares + 1 → RanSomeOver plan (setup_over plan before) after → RanSome plan before after
-disk-ran-some plan before after count over = record { count = count; history = over.history; part = over.part; media = eras-follow plan over.history before after over.follow }
+pub disk-ran-some : (plan : DiskPlan) (before after : List Device) (start : Start) → length before ≡ length plan.spares + 1 → RanSomeOver plan (setup_over plan before) start after → RanSome plan before after
+disk-ran-some plan before after start count over = record { count = count; start = start; history = over.history; part = over.part; media = eras-follow plan over.history before after over.follow }
 
 -- the setup of the drive that was made of the media
 pub setup-same : {M : Type 0} (device : M → Device) (plan : DiskPlan) (media : List M) (drive : DriveState M) → FitTheDrive device drive → drive.media ≡ media → drive.protected ≡ plan.protected → drive.cached ≡ plan.cached → drive.per ≡ plan.physical
@@ -99,6 +102,6 @@ setup-same device plan (m ∷ media) drive fit are protected cached per some mad
     let openings : map (λ n. opening_from (device n)) drive.media ≡ map opening_from (map device (m ∷ media)) = ap (map (λ n. opening_from (device n))) are ∙ sym (map-map opening_from device (m ∷ media)) in
     λ i. record { geometry = record { size = size i; per = per i }; cached = cached i; protected = protected i; media = openings i }
 
-pub some-disk-ran : (plan : DiskPlan) (before after : List Device) → length before ≡ length plan.spares + 1 → (o : Option Run) → IfSome o (RanOver plan (setup_over plan before) after) → IfSome o (RanDisk plan before after)
-some-disk-ran plan before after count None over = tt
-some-disk-ran plan before after count (Some run) over = disk-ran plan before after run count over
+pub some-disk-ran : (plan : DiskPlan) (before after : List Device) (start : Start) → length before ≡ length plan.spares + 1 → (o : Option Run) → IfSome o (λ run. run.table ≡ start.found) → IfSome o (RanOver plan (setup_over plan before) start after) → IfSome o (RanDisk plan before after)
+some-disk-ran plan before after start count None table over = tt
+some-disk-ran plan before after start count (Some run) table over = disk-ran plan before after start run count (sym table) over

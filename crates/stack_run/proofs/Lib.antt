@@ -12,6 +12,8 @@ pub mod FreeAgain
 pub mod HandedLemmas
 pub mod Listed
 pub mod LoopLemmas
+pub mod OpeningLemmas
+pub mod PartLemmas
 pub mod PlaceCounts
 pub mod ProbedImage
 pub mod ProbedMedium
@@ -20,6 +22,7 @@ pub mod Read
 pub mod ReportLoops
 pub mod Reported
 pub mod StageLemmas
+pub mod StartLemmas
 pub mod Summing
 pub mod StopLemmas
 pub mod WantedLemmas

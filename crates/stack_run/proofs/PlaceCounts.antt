@@ -1,5 +1,5 @@
 -- No more requests are accepted than the clients have lines.
-use Rattle.std.proofs.Common.{◌≡◌, ℕ, zero, suc, ◌+◌, ◌<◌, ◌≤◌, Bool, true, false, nat_eq, List, [], ◌∷◌, ◌++◌, length, map, sum_by, slice_get, Option, None, Some, refl, sym, ◌∙◌, ap, subst, arith, inl, inr, length-append}
+use Rattle.std.proofs.Common.{◌≡◌, ℕ, zero, suc, ◌+◌, ◌<◌, ◌≤◌, Bool, true, false, nat_eq, List, [], ◌∷◌, length, sum_by, slice_get, Option, None, Some, refl, sym, ap, subst, arith, inl, inr, length-append}
 use Rattle.std.proofs.lemmas.Bool.{eq-eqb, ne_eqb, cases_eq}
 use Rattle.std.proofs.lemmas.List.Sums.{sum_by-cons}
 use Rattle.std.proofs.lemmas.Option.{slice_get_within}
@@ -7,12 +7,13 @@ use Rattle.history.specs.declared.entry.Entry.{Entry}
 use Rattle.history.specs.declared.entry.Entry.TheVariants.{Accept, Refuse, Done, Fault, Collect, Cancel, Reset, Eject, Insert, Protect}
 use Rattle.history.specs.Setup.{Setup}
 use Rattle.history.specs.Tokens.{is_accept, token_count}
-use Rattle.history_laws.proofs.CountLemmas.{accepted-none, accepted-more, accepted-same}
+use Rattle.history_laws.proofs.CountLemmas.{accepted-more, accepted-same}
 use Rattle.shared_disk.specs.Lines.{Role, with_line_entry}
 use Rattle.shared_disk.specs.Script.{Script, Deed, Enters, Does, entries_by, places_by, with_place, MayComeNext, Follows, KeepsScript}
 use Rattle.script_text.specs.declared.language.plans.ClientPlan.{ClientPlan}
 use Rattle.script_text.specs.Planned.{client_lines}
-use Rattle.stack_run.specs.Clients.{script_roles}
+use Rattle.partition_tables.specs.declared.table.Child.{Child}
+use Rattle.stack_run.specs.Clients.{role_in, script_roles}
 
 -- how many lines the clients from i on have done
 abbrev places_from : List Entry → List Deed → ℕ → List Role → ℕ
@@ -119,18 +120,18 @@ few-from opening log i (role ∷ more) each =
     let rest = few-from opening log (i + 1) more (λ k r there. let next : i + suc k ≡ (i + 1) + k = omega arith in subst (λ n. length (places_by opening log n) ≤ length r.orders) next (each (suc k) r there)) in
     omega (arith, first, rest, sum_by-cons (λ (r : Role). length r.orders) role more)
 
-accepted-few : (S : Setup) (d : Script) (places : List (List ℕ)) (H : List Entry) → KeepsScript S d places H → d.opening ≡ [] → token_count H ≤ sum_by (λ (role : Role). length role.orders) d.roles
-accepted-few S d places H keeps begins =
+accepted-few : (S : Setup) (d : Script) (places : List (List ℕ)) (H : List Entry) → KeepsScript S d places H → token_count H ≤ token_count d.opening + sum_by (λ (role : Role). length role.orders) d.roles
+accepted-few S d places H keeps =
     let most = accepted-places S d keeps.log keeps.follows in
     let few = few-from d.opening keeps.log 0 d.roles (λ k role there. let at : k ≡ 0 + k = omega arith in subst (λ n. length (places_by d.opening keeps.log n) ≤ length role.orders) at (few-places S d keeps.log k role keeps.follows there)) in
-    let none : token_count d.opening ≡ 0 = ap token_count begins ∙ accepted-none in
-    omega (arith, most, few, none, ap token_count keeps.history)
+    omega (arith, most, few, ap token_count keeps.history)
 
-lines-same : (clients : List ClientPlan) → sum_by (λ (role : Role). length role.orders) (script_roles clients) ≡ sum_by client_lines clients
-lines-same [] = refl
-lines-same (client ∷ more) = rw (sum_by-cons (λ (role : Role). length role.orders) (Rattle.stack_run.specs.Clients.role_in client) (script_roles more), sum_by-cons client_lines client more, lines-same more) refl
+lines-same : (size : ℕ) (children : List Child) (clients : List ClientPlan) → sum_by (λ (role : Role). length role.orders) (script_roles size children clients) ≡ sum_by client_lines clients
+lines-same size children [] = refl
+lines-same size children (client ∷ more) =
+    rw (sum_by-cons (λ (role : Role). length role.orders) (role_in size children client) (script_roles size children more), sum_by-cons client_lines client more, lines-same size children more) refl
 
--- no more than the lines of a disk
-pub tokens-few : (S : Setup) (d : Script) (places : List (List ℕ)) (H : List Entry) (clients : List ClientPlan) → KeepsScript S d places H → d.opening ≡ [] → d.roles ≡ script_roles clients → token_count H ≤ sum_by client_lines clients
-tokens-few S d places H clients keeps begins roles =
-    omega (arith, accepted-few S d places H keeps begins, ap (sum_by (λ (role : Role). length role.orders)) roles, lines-same clients)
+-- no more than the lines of a disk, beside those of the opening
+pub tokens-few : (S : Setup) (d : Script) (places : List (List ℕ)) (H : List Entry) (size : ℕ) (children : List Child) (clients : List ClientPlan) → KeepsScript S d places H → d.roles ≡ script_roles size children clients → token_count H ≤ token_count d.opening + sum_by client_lines clients
+tokens-few S d places H size children clients keeps roles =
+    omega (arith, accepted-few S d places H keeps, ap (sum_by (λ (role : Role). length role.orders)) roles, lines-same size children clients)

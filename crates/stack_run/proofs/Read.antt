@@ -1,5 +1,5 @@
 -- What of a source was read so far.
-use Rattle.std.proofs.Common.{◌≡◌, ℕ, ◌+◌, ◌<◌, ◌≤◌, ◌⊎◌, IsSome, is_some, get_or, List, [], ◌∷◌, ◌++◌, take, drop, length, Option, None, Some, Result, Ok, Err, true, false, is_ok, refl, sym, ◌∙◌, ap, append_assoc, inl, inr, arith, length-append}
+use Rattle.std.proofs.Common.{◌≡◌, ℕ, ◌+◌, ◌<◌, ◌≤◌, ◌⊎◌, get_or, List, [], ◌∷◌, ◌++◌, take, drop, length, Option, None, Some, Result, Ok, Err, is_ok, refl, sym, ◌∙◌, ap, append_assoc, inl, inr, arith, length-append}
 use Rattle.std.proofs.Math.ListN.{drop_of_length-le}
 use Rattle.std.proofs.Math.Nat.{le_of_lt}
 use Rattle.std.proofs.Math.Seq.{take-append_seam, drop-append_seam}
@@ -8,14 +8,14 @@ use Rattle.std.proofs.lemmas.Bool.{lt-ltb, false≢true, cases_lt}
 use Rattle.image_store.specs.Edge.{Takes, TakesFront}
 use Rattle.script_text.specs.Limits.{most_script_bytes}
 use Rattle.script_text.specs.declared.language.plans.DiskPlan.{DiskPlan}
-use Rattle.script_text.specs.declared.language.plans.ClientPlan.{ClientPlan}
 use Rattle.script_text.specs.declared.language.refusal.Reason.{Reason}
 use Rattle.script_text.specs.declared.language.refusal.Reason.TheVariants.{Size}
 use Rattle.script_text.specs.declared.language.refusal.Reason.TheVariants as why
 use Rattle.script_text.specs.declared.language.reader.ScriptReader.{ScriptReader}
 use Rattle.script_text.specs.Whole.{script_of}
 use Rattle.script_text.specs.Fed.{WasFed}
-use Rattle.stack_run.specs.Said.{some_or, first_part_in, first_part, said_of}
+use Rattle.stack_run.specs.Said.{some_or, first_part, said_of}
+use Rattle.stack_run.specs.Starting.{part_line, AreWhole}
 use Rattle.stack_run.proofs.ChainLemmas.{drop-next}
 use Rattle.stack_run.specs.Serving.{LacksImage}
 use Rattle.image_store.specs.Place.{Image}
@@ -153,24 +153,17 @@ pub three-or-six : {n : ℕ} → (n ≡ 3) ⊎ (n ≡ 6) → (n ≡ 3) ⊎ ((n �
 three-or-six (inl is) = inl is
 three-or-six (inr is) = inr (inr is)
 
--- the clients behind those that are on the whole of their disk
-pub part-next : (clients : List ClientPlan) (i : ℕ) (client : ClientPlan) → i < length clients → client ≡ get_or clients i client → client.part ≡ None → first_part_in (drop i clients) ≡ first_part_in (drop (i + 1) clients)
-unfolding first_part_in
-part-next clients i client inside is none = ap first_part_in (drop-next clients i client inside is) ∙ (rw none refl)
-
-pub part-here : (clients : List ClientPlan) (i : ℕ) (client : ClientPlan) → i < length clients → client ≡ get_or clients i client → IsSome client.part → first_part_in (drop i clients) ≡ Some client.line
-unfolding first_part_in
-part-here clients i client inside is some = ap first_part_in (drop-next clients i client inside is) ∙ by client.part refl some
-  where
-    by : (o : Option ℕ) → client.part ≡ o → IsSome o → first_part_in (client ∷ drop (i + 1) clients) ≡ Some client.line
-    by None at there = absurd (cc)
-    by (Some part) at there = rw at refl
-
 -- so of disks
-pub disk-part : (disks : List DiskPlan) (i : ℕ) (disk : DiskPlan) → i < length disks → disk ≡ get_or disks i disk → first_part (drop i disks) ≡ some_or (first_part_in disk.clients) (first_part (drop (i + 1) disks))
+pub disk-part : (disks : List DiskPlan) (i : ℕ) (disk : DiskPlan) → i < length disks → disk ≡ get_or disks i disk → first_part (drop i disks) ≡ some_or (part_line disk) (first_part (drop (i + 1) disks))
 unfolding first_part
 disk-part disks i disk inside is = ap first_part (drop-next disks i disk inside is)
 
-pub none-of : (o : Option ℕ) → is_some o ≡ false → o ≡ None
-none-of None is = refl
-none-of (Some part) is = absurd (cc)
+no-part-by : (disk : DiskPlan) (more : List DiskPlan) (o : Option ℕ) → part_line disk ≡ o → some_or o (first_part more) ≡ None → (first_part more ≡ None → AreWhole more) → AreWhole (disk ∷ more)
+unfolding AreWhole
+no-part-by disk more None is none rest = (is, rest none)
+no-part-by disk more (Some line) is none rest = absurd (cc)
+
+pub no-part : (disks : List DiskPlan) → first_part disks ≡ None → AreWhole disks
+unfolding first_part AreWhole
+no-part [] none = tt
+no-part (disk ∷ more) none = no-part-by disk more (part_line disk) refl none (λ rest. no-part more rest)

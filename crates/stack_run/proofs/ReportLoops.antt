@@ -7,7 +7,7 @@ use Rattle.script_text.specs.declared.language.plans.DiskPlan.{DiskPlan}
 use Rattle.script_text.specs.Report.{givens_of}
 use Rattle.stack_run.specs.declared.desk_run.Run.{Run}
 use Rattle.stack_run.specs.Media.{IsLeft}
-use Rattle.stack_run.specs.Serving.{DiskHasRun, AreReports, disk_report}
+use Rattle.stack_run.specs.Serving.{DiskHasRun, AreReports, disk_report, table_lines}
 use Rattle.stack_run.specs.Stages.{HasRunAs, AllRan}
 use Rattle.stack_run.specs.Reporting.{IsReportable, AreReportable, TellsDisk, IsWrittenSo}
 use Rattle.stack_run.proofs.ChainLemmas.{Names, drop-next}
@@ -23,7 +23,7 @@ pub record SoFar (plans : List DiskPlan) (runs : List Run) (i : ℕ) (wrote wrot
 abbrev pub Writes : List DiskPlan → List Run → ℕ → Option (List ℕ) → Option (List ℕ) → Type 0
 Writes plans runs i wrote wrote' = (at at' : Names) → AllRan plans at at' runs → SoFar plans runs i wrote wrote' at at'
 
-appends-nothing : (wrote : Option (List ℕ)) → Appends wrote wrote []
+pub appends-nothing : (wrote : Option (List ℕ)) → Appends wrote wrote []
 unfolding Appends
 appends-nothing None = refl
 appends-nothing (Some bytes) = ap Some (sym (append-nil bytes))
@@ -36,10 +36,10 @@ writes-none plans runs wrote at at' ran = record { front = []; added = appends-n
 
 -- the run of a disk, without what its writer needs
 abbrev pub run-of : (plan : DiskPlan) (at at' : Names) (run : Run) → HasRunAs plan at at' run → DiskHasRun IsLeft plan at at'
-run-of plan at at' run ran = record { setup = ran.setup; history = run.history.entries; given = givens_of run.ends.items; opened = ran.opened; ran = ran.ran; images = ran.images }
+run-of plan at at' run ran = record { setup = ran.setup; start = ran.start; history = run.history.entries; given = givens_of run.ends.items; opened = ran.opened; ran = ran.ran; images = ran.images }
 
 abbrev pub text-of : (number : ℕ) (plan : DiskPlan) (at at' : Names) (run : Run) → HasRunAs plan at at' run → List ℕ
-text-of number plan at at' run ran = disk_report number plan ran.setup [] run.history.entries (givens_of run.ends.items)
+text-of number plan at at' run ran = disk_report number plan ran.setup (table_lines ran.start.found) run.history.entries (givens_of run.ends.items)
 
 -- all disks that are left have reports
 reports-exist : (number : ℕ) (plans : List DiskPlan) (runs : List Run) (at at' : Names) → AllRan plans at at' runs → (text : List ℕ) × AreReports number plans at at' text
@@ -64,7 +64,7 @@ module _ (plans : List DiskPlan) (runs : List Run) (i n : ℕ) (plan : DiskPlan)
   unfolding AreReports
   leads-on at at' far ran rest reports =
       let here : AreReports (i + 1) (plan ∷ drop (i + 1) plans) at at' (text-of n plan at at' run ran ++ rest) =
-      (rest, record { run = run-of plan at at' run ran; is = ap (λ k. disk_report k plan ran.setup [] run.history.entries (givens_of run.ends.items) ++ rest) number }, reports) in
+      (rest, record { run = run-of plan at at' run ran; is = ap (λ k. disk_report k plan ran.setup (table_lines ran.start.found) run.history.entries (givens_of run.ends.items) ++ rest) number }, reports) in
       far.leads (text-of n plan at at' run ran ++ rest) (subst (λ l. AreReports (i + 1) l at at' (text-of n plan at at' run ran ++ rest)) (sym (drop-next plans i plan inside is)) here)
 
   -- one more report
@@ -121,4 +121,5 @@ reportable-count (p ∷ plans) (r ∷ runs) are = omega (arith, reportable-count
 
 -- what the writer of one disk's report tells
 pub told-of : (number : ℕ) (plan : DiskPlan) (at at' : Names) (run : Run) (P : List ℕ → Type 0) (ran : HasRunAs plan at at' run) → TellsDisk number plan run P → P (text-of number plan at at' run ran)
-told-of number plan at at' run P ran tells = tells ran.setup ran.opened.geometry ran.blocks ran.ends
+told-of number plan at at' run P ran tells =
+    subst (λ table. P (disk_report number plan ran.setup (table_lines table) run.history.entries (givens_of run.ends.items))) (sym ran.table) (tells ran.setup ran.opened.geometry ran.blocks ran.ends)

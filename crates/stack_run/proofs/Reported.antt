@@ -67,14 +67,14 @@ first-of (o ∷ media) d some = refl
 pub first-blocks : (S : Setup) (blocks : List ℕ) (d : ℕ) → blocks ≡ blocks_in S → 0 < length blocks → get_or blocks 0 d ≡ blocks_of S 1
 first-blocks S blocks d are some = ap (λ l. get_or l 0 d) are ∙ first-of S.media d (subst (λ l. 0 < length l) are some)
 
--- the report of a disk is its first line and the lines behind it
-pub report-parts : (number : ℕ) (plan : DiskPlan) (S : Setup) (blocks : List ℕ) (first : ℕ) (H : List Entry) (given : List (Option (List ℕ))) → S.geometry ≡ groups_of plan → blocks ≡ blocks_in S → first ≡ blocks_of S 1
-    → disk_report number plan S [] H given ≡ head_text number plan.image plan.size first plan.physical ++ body_text S H given (kept_media plan.size (media_names plan) blocks)
+-- the report of a disk is its first line, the lines of its table, and the lines behind them
+pub report-parts : (number : ℕ) (plan : DiskPlan) (S : Setup) (table : List ℕ) (blocks : List ℕ) (first : ℕ) (H : List Entry) (given : List (Option (List ℕ))) → S.geometry ≡ groups_of plan → blocks ≡ blocks_in S → first ≡ blocks_of S 1
+    → disk_report number plan S table H given ≡ head_text number plan.image plan.size first plan.physical ++ (table ++ body_text S H given (kept_media plan.size (media_names plan) blocks))
 unfolding disk_report
-report-parts number plan S blocks first H given is are one =
-    ap (λ (g : Geometry). head_text number plan.image g.size (blocks_of S 1) g.per ++ body_text S H given (kept_media g.size (media_names plan) (blocks_in S))) is
-    ∙ (ap (λ n. head_text number plan.image plan.size n plan.physical ++ body_text S H given (kept_media plan.size (media_names plan) (blocks_in S))) (sym one)
-    ∙ ap (λ l. head_text number plan.image plan.size first plan.physical ++ body_text S H given (kept_media plan.size (media_names plan) l)) (sym are))
+report-parts number plan S table blocks first H given is are one =
+    ap (λ (g : Geometry). head_text number plan.image g.size (blocks_of S 1) g.per ++ (table ++ body_text S H given (kept_media g.size (media_names plan) (blocks_in S)))) is
+    ∙ (ap (λ n. head_text number plan.image plan.size n plan.physical ++ (table ++ body_text S H given (kept_media plan.size (media_names plan) (blocks_in S)))) (sym one)
+    ∙ ap (λ l. head_text number plan.image plan.size first plan.physical ++ (table ++ body_text S H given (kept_media plan.size (media_names plan) l))) (sym are))
 
 pub per-is : (plan : DiskPlan) (S : Setup) → S.geometry ≡ groups_of plan → per_of S ≡ plan.physical
 per-is plan S is = ap (λ (g : Geometry). g.per) is

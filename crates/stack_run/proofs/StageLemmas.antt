@@ -1,5 +1,5 @@
 -- Images that were taken, run over, and put back: what that is for each disk of a script.
-use Rattle.std.proofs.Common.{◌≡◌, ℕ, ◌+◌, ◌%◌, ◌⊎◌, inl, inr, Bool, true, false, ◌&&◌, nat_eq, if◌then◌else◌, List, [], ◌∷◌, ◌++◌, map, length, Option, Some, Result, Ok, Err, bytes_eq, Decides, refl, sym, ◌∙◌, ap, subst, arith, length-append}
+use Rattle.std.proofs.Common.{◌≡◌, ℕ, ◌+◌, ◌%◌, ◌⊎◌, inl, inr, Bool, true, false, ◌&&◌, nat_eq, if◌then◌else◌, List, [], ◌∷◌, ◌++◌, map, length, Option, Some, Result, Ok, Err, bytes_eq, Decides, refl, sym, ◌∙◌, ap, subst, arith}
 use Rattle.std.specs.List.{AllByRecursion}
 use Rattle.std.proofs.lemmas.Bool.{false≢true}
 use Rattle.std.proofs.lemmas.Slice.Eq.{bytes_eq-Decides}
@@ -169,6 +169,8 @@ all-ran-so (plan ∷ plans) before after (run ∷ runs) at mid at' takes (own, o
       record {
         setup = setup_over plan own;
         opened = setup-of-disk plan own at mid took;
+        start = disk.start;
+        table = disk.table;
         ran = disk.ran;
         images = each-medium plan (setup_over plan own) run.history.entries refl at mid at' PutsBack (IsLeft (setup_over plan own) run.history.entries) (λ k w d d' old m new. is-left (setup_over plan own) run.history.entries k w d d' old m new) (media_names plan) 1 own own' took disk.media put;
         ends = disk.ends;
@@ -196,6 +198,7 @@ module _ (s : Bool) (Ends : Setup → List Entry → ℕ → Image → Image →
           history = run.history.entries;
           given = givens_of run.ends.items;
           opened = setup-of-disk plan own at mid took;
+          start = disk.start;
           ran = disk.ran;
           images = each-medium plan (setup_over plan own) run.history.entries refl at mid at' (PutsOr s) (Ends (setup_over plan own) run.history.entries) (each (setup_over plan own) run.history.entries) (media_names plan) 1 own own' took disk.media put;
         },
@@ -231,6 +234,7 @@ part-ran-so (plan ∷ plans) before after s at mid at' takes (own, own', rest, r
         setup = setup_over plan own;
         history = disk.history;
         opened = setup-of-disk plan own at mid took;
+        start = disk.start;
         part = disk.part;
         images = each-medium plan (setup_over plan own) disk.history refl at mid at' (PutsOr s) (IsLeftOrGone (setup_over plan own) disk.history) (gone-each s (setup_over plan own) disk.history) (media_names plan) 1 own own' took disk.media put;
       },

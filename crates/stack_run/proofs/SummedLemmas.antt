@@ -1,16 +1,15 @@
 -- The run of a generated script over an image of zeros, and its summary.
-use Rattle.std.proofs.Common.{◌≡◌, ℕ, ◌*◌, ◌^◌, ◌<◌, ◌≤◌, List, [], ◌∷◌, length, map, slice_get, get_or, Option, Some, Ok, refl, sym, ◌∙◌, ap, subst, arith, replicate, nat_le, true, false, All, ◌&&◌}
-use Rattle.std.specs.Prelude.{string_bytes}
+use Rattle.std.proofs.Common.{◌≡◌, ℕ, ◌*◌, ◌≤◌, List, [], ◌∷◌, length, map, slice_get, get_or, Option, None, Some, Ok, refl, sym, ◌∙◌, ap, subst, arith, replicate, nat_le, true, false, All, ◌&&◌}
+use Rattle.std.specs.Prelude.{is_none}
 use Rattle.std.proofs.lemmas.Bool.Decides.{nat_tests}
 use Rattle.crc_table.specs.Crc32.{crc32_of}
 use Rattle.medium.specs.Device.{Device}
 use Rattle.drive.specs.Drives.{DriveState, FitTheDrive}
 use Rattle.disk_core.specs.State.{setup_of, opening_from}
-use Rattle.history.specs.declared.entry.Entry.{Entry}
 use Rattle.history.specs.Setup.{Setup}
-use Rattle.history.specs.Contents.{contents}
 use Rattle.history.specs.Room.{faults}
 use Rattle.history_laws.proofs.OneMediumLemmas.{faults-alone}
+use Rattle.script_text.specs.declared.language.plans.ClientPlan.{ClientPlan}
 use Rattle.script_text.specs.declared.language.plans.DiskPlan.{DiskPlan}
 use Rattle.script_text.specs.Whole.{script_of}
 use Rattle.script_text.proofs.Chains.{both_true, ok_same}
@@ -18,15 +17,44 @@ use Rattle.script_text.specs.Fitting.{IsDiskPlan, AreDisks}
 use Rattle.script_text.specs.Limits.{most_script_bytes}
 use Rattle.script_text.specs.Planned.{disk_lines, planned_lines}
 use Rattle.stack_run.specs.declared.desk_run.Run.{Run}
-use Rattle.stack_run.specs.Generated.{generated_text, generated_disk, IsGeneratedScript}
-use Rattle.stack_run.specs.GeneratedRun.{IsOneDisk, zero_setup, image_setup, RanFaultless, IsSumOf, IsSummed}
-use Rattle.stack_run.specs.Runs.{RanOver, Follow}
+use Rattle.stack_run.specs.Generated.{are_whole, generated_text, generated_disk, IsGeneratedScript}
+use Rattle.stack_run.specs.GeneratedRun.{IsOneDisk, zero_setup, image_setup, IsSumOf, IsSummed}
+use Rattle.stack_run.specs.Clients.{unprobed}
+use Rattle.stack_run.specs.Parts.{first_missing}
+use Rattle.stack_run.specs.Starting.{part_line, AreWhole}
+use Rattle.stack_run.specs.Runs.{RanOver}
 use Rattle.stack_run.specs.Summary.{summary_text}
 use Rattle.stack_run.specs.Words.{are_counts}
 
 -- what a script says is the one disk
 pub one-disk : (text : List ℕ) (plans : List DiskPlan) → IsGeneratedScript text → script_of text ≡ Ok plans → IsOneDisk plans
 one-disk text plans script says = (script.clients, ok_same plans (generated_disk script.clients ∷ []) (sym says ∙ script.says))
+
+-- each of whose clients is on the whole of it
+whole-next : (client : ClientPlan) (more : List ClientPlan) (o : Option ℕ) → client.part ≡ o → (is_none o && are_whole more) ≡ true → (are_whole more ≡ true → first_missing 512 [] more ≡ None) → first_missing 512 [] (client ∷ more) ≡ None
+unfolding first_missing
+whole-next client more None is whole rest = rw is (rest whole)
+whole-next client more (Some part) is whole rest = absurd (cc)
+
+whole-clients : (clients : List ClientPlan) → are_whole clients ≡ true → first_missing 512 [] clients ≡ None
+unfolding first_missing
+whole-clients [] whole = refl
+whole-clients (client ∷ more) whole = whole-next client more client.part refl whole (λ rest. whole-clients more rest)
+
+pub whole-disk : (text : List ℕ) (plans : List DiskPlan) → IsGeneratedScript text → script_of text ≡ Ok plans → AreWhole plans
+unfolding AreWhole
+whole-disk text plans script says =
+    let one : plans ≡ generated_disk script.clients ∷ [] = ok_same plans (generated_disk script.clients ∷ []) (sym says ∙ script.says) in
+    subst AreWhole (sym one) (whole-clients script.clients script.whole, tt)
+
+pub plan-whole : (plans : List DiskPlan) (plan : DiskPlan) → plans ≡ plan ∷ [] → AreWhole plans → part_line plan ≡ None
+unfolding AreWhole
+plan-whole plans plan one whole = let all : AreWhole (plan ∷ []) = subst AreWhole one whole in all.0
+
+-- a disk over zeros has one medium
+pub one-zero : (blocks n : ℕ) → n ≡ length (zero_setup blocks).media → n ≡ 1
+unfolding zero_setup
+one-zero blocks n is = is
 
 -- the item of a list of one
 pub only-item : {X : Type 0} (xs : List X) (x : X) → length xs ≡ 1 → x ≡ get_or xs 0 x → xs ≡ x ∷ []
@@ -69,7 +97,7 @@ pub summed-more : (number clients lines : ℕ) (P Q : List ℕ → Type 0) → (
 summed-more number clients lines P Q more summed = record { plan = summed.plan; script = summed.script; sum = sum-more summed.plan image_setup P Q more summed.sum }
 
 -- over a medium that never fails
-pub ran-over : (plan : DiskPlan) (S : Setup) (after : List Device) (d : Device) (run : Run) (image text : List ℕ) → RanOver plan S after run → after ≡ d ∷ [] → d.failed ≡ 0 → d.now ≡ Some image → text ≡ summary_text S run.history.entries (crc32_of image) → IsSumOf plan S (λ all. text ≡ all)
+pub ran-over : (plan : DiskPlan) (S : Setup) (after : List Device) (d : Device) (run : Run) (image text : List ℕ) → RanOver plan S unprobed after run → after ≡ d ∷ [] → d.failed ≡ 0 → d.now ≡ Some image → text ≡ summary_text S run.history.entries (crc32_of image) → IsSumOf plan S (λ all. text ≡ all)
 ran-over plan S after d run image text over are failed now is =
     let H = run.history.entries in
     let meets = over.follow.each 0 d (ap (λ l. slice_get l 0) are) in

@@ -14,6 +14,7 @@ use Rattle.script_text.specs.Whole.{script_of}
 use Rattle.stack_run.specs.Generated.{generated_text, generated_disk}
 use Rattle.stack_run.specs.declared.refusal.Refusal.TheVariants.{Memory}
 use Rattle.stack_run.specs.Program.{refusal_text, WritesLine}
+use Rattle.stack_run.specs.Clients.{unprobed}
 use Rattle.stack_run.specs.Runs.{RanPlain}
 use Rattle.stack_run.specs.Summary.{summary_text}
 
@@ -36,7 +37,7 @@ image_setup = zero_setup 2048
 -- the plain run of a disk's lines, in which no command failed, and the image behind it
 pub record RanFaultless (plan : DiskPlan) (S : Setup) (H : List Entry) (image : List ℕ) : Type 0 where
   pub given : List (Option (List ℕ))
-  pub ran : RanPlain plan S [] H given
+  pub ran : RanPlain plan S unprobed H given
   pub faultless : faults H ≡ 0
   pub left : contents S 1 H ≡ Some image
 

@@ -6,6 +6,7 @@ pub mod Generated
 pub mod GeneratedRun
 pub mod Listing
 pub mod Media
+pub mod Parts
 pub mod Probing
 pub mod Program
 pub mod Reading
@@ -15,4 +16,5 @@ pub mod Said
 pub mod Serving
 pub mod Summary
 pub mod Stages
+pub mod Starting
 pub mod Words

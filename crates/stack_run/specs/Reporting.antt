@@ -7,7 +7,7 @@ use Rattle.script_text.specs.declared.language.plans.DiskPlan.{DiskPlan}
 use Rattle.script_text.specs.Report.{givens_of, AreEnds}
 use Rattle.stack_run.specs.declared.desk_run.Run.{Run}
 use Rattle.stack_run.specs.Media.{media_names, groups_of}
-use Rattle.stack_run.specs.Serving.{blocks_in, disk_report, AreReports}
+use Rattle.stack_run.specs.Serving.{blocks_in, disk_report, table_lines, AreReports}
 use Rattle.stack_run.specs.Stages.{AllRan}
 
 -- the name of the medium at a place, from 0
@@ -29,7 +29,7 @@ AreReportable (plan ∷ plans) (run ∷ runs) = IsReportable plan run × AreRepo
 abbrev pub TellsDisk : ℕ → DiskPlan → Run → (List ℕ → Type 0) → Type 0
 TellsDisk number plan run Writes =
     (S : Setup) → S.geometry ≡ groups_of plan → run.blocks.items ≡ blocks_in S → AreEnds S run.history.entries run.ends.items
-    → Writes (disk_report number plan S [] run.history.entries (givens_of run.ends.items))
+    → Writes (disk_report number plan S (table_lines run.table) run.history.entries (givens_of run.ends.items))
 
 -- the reports of disks that ran so
 pub record IsWrittenSo (plans : List DiskPlan) (at at' : List ℕ → Image) (Writes : List ℕ → Type 0) : Type 0 where

@@ -16,16 +16,17 @@ use Rattle.script_text.specs.declared.language.plans.DiskPlan.{DiskPlan}
 use Rattle.script_text.specs.Report.{givens_of, AreEnds, AreGiven}
 use Rattle.stack_run.specs.declared.desk_run.Run.{Run}
 use Rattle.stack_run.specs.Media.{groups_of}
-use Rattle.stack_run.specs.Clients.{script_roles, script_in}
+use Rattle.stack_run.specs.Clients.{Start, script_in}
+use Rattle.stack_run.specs.Starting.{IsStart}
 
--- a legal history that begins with the opening one and runs the whole script of the disk's clients by the plain schedule, with its own
--- outcomes, of the lines alone where no command failed; and this is what its reads gave
-pub record RanPlain (plan : DiskPlan) (S : Setup) (opening H : List Entry) (given : List (Option (List ℕ))) : Type 0 where
-  pub begins : opening ≡ []
+-- a legal history that begins with the start's and runs the whole script of the disk's clients by the plain schedule, with its own
+-- outcomes, of the lines and the start alone where no command failed; and this is what its reads gave
+pub record RanPlain (plan : DiskPlan) (S : Setup) (start : Start) (H : List Entry) (given : List (Option (List ℕ))) : Type 0 where
+  pub begins : IsStart plan S start
   pub legal : IsLegal S H
-  pub whole : RunsWholeScript S (script_in plan opening) H
-  pub plain : IsPlain S (script_in plan opening) H
-  pub faultless : IsFaultlessPlain S (script_in plan opening) H
+  pub whole : RunsWholeScript S (script_in plan start) H
+  pub plain : IsPlain S (script_in plan start) H
+  pub faultless : IsFaultlessPlain S (script_in plan start) H
   pub reads : AreGiven S H given
 
 -- some client's next line may want memory, where they have done so many lines
@@ -33,13 +34,13 @@ abbrev pub WantsMore : List Role → List (List ℕ) → Type 0
 WantsMore roles places = (i : ℕ) × (order : Order) × (next_order roles i (length (places_at places i)) ≡ Some order) × (wants_memory order ≡ true)
 
 -- what want of memory leaves of it: a front of a plain run, which keeps the script; nothing was done, or a line that is left may want memory
-pub record RanInPart (plan : DiskPlan) (S : Setup) (opening H : List Entry) : Type 0 where
-  pub begins : opening ≡ []
+pub record RanInPart (plan : DiskPlan) (S : Setup) (start : Start) (H : List Entry) : Type 0 where
+  pub begins : IsStart plan S start
   pub legal : IsLegal S H
   pub places : List (List ℕ)
-  pub keeps : KeepsScript S (script_in plan opening) places H
-  pub front : IsPlainFront S (script_in plan opening) H
-  pub short : (H ≡ []) ⊎ WantsMore (script_roles plan.clients) places
+  pub keeps : KeepsScript S (script_in plan start) places H
+  pub front : IsPlainFront S (script_in plan start) H
+  pub short : (H ≡ start.entries) ⊎ WantsMore (script_in plan start).roles places
 
 -- the setup of a disk over these media
 abbrev pub setup_over : DiskPlan → List Device → Setup
@@ -63,23 +64,25 @@ pub record Follow (S : Setup) (H : List Entry) (after : List Device) : Type 0 wh
   pub each : (i : ℕ) (d : Device) → slice_get after i ≡ Some d → MeetsEra S H (suc i) d
 
 -- the lines of a disk with this setup ran
-pub record RanOver (plan : DiskPlan) (S : Setup) (after : List Device) (run : Run) : Type 0 where
-  pub ran : RanPlain plan S [] run.history.entries (givens_of run.ends.items)
+pub record RanOver (plan : DiskPlan) (S : Setup) (start : Start) (after : List Device) (run : Run) : Type 0 where
+  pub ran : RanPlain plan S start run.history.entries (givens_of run.ends.items)
   pub ends : AreEnds S run.history.entries run.ends.items
   pub follow : Follow S run.history.entries after
   pub blocks : run.blocks.items ≡ map (λ d. d.blocks) after
   pub fits : AllByRecursion (λ d. d.blocks * d.size < 2 ^ 64) after
 
 -- some of them ran, or none
-pub record RanSomeOver (plan : DiskPlan) (S : Setup) (after : List Device) : Type 0 where
+pub record RanSomeOver (plan : DiskPlan) (S : Setup) (start : Start) (after : List Device) : Type 0 where
   pub history : List Entry
-  pub part : RanInPart plan S [] history
+  pub part : RanInPart plan S start history
   pub follow : Follow S history after
 
 -- the lines of a disk ran over its media
 pub record RanDisk (plan : DiskPlan) (before after : List Device) (run : Run) : Type 0 where
   pub count : length before ≡ length plan.spares + 1
-  pub ran : RanPlain plan (setup_over plan before) [] run.history.entries (givens_of run.ends.items)
+  pub start : Start
+  pub table : start.found ≡ run.table
+  pub ran : RanPlain plan (setup_over plan before) start run.history.entries (givens_of run.ends.items)
   pub ends : AreEnds (setup_over plan before) run.history.entries run.ends.items
   pub media : AreEras (setup_over plan before) run.history.entries 1 before after
   pub blocks : run.blocks.items ≡ map (λ d. d.blocks) before
@@ -88,8 +91,9 @@ pub record RanDisk (plan : DiskPlan) (before after : List Device) (run : Run) : 
 -- some of them ran, or none
 pub record RanSome (plan : DiskPlan) (before after : List Device) : Type 0 where
   pub count : length before ≡ length plan.spares + 1
+  pub start : Start
   pub history : List Entry
-  pub part : RanInPart plan (setup_over plan before) [] history
+  pub part : RanInPart plan (setup_over plan before) start history
   pub media : AreEras (setup_over plan before) history 1 before after
 
 -- these are the media of the first disk, and then the others

@@ -3,29 +3,19 @@ use Rattle.std.specs.Prelude.{ℕ, List, [], ◌∷◌, Option, None, Some, Resu
 use Rattle.script_text.specs.declared.language.refusal.Reason.{Reason}
 use Rattle.script_text.specs.declared.language.refusal.Reason.TheVariants as why
 use Rattle.script_text.specs.declared.language.plans.DiskPlan.{DiskPlan}
-use Rattle.script_text.specs.declared.language.plans.ClientPlan.{ClientPlan}
 use Rattle.script_text.specs.Replies.{◌>>=◌}
 use Rattle.script_text.specs.Whole.{script_of}
+use Rattle.stack_run.specs.Starting.{part_line}
 
 -- the first of two lines, or else the other
 abbrev pub some_or : Option ℕ → Option ℕ → Option ℕ
 some_or None later = later
 some_or (Some line) later = Some line
 
--- the line that begins a client, where it is on a partition
-abbrev pub line_where : Option ℕ → ℕ → Option ℕ
-line_where None line = None
-line_where (Some part) line = Some line
-
 -- the line of the first client on a partition
-unfoldable pub first_part_in : List ClientPlan → Option ℕ
-first_part_in [] = None
-first_part_in (client ∷ more) = some_or (line_where client.part client.line) (first_part_in more)
-
--- so of all disks
 unfoldable pub first_part : List DiskPlan → Option ℕ
 first_part [] = None
-first_part (disk ∷ more) = some_or (first_part_in disk.clients) (first_part more)
+first_part (disk ∷ more) = some_or (part_line disk) (first_part more)
 
 abbrev pub refusal_at : Option ℕ → List DiskPlan → Result (List DiskPlan) (ℕ × Reason)
 refusal_at None plans = Ok plans

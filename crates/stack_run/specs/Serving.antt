@@ -1,17 +1,20 @@
 -- What the disks of a script did, and what they left (own profile).
-use Rattle.std.specs.Prelude.{◌≡◌, ◌≢◌, ℕ, ◌+◌, ◌*◌, ◌⊎◌, List, [], ◌∷◌, ◌++◌, map, Option}
+use Rattle.std.specs.Prelude.{◌≡◌, ◌≢◌, ℕ, ◌+◌, ◌*◌, ◌⊎◌, List, [], ◌∷◌, ◌++◌, map, Option, None, Some}
 use Rattle.std.specs.List.{AllByRecursion}
 use Rattle.medium.specs.Counts.{Rose}
 use Rattle.history.specs.declared.entry.Entry.{Entry}
 use Rattle.history.specs.Setup.{Setup, size_of, per_of, blocks_of}
 use Rattle.image_store.specs.Place.{Image}
+use Rattle.partition_tables.specs.declared.table.Table.{Table}
 use Rattle.script_text.specs.declared.language.plans.DiskPlan.{DiskPlan}
 use Rattle.script_text.specs.declared.report.parts.KeptMedium.{KeptMedium}
 use Rattle.script_text.specs.Fitting.{images_of}
 use Rattle.script_text.specs.Report.{head_text, body_text}
+use Rattle.script_text.specs.Tables.{table_text}
 use Rattle.stack_run.specs.declared.wanted.Wanted.{Wanted}
 use Rattle.stack_run.specs.Media.{media_names, wanted_of, IsSetupOf, IsLostPlace, IsLeft, IsLeftOrLost, IsLeftOrGone, EachMedium, IsBackOrLost, IsBackOrGone, IsUnmade, MayHaveBlocks, HasBlocks, ChangesAmong}
 use Rattle.stack_run.specs.Chains.{LacksOne}
+use Rattle.stack_run.specs.Clients.{Start}
 use Rattle.stack_run.specs.Runs.{RanPlain, RanInPart}
 
 -- the media of a report: their images, and their lengths in bytes
@@ -34,7 +37,8 @@ pub record DiskHasRun (Ends : Setup → List Entry → ℕ → Image → Image �
   pub history : List Entry
   pub given : List (Option (List ℕ))
   pub opened : IsSetupOf plan at setup
-  pub ran : RanPlain plan setup [] history given
+  pub start : Start
+  pub ran : RanPlain plan setup start history given
   pub images : EachMedium (Ends setup history) 1 (media_names plan) at at'
 
 -- or some of them, or none
@@ -42,13 +46,19 @@ pub record HasRunInPart (plan : DiskPlan) (at at' : List ℕ → Image) : Type 0
   pub setup : Setup
   pub history : List Entry
   pub opened : IsSetupOf plan at setup
-  pub part : RanInPart plan setup [] history
+  pub start : Start
+  pub part : RanInPart plan setup start history
   pub images : EachMedium (IsLeftOrGone setup history) 1 (media_names plan) at at'
 
--- this is the report of a disk that was not probed, and then this rest
+-- the lines of a table, where the disk was probed
+abbrev pub table_lines : Option Table → List ℕ
+table_lines None = []
+table_lines (Some table) = table_text table
+
+-- this is the report of a disk, and then this rest
 pub record IsReport (number : ℕ) (plan : DiskPlan) (at at' : List ℕ → Image) (text rest : List ℕ) : Type 0 where
   pub run : DiskHasRun IsLeft plan at at'
-  pub is : text ≡ disk_report number plan run.setup [] run.history run.given ++ rest
+  pub is : text ≡ disk_report number plan run.setup (table_lines run.start.found) run.history run.given ++ rest
 
 -- the reports of all disks, the first of which has this number
 unfoldable pub AreReports : ℕ → List DiskPlan → (List ℕ → Image) → (List ℕ → Image) → List ℕ → Type 0

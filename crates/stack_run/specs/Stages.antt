@@ -9,6 +9,7 @@ use Rattle.stack_run.specs.declared.desk_run.Run.{Run}
 use Rattle.stack_run.specs.declared.refusal.NotRun.{NotRun}
 use Rattle.stack_run.specs.declared.wanted.Wanted.{Wanted}
 use Rattle.stack_run.specs.Media.{media_names, IsSetupOf, IsLeft, EachMedium}
+use Rattle.stack_run.specs.Clients.{Start}
 use Rattle.stack_run.specs.Runs.{RanPlain}
 use Rattle.stack_run.specs.Serving.{blocks_in, NotTaken, NotPutBack, MemoryLeaves}
 
@@ -16,7 +17,9 @@ use Rattle.stack_run.specs.Serving.{blocks_in, NotTaken, NotPutBack, MemoryLeave
 pub record HasRunAs (plan : DiskPlan) (at at' : List ℕ → Image) (run : Run) : Type 0 where
   pub setup : Setup
   pub opened : IsSetupOf plan at setup
-  pub ran : RanPlain plan setup [] run.history.entries (givens_of run.ends.items)
+  pub start : Start
+  pub table : start.found ≡ run.table
+  pub ran : RanPlain plan setup start run.history.entries (givens_of run.ends.items)
   pub images : EachMedium (IsLeft setup run.history.entries) 1 (media_names plan) at at'
   pub ends : AreEnds setup run.history.entries run.ends.items
   pub blocks : run.blocks.items ≡ blocks_in setup

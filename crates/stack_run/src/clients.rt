@@ -3,10 +3,12 @@ ghost use Rattle.script_text.specs.Planned.{client_lines};
 ghost use Rattle.shared_disk.specs.Lines.{role_of, roles_of};
 ghost use Rattle.stack_run.specs.Clients.{role_in, script_roles};
 
+use crate::parts::stand_in;
 use byte_lists::Bytes;
 use history::{Order, Payload};
+use partition_tables::Child;
 use script_text::ClientPlan;
-use shared_disk::{Client, Stand};
+use shared_disk::Client;
 use std::alloc::{AllocError, Global};
 
 // A copy of what a line brings. The error is want of memory.
@@ -62,24 +64,36 @@ fn orders_copy(alloc: Global, orders: &[Order]) -> Result<Vec<Order>, AllocError
     Ok(copy)
 }
 
-// A client on the whole disk, with copies of its lines. The error is want of memory.
-fn client_in(alloc: Global, plan: &ClientPlan) -> Result<Client, AllocError>
-    ensures { IfOk result (λ client. role_of client ≡ role_in plan.now) }
+// A client on its part of a disk, with copies of its lines. The error is want of memory.
+fn client_in(
+    alloc: Global,
+    children: &[Child],
+    size: u32,
+    plan: &ClientPlan,
+) -> Result<Client, AllocError>
+    ensures { IfOk result (λ client. role_of client ≡ role_in size children.now plan.now) }
 {
     let orders = orders_copy(alloc, plan.orders.as_slice())?;
     Ok(Client {
-        stand: Stand::Whole,
+        stand: stand_in(children, size, plan.part),
         orders,
     })
 }
 
-// The clients of a disk, each on the whole of it, with copies of their lines. The error is want of memory.
-pub fn clients_in(alloc: Global, plans: &[ClientPlan]) -> Result<Vec<Client>, AllocError>
-    ensures { IfOk result (λ clients. roles_of clients.items ≡ script_roles plans.now) }
+// The clients of a disk with these children, each on its part of it, with copies of their lines. The error is want of
+// memory.
+pub fn clients_in(
+    alloc: Global,
+    children: &[Child],
+    size: u32,
+    plans: &[ClientPlan],
+) -> Result<Vec<Client>, AllocError>
+    ensures { IfOk result (λ clients. roles_of clients.items
+        ≡ script_roles size children.now plans.now) }
 {
     let mut clients = Vec::with_capacity(alloc, plans.len())?;
     for plan in plans {
-        clients.push(client_in(alloc, plan)?)?;
+        clients.push(client_in(alloc, children, size, plan)?)?;
     }
     Ok(clients)
 }

@@ -5,8 +5,10 @@ ghost use Rattle.script_text.specs.Planned.{disk_lines, planned_lines};
 ghost use Rattle.stack_run.specs.Media.{wanted_of};
 ghost use Rattle.stack_run.specs.Chains.{AreMade, IsMediumOf};
 ghost use Rattle.stack_run.specs.Runs.{RanDisk, RanSome, RanAll, RunsStop};
+ghost use Rattle.stack_run.specs.Starting.{part_line, AreWhole};
 
 use crate::desk_run::{Run, run_desk};
+use disk_core::{Disk, NotMade};
 use drive::Drive;
 use medium::Medium;
 use script_text::DiskPlan;
@@ -18,6 +20,7 @@ fn run_disk<M: Medium>(alloc: Global, plan: &DiskPlan, media: Vec<M>) -> (Vec<M>
     requires lines { disk_lines plan.now ≤ most_script_bytes }
     requires count { length media.items ≡ length plan.now.spares + 1 }
     requires made { All (λ m. IsMediumOf plan.now (M.device m)) media.items }
+    requires whole { part_line plan.now ≡ None }
     ensures over { IfSome result.1 (λ run. RanDisk plan.now (map M.device media.items)
         (map M.device result.0.items) run) }
     ensures some { result.1 ≡ None → RanSome plan.now (map M.device media.items)
@@ -25,7 +28,10 @@ fn run_disk<M: Medium>(alloc: Global, plan: &DiskPlan, media: Vec<M>) -> (Vec<M>
     ensures back { length result.0.items ≡ length media.items }
 {
     let drive = Drive::make(media, plan.cached, plan.protected, plan.physical);
-    run_desk(alloc, plan, drive)
+    match Disk::make(alloc, drive, 1) {
+        Ok(disk) => run_desk(alloc, plan, disk, None),
+        Err(NotMade { drive }) => (drive.into_media(), None),
+    }
 }
 
 // Cuts so many media off the front. The error is want of memory, and nothing has then changed.
@@ -64,6 +70,7 @@ pub fn run_disks<M: Medium>(
     mut media: Vec<M>,
 ) -> (Vec<M>, Option<Vec<Run>>)
     requires disks { AreDisks plans.now }
+    requires whole { AreWhole plans.now }
     requires lines { planned_lines plans.now ≤ most_script_bytes }
     requires made { AreMade (wanted_of plans.now) (map M.device media.items) }
     ensures over { IfSome result.1 (λ runs. RanAll plans.now (map M.device media.items)

@@ -1,8 +1,7 @@
-ghost use Rattle.std.specs.Prelude.{◌≡◌, ◌≤◌, ◌&&◌, [], Some, All, IsSome, length, reverse, vec_capacity};
+ghost use Rattle.std.specs.Prelude.{◌≡◌, ◌≤◌, ◌&&◌, [], Some, All, length, reverse, vec_capacity};
 ghost use Rattle.history.specs.Tokens.{token_count, is_read};
-ghost use Rattle.shared_disk.specs.Slots.{buffer_in};
 ghost use Rattle.script_text.specs.Report.{is_success, tagged_read, tagged_reads};
-ghost use Rattle.stack_run.specs.EndLines.{line_told, lines_told};
+ghost use Rattle.stack_run.specs.EndLines.{IsCollected, line_told, lines_told};
 
 use efi_status::Status;
 use history::{Entry, History, Kind};
@@ -55,9 +54,10 @@ fn is_success(status: Status) -> bool
     }
 }
 
-// How a token ended that was collected: a read with a tag gives its bytes where it succeeded.
+// How a token ended that was collected: a read with a tag gives its bytes where it succeeded. One whose buffer another caller
+// has is of a probe, and succeeded.
 fn line_of(tagged: bool, slot: Slot) -> TokenLine
-    requires { IsSome (buffer_in slot.buffer) }
+    requires { IsCollected slot.buffer }
     ensures { result ≡ line_told tagged slot.buffer }
 {
     let Slot { buffer, .. } = slot;
@@ -71,7 +71,10 @@ fn line_of(tagged: bool, slot: Slot) -> TokenLine
             TokenLine { status, given }
         }
         Buffer::Awaited => unreachable!(),
-        Buffer::Gone => unreachable!(),
+        Buffer::Gone => TokenLine {
+            status: Status::Success,
+            given: None,
+        },
     }
 }
 
@@ -80,7 +83,7 @@ pub fn fill_lines(history: &History, slots: Vec<Slot>, ends: &mut Vec<TokenLine>
     requires empty { ends.old.items ≡ [] }
     requires room { token_count history.now.entries ≤ vec_capacity ends.old }
     requires counted { length slots.items ≡ token_count history.now.entries }
-    requires kept { All (λ slot. IsSome (buffer_in slot.buffer)) slots.items }
+    requires collected { All (λ slot. IsCollected slot.buffer) slots.items }
     ensures { ends.new.items ≡ lines_told (tagged_reads (reverse history.now.entries)) slots.items }
 {
     let mut slots = slots.into_iter();

@@ -1,4 +1,4 @@
-ghost use Rattle.std.specs.Prelude.{◌≡◌, ℕ, ◌*◌, ◌^◌, ◌<◌, ◌≤◌, ◌⊎◌, List, ◌∷◌, [], length, string_bytes, replicate, map, Ok, Some, IfOk};
+ghost use Rattle.std.specs.Prelude.{◌≡◌, ℕ, ◌*◌, ◌^◌, ◌<◌, ◌≤◌, ◌⊎◌, List, ◌∷◌, [], length, string_bytes, replicate, map, Ok, None, Some, IfOk};
 ghost use Rattle.crc_table.specs.Crc32.{crc32_of};
 ghost use Rattle.drive.specs.Drives.{FitTheDrive, IsFreshDrive};
 ghost use Rattle.disk_core.specs.State.{setup_of};
@@ -13,6 +13,7 @@ ghost use Rattle.script_text.specs.Whole.{script_of};
 ghost use Rattle.stack_run.specs.Generated.{IsGeneratedScript};
 ghost use Rattle.stack_run.specs.GeneratedRun.{IsOneDisk, zero_setup, IsSumOf, IsSummed, SummaryCut};
 ghost use Rattle.stack_run.specs.Program.{refusal_text, WritesLine};
+ghost use Rattle.stack_run.specs.Starting.{part_line, AreWhole};
 ghost use Rattle.stack_run.specs.Summary.{summary_text};
 
 use crate::desk_run::{Run, run_desk};
@@ -21,6 +22,7 @@ use crate::refusal::Refusal;
 use crate::refusing::refuse;
 use crate::summary::summary_of;
 use crc_table::crc32;
+use disk_core::Disk;
 use drive::Drive;
 use image_store::{PutFault, Sink};
 use medium::{Medium, MemMedium};
@@ -36,6 +38,7 @@ fn read_generated(alloc: Global, text: &[u8]) -> Result<Script, AllocError>
     ensures says { IfOk result (λ script. script_of text.now ≡ Ok script.disks) }
     ensures one { IfOk result (λ script. IsOneDisk script.disks) }
     ensures fit { IfOk result (λ script. AreDisks script.disks) }
+    ensures whole { IfOk result (λ script. AreWhole script.disks) }
     ensures lines { IfOk result (λ script. planned_lines script.disks ≤ most_script_bytes) }
 {
     match read_script(alloc, text) {
@@ -88,13 +91,18 @@ fn summed_run(alloc: Global, plan: &DiskPlan, blocks: u64) -> Result<String, All
     requires disk { IsDiskPlan plan.now }
     requires lines { disk_lines plan.now ≤ most_script_bytes }
     requires alone { plan.now.spares ≡ [] }
+    requires whole { part_line plan.now ≡ None }
     requires some { 0 < blocks }
     requires few { blocks < 2 ^ 32 }
     ensures { IfOk result (λ text. IsSumOf plan.now (zero_setup blocks)
         (λ all. string_bytes text ≡ all)) }
 {
     let drive = zero_drive(alloc, blocks)?;
-    let (mut media, run) = run_desk(alloc, plan, drive);
+    let disk = match Disk::make(alloc, drive, 1) {
+        Ok(disk) => disk,
+        Err(_) => return Err(AllocError),
+    };
+    let (mut media, run) = run_desk(alloc, plan, disk, None);
     match run {
         Some(run) => {
             let text = sum_of(alloc, media.remove(0), &run)?;

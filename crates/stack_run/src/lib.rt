@@ -9,6 +9,7 @@ mod exit;
 mod generated_run;
 mod generator;
 mod listing;
+mod parts;
 mod probe_run;
 mod probing;
 mod program;

@@ -6,6 +6,7 @@ ghost use Rattle.script_text.specs.Fitting.{AreDisks, FitTogether};
 ghost use Rattle.script_text.specs.Limits.{most_script_bytes};
 ghost use Rattle.script_text.specs.Planned.{planned_lines};
 ghost use Rattle.stack_run.specs.Serving.{Served, LacksImage};
+ghost use Rattle.stack_run.specs.Starting.{AreWhole};
 ghost use Rattle.stack_run.specs.GeneratedRun.{Generates};
 ghost use Rattle.stack_run.specs.Listing.{ListsImage};
 ghost use Rattle.stack_run.specs.Words.{row_of, IfGenerated, IfProbe};
@@ -29,6 +30,7 @@ fn run_script<I: Images, O: Sink>(alloc: Global, script: &Script, images: &mut I
     requires free { (name : List ℕ) → IsFree (I.at images.old name).place }
     requires lines { planned_lines script.now.disks ≤ most_script_bytes }
     requires fit { AreDisks script.now.disks }
+    requires whole { AreWhole script.now.disks }
     requires together { FitTogether script.now.disks }
     ensures done { result ≡ 0 → Served script.now.disks (I.at images.old) (I.at images.new)
         (Appends (O.outlet out.old).wrote (O.outlet out.new).wrote) }

@@ -4,12 +4,12 @@ ghost use Rattle.script_text.specs.Fitting.{AreDisks, FitTogether};
 ghost use Rattle.script_text.specs.Limits.{most_script_bytes};
 ghost use Rattle.script_text.specs.Planned.{planned_lines};
 ghost use Rattle.stack_run.specs.Reading.{FedBy, IsScript, SaysWhy};
-ghost use Rattle.stack_run.specs.Said.{first_part_in, first_part};
+ghost use Rattle.stack_run.specs.Said.{first_part};
+ghost use Rattle.stack_run.specs.Starting.{AreWhole};
 
+use crate::parts::first_missing;
 use image_store::{Failed, Source};
-use script_text::{
-    ClientPlan, DiskPlan, Reason, SCRIPT_BYTES, Script, ScriptReader, ScriptRefused,
-};
+use script_text::{DiskPlan, Reason, SCRIPT_BYTES, Script, ScriptReader, ScriptRefused};
 use std::alloc::Global;
 
 /// Why a source could not be read (own profile).
@@ -77,23 +77,11 @@ pub fn feed_source<R: Source>(alloc: Global, source: &mut R) -> Result<ScriptRea
 }
 
 // The line of the first client on a partition. None where each is on the whole of its disk.
-fn first_part_in(clients: &[ClientPlan]) -> Option<u64>
-    ensures { result ≡ first_part_in clients.now }
-{
-    for client in clients {
-        if client.part.is_some() {
-            return Some(client.line);
-        }
-    }
-    None
-}
-
-// So of all disks.
 fn first_part(disks: &[DiskPlan]) -> Option<u64>
     ensures { result ≡ first_part disks.now }
 {
     for disk in disks {
-        if let Some(line) = first_part_in(disk.clients.as_slice()) {
+        if let Some(line) = first_missing(&[], disk.size, disk.clients.as_slice()) {
             return Some(line);
         }
     }
@@ -105,6 +93,7 @@ pub fn read_source<R: Source>(alloc: Global, source: &mut R) -> Result<Script, N
     ensures script { IfOk result (λ script.
         IsScript (R.left source.old) (R.left source.new) script.disks) }
     ensures fit { IfOk result (λ script. AreDisks script.disks) }
+    ensures whole { IfOk result (λ script. AreWhole script.disks) }
     ensures together { IfOk result (λ script. FitTogether script.disks) }
     ensures lines { IfOk result (λ script. planned_lines script.disks ≤ most_script_bytes) }
     ensures refused { IfErr result (SaysWhy (R.left source.old) (R.left source.new)) }

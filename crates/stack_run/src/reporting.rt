@@ -2,12 +2,15 @@ ghost use Rattle.std.specs.Prelude.{◌≡◌, ℕ, ◌*◌, ◌+◌, ◌^◌, �
 ghost use Rattle.std.specs.List.{AllByRecursion};
 ghost use Rattle.image_store.specs.Edge.{HasCauseOf, PutsText};
 ghost use Rattle.stack_run.specs.Media.{media_names};
-ghost use Rattle.stack_run.specs.Serving.{kept_media};
+ghost use Rattle.stack_run.specs.Serving.{kept_media, table_lines};
 ghost use Rattle.stack_run.specs.Reporting.{name_at, IsReportable, AreReportable, TellsDisk, TellsDisks};
 
 use crate::desk_run::Run;
 use image_store::Sink;
-use script_text::{DiskPlan, KeptMedium, Name, ReportFault, report_body, report_head};
+use partition_tables::Table;
+use script_text::{
+    DiskPlan, KeptMedium, Name, ReportFault, report_body, report_head, report_table,
+};
 use std::alloc::{AllocError, Global};
 
 // The name of the medium at a place, from 0.
@@ -54,6 +57,23 @@ fn kept_of(alloc: Global, plan: &DiskPlan, blocks: &[u64]) -> Result<Vec<KeptMed
     Ok(media)
 }
 
+// Writes the lines of a table, where a disk was probed.
+fn write_table<O: Sink>(
+    alloc: Global,
+    table: &Option<Table>,
+    out: &mut O,
+) -> Result<(), ReportFault>
+    ensures text { PutsText (O.outlet out.old).wrote (O.outlet out.new).wrote result
+        (table_lines table.now) }
+    ensures cause { HasCauseOf ReportFault.Failed (O.outlet out.old).faults
+        (O.outlet out.new).faults result }
+{
+    match table {
+        None => Ok(()),
+        Some(table) => report_table(alloc, table, out),
+    }
+}
+
 // Writes the report of a disk with this number.
 fn write_report<O: Sink>(
     alloc: Global,
@@ -74,6 +94,10 @@ fn write_report<O: Sink>(
     };
     let first = blocks[0];
     match report_head(alloc, number, plan, first, out) {
+        Ok(()) => {}
+        Err(fault) => return Err(fault),
+    }
+    match write_table(alloc, &run.table, out) {
         Ok(()) => {}
         Err(fault) => return Err(fault),
     }

@@ -7,6 +7,7 @@ ghost use Rattle.script_text.specs.Planned.{planned_lines};
 ghost use Rattle.stack_run.specs.Media.{wanted_of, ChangesAmong};
 ghost use Rattle.stack_run.specs.Serving.{Served, LacksImage};
 ghost use Rattle.stack_run.specs.Stages.{AllRan, RunStops};
+ghost use Rattle.stack_run.specs.Starting.{AreWhole};
 ghost use Rattle.stack_run.specs.Program.{ServingFails, IsImageStop};
 
 use crate::desk_run::Run;
@@ -41,6 +42,7 @@ fn run_images<I: Images>(
 ) -> Result<Vec<Run>, Stopped>
     requires wanted { wanted.now ≡ wanted_of plans.now }
     requires disks { AreDisks plans.now }
+    requires whole { AreWhole plans.now }
     requires lines { planned_lines plans.now ≤ most_script_bytes }
     requires together { FitTogether plans.now }
     requires free { (name : List ℕ) → IsFree (I.at images.old name).place }
@@ -94,6 +96,7 @@ pub fn serve<I: Images, O: Sink>(
 ) -> Result<(), Unserved>
     requires wanted { wanted.now ≡ wanted_of plans.now }
     requires disks { AreDisks plans.now }
+    requires whole { AreWhole plans.now }
     requires lines { planned_lines plans.now ≤ most_script_bytes }
     requires together { FitTogether plans.now }
     requires free { (name : List ℕ) → IsFree (I.at images.old name).place }

@@ -1,4 +1,4 @@
-use Rattle.std.proofs.Common.{◌≡◌, ◌+◌, ◌++◌, ◌∷◌, [], IfSome, Some, map, take, drop, length, vec_len, refl, sym, ◌∙◌, ap, subst, arith, length-take, length-append}
+use Rattle.std.proofs.Common.{◌≡◌, ◌+◌, ◌++◌, [], IfSome, map, take, drop, length, sym, ◌∙◌, ap, subst, arith, length-take, length-append}
 use Rattle.std.proofs.lemmas.List.{length-map, map-append}
 use Rattle.std.proofs.Math.ListN.{drop_of_length-le}
 use Rattle.std.specs.List.{AllByRecursion}
@@ -8,13 +8,14 @@ use Rattle.stack_run.specs.Runs.{RanDisk, RunsStop}
 use Rattle.stack_run.proofs.ChainLemmas.{drop-next, take-next}
 use Rattle.stack_run.proofs.ClientLemmas.{lines-next}
 use Rattle.stack_run.proofs.DiskLoops.{goes-first, goes-next, stops-first, stops-here, stops-next, enough, first-made, rest-made, last-made, goes-last, all-from-rec, disk-next, cut-of, own-of, rest-of, cut-count}
+use Rattle.stack_run.proofs.StartLemmas.{whole-at, whole-drop}
 use Rattle.stack_run.proofs.disk_runs.run_disks.Goals as goal
 
 pub returns-in-Err-clause-some : goal.returns-in-Err-clause-some
-returns-in-Err-clause-some g c none = stops-first c.args.plans.now _ c.requires.made
+returns-in-Err-clause-some g c none = stops-first c.args.plans.now _ c.requires.whole c.requires.made
 
 pub returns-in-Err-with_capacity-clause-some : goal.returns-in-Err-with_capacity-clause-some
-returns-in-Err-with_capacity-clause-some g c none = stops-first c.args.plans.now _ c.requires.made
+returns-in-Err-with_capacity-clause-some g c none = stops-first c.args.plans.now _ c.requires.whole c.requires.made
 
 pub loop-plan-init : goal.loop-plan-init
 loop-plan-init g c = record {
@@ -36,7 +37,7 @@ returns-in-Err-cut_front-clause-some g c none =
     let same : c.add_back.new.all.items ≡ c.loop-plan.done.items ++ c.loop-plan.media.items = c.add_back.ensures.items ∙ ap (λ l. c.loop-plan.done.items ++ l) c.in-Err-cut_front.ensures.same in
     subst (RunsStop c.args.plans.now (map (λ m. g.M.Medium.device m) c.args.media.items)) (sym (ap (map (λ m. g.M.Medium.device m)) same ∙ map-append (λ m. g.M.Medium.device m) c.loop-plan.done.items c.loop-plan.media.items))
     (stops-here c.args.plans.now (take c.loop-plan.plan-index c.args.plans.now) (drop c.loop-plan.plan-index c.args.plans.now) (drop (c.loop-plan.plan-index + 1) c.args.plans.now) c.plan-item.result _ (map (λ m. g.M.Medium.device m) c.loop-plan.media.items) _ c.loop-plan.runs.items
-    c.loop-plan.invariant.goes (drop-next c.args.plans.now c.loop-plan.plan-index c.plan-item.result c.loop-plan-test.true c.plan-item.is) c.loop-plan.invariant.made)
+    c.loop-plan.invariant.goes (drop-next c.args.plans.now c.loop-plan.plan-index c.plan-item.result c.loop-plan-test.true c.plan-item.is) (whole-drop c.args.plans.now c.loop-plan.plan-index c.requires.whole) c.loop-plan.invariant.made)
 
 pub returns-in-Err-cut_front-clause-back : goal.returns-in-Err-cut_front-clause-back
 returns-in-Err-cut_front-clause-back g c =
@@ -47,6 +48,9 @@ run_disk-own-requires-clause-disk g c = disk-next c.args.plans.now c.loop-plan.p
 
 pub run_disk-own-requires-clause-lines : goal.run_disk-own-requires-clause-lines
 run_disk-own-requires-clause-lines g c = lines-next c.args.plans.now c.loop-plan.plan-index c.plan-item.result _ c.requires.lines c.loop-plan-test.true c.plan-item.is
+
+pub run_disk-own-requires-clause-whole : goal.run_disk-own-requires-clause-whole
+run_disk-own-requires-clause-whole g c = whole-at c.args.plans.now c.loop-plan.plan-index c.plan-item.result c.requires.whole c.loop-plan-test.true c.plan-item.is
 
 pub run_disk-own-requires-clause-count : goal.run_disk-own-requires-clause-count
 run_disk-own-requires-clause-count g c =
@@ -98,6 +102,7 @@ returns-in-None-clause-some g c none =
     subst (RunsStop c.args.plans.now (map (λ m. g.M.Medium.device m) c.args.media.items)) (sym all)
     (stops-next c.args.plans.now (take c.loop-plan.plan-index c.args.plans.now) (drop c.loop-plan.plan-index c.args.plans.now) (drop (c.loop-plan.plan-index + 1) c.args.plans.now) c.plan-item.result _ _ _ _ _ _ c.loop-plan.runs.items
     c.loop-plan.invariant.goes (drop-next c.args.plans.now c.loop-plan.plan-index c.plan-item.result c.loop-plan-test.true c.plan-item.is) cut (c.run_disk-own.ensures.some c.in-None.is)
+    (whole-drop c.args.plans.now (c.loop-plan.plan-index + 1) c.requires.whole)
     (subst (AreMade (wanted_of (drop (c.loop-plan.plan-index + 1) c.args.plans.now))) (sym left) (subst (λ k. AreMade (wanted_of (drop (c.loop-plan.plan-index + 1) c.args.plans.now)) (drop k (map (λ m. g.M.Medium.device m) c.loop-plan.media.items))) (sym n) made)))
 
 pub returns-in-None-clause-back : goal.returns-in-None-clause-back

@@ -1,10 +1,9 @@
-use Rattle.std.proofs.Common.{◌≡◌, ℕ, suc, ◌+◌, ◌<◌, ◌++◌, ◌∷◌, [], Some, None, IsSome, length, reverse, take, drop, get_or, slice_get, vec_len, refl, sym, ◌∙◌, ap, subst, arith}
+use Rattle.std.proofs.Common.{◌≡◌, suc, ◌<◌, ◌++◌, ◌∷◌, [], Some, IsSome, length, reverse, drop, get_or, slice_get, vec_len, refl, sym, ◌∙◌, ap, subst, arith}
 use Rattle.std.proofs.lemmas.Bool.{false≢true}
 use Rattle.std.specs.Vec.Iter.{into_iter_items}
 use Rattle.shared_disk.specs.declared.books.Slot.{Slot}
-use Rattle.shared_disk.specs.Slots.{buffer_in}
-use Rattle.script_text.specs.Report.{tagged_read, tagged_reads}
-use Rattle.stack_run.specs.EndLines.{lines_told}
+use Rattle.script_text.specs.Report.{tagged_reads}
+use Rattle.stack_run.specs.EndLines.{IsCollected, lines_told}
 use Rattle.stack_run.proofs.RanLemmas.{all-at}
 use Rattle.stack_run.proofs.EndLines.{step-told, skip-told, tokens-left, next-slot}
 use Rattle.stack_run.proofs.end_lines.fill_lines.Goals.{in-Some+in-Some-next, in_default}
@@ -25,7 +24,7 @@ loop-entry-init c =
 pub line_of-requires : goal.line_of-requires
 line_of-requires c =
     let next : drop (vec_len c.loop-entry.ends) c.args.slots.items ≡ c.in-Some-next.slot ∷ into_iter_items c.next.new.self = sym c.loop-entry.invariant.rest ∙ c.in-Some-next.ensures.items in
-    all-at (λ (slot : Slot). IsSome (buffer_in slot.buffer)) c.args.slots.items (vec_len c.loop-entry.ends) c.in-Some-next.slot c.requires.kept (next-slot c.args.slots.items (vec_len c.loop-entry.ends) c.in-Some-next.slot (into_iter_items c.next.new.self) next).0
+    all-at (λ (slot : Slot). IsCollected slot.buffer) c.args.slots.items (vec_len c.loop-entry.ends) c.in-Some-next.slot c.requires.collected (next-slot c.args.slots.items (vec_len c.loop-entry.ends) c.in-Some-next.slot (into_iter_items c.next.new.self) next).0
 
 pub unreachable-requires : goal.unreachable-requires
 unreachable-requires c =
